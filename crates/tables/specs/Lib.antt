@@ -1,0 +1,5 @@
+pub mod Limits
+pub mod Name
+pub mod Ty
+pub mod Signature
+pub mod Tables
