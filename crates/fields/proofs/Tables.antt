@@ -64,34 +64,32 @@ module _ {A : Type 0} (f : List A → ℕ → Parsed A) where
       let l : length (xs ++ (x ∷ [])) ≡ length xs + 1 = length-append xs (x ∷ []) in
       omega arith)
 
-  -- what a loop over the entries keeps: those read so far, and what is left to read
-  pub record Filling (n at i p : ℕ) : Type 0 where
-    pub xs : List A
+  -- what a loop over the entries keeps: those read so far, xs, and what is left to read
+  pub record Filling (n at i p : ℕ) (xs : List A) : Type 0 where
     pub many : length xs ≡ i
     pub low : i ≤ n
     pub rest : tableFrom f [] n at ≡ tableFrom f xs (n - i) p
 
-  pub filling-start : (n at : ℕ) → Filling n at 0 at
-  filling-start n at = record { xs = []; many = refl; low = omega arith; rest = (let e : n - 0 ≡ n = omega arith in rw e refl) }
+  pub filling-start : (n at : ℕ) → Filling n at 0 at []
+  filling-start n at = record { many = refl; low = omega arith; rest = (let e : n - 0 ≡ n = omega arith in rw e refl) }
 
-  module _ {n at i p : ℕ} (inv : Filling n at i p) where
-    pub filling-stop : {k : ℕ} → i < n → f (inv .xs) p ≡ fault k → tableFrom f [] n at ≡ fault k
-    filling-stop lt e = inv .rest ∙ table-stop (inv .xs) (n - i) (omega arith) e
+  module _ {n at i p : ℕ} {xs : List A} (inv : Filling n at i p xs) where
+    pub filling-stop : {k : ℕ} → i < n → f xs p ≡ fault k → tableFrom f [] n at ≡ fault k
+    filling-stop lt e = inv .rest ∙ table-stop xs (n - i) (omega arith) e
 
-    pub filling-done : n ≤ i → (tableFrom f [] n at ≡ ok (inv .xs) p) × (length (inv .xs) ≡ n)
+    pub filling-done : n ≤ i → (tableFrom f [] n at ≡ ok xs p) × (length xs ≡ n)
     filling-done le =
         let l = inv .low in
         let m = inv .many in
-        (inv .rest ∙ table-done (inv .xs) (n - i) (omega arith), omega arith)
+        (inv .rest ∙ table-done xs (n - i) (omega arith), omega arith)
 
-    pub filling-next : {x : A} {q : ℕ} → i < n → f (inv .xs) p ≡ ok x q → Filling n at (i + 1) q
+    pub filling-next : {x : A} {q : ℕ} → i < n → f xs p ≡ ok x q → Filling n at (i + 1) q (xs ++ (x ∷ []))
     filling-next {x} {q} lt e =
         let m = inv .many in
         record {
-          xs = inv .xs ++ (x ∷ []);
-          many = length-append (inv .xs) (x ∷ []) ∙ omega arith;
+          many = length-append xs (x ∷ []) ∙ omega arith;
           low = omega arith;
-          rest = inv .rest ∙ table-next (inv .xs) (n - i) (omega arith) e ∙ ap (λ k. tableFrom f (inv .xs ++ (x ∷ [])) k q) (omega arith);
+          rest = inv .rest ∙ table-next xs (n - i) (omega arith) e ∙ ap (λ k. tableFrom f (xs ++ (x ∷ [])) k q) (omega arith);
         }
 
   -- the table's head

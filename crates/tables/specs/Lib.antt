@@ -3,3 +3,4 @@ pub mod Name
 pub mod Ty
 pub mod Signature
 pub mod Tables
+pub mod Answer

@@ -27,14 +27,18 @@ shapeWidth = 0 ∷ 0 ∷ 2 ∷ 0 ∷ 0 ∷ []
 abbrev pub ofLimit : ℕ → ℕ → ℕ → ℕ
 ofLimit names i kind = cond (eqb kind 0) 1 (cond (ltb kind 3) names i)
 
+-- what follows the kind of the type after those of ts
+unfoldable pub partsAt : ℕ → List ℕ → List Ty → ℕ → ℕ → Parsed Ty
+partsAt names s ts kind p =
+    bind (fieldAt 4 (ofLimit names (length ts) kind) (getD ofWidth kind 0) s p) (λ of q.
+    bind (fieldAt 4 65536 (getD shapeWidth kind 0) s q) (λ shape r.
+    ok (record { kind = kind; of = of; shape = shape }) r))
+
 -- the type after those of ts
 unfoldable pub typeAt : ℕ → List ℕ → List Ty → ℕ → Parsed Ty
 typeAt names s ts at =
     bind (fieldAt 4 5 1 s at) (λ kind p.
-    ensure (ltb 0 (length ts) || eqb kind 0) 4
-    (bind (fieldAt 4 (ofLimit names (length ts) kind) (getD ofWidth kind 0) s p) (λ of q.
-    bind (fieldAt 4 65536 (getD shapeWidth kind 0) s q) (λ shape r.
-    ok (record { kind = kind; of = of; shape = shape }) r))))
+    ensure (ltb 0 (length ts) || eqb kind 0) 4 (partsAt names s ts kind p))
 
 unfoldable pub typesAt : Limits → ℕ → List ℕ → ℕ → Parsed (List Ty)
 typesAt L names s at = tableAt 4 1 (L .types + 1) (typeAt names s) s at

@@ -1,0 +1,4 @@
+-- What the proofs of several functions and crates use.
+pub mod Placing
+pub mod Names
+pub mod Types

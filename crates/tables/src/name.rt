@@ -1,0 +1,158 @@
+// The table of names.
+ghost use mathlib.Core.Path.{_≡_};
+ghost use Prim.Native.Nat.{ℕ, _+_, _-_, _≤_, _<_};
+ghost use mathlib.Core.Bool.{cond, _&&_};
+ghost use mathlib.Core.List.{List, map, []};
+ghost use lib.ListN.{length, getD, take};
+ghost use lib.Dec.{leb};
+ghost use Rattle.fields.specs.Parsed.{ok};
+ghost use Rattle.fields.specs.Table.{member, tableFrom};
+ghost use Rattle.fields.specs.Answer.{tableOf};
+ghost use Rattle.tables.specs.Limits.{version1};
+ghost use Rattle.tables.specs.Name.{nameOf, sameBytes, belowBytes, thisName, nameAt, namesAt};
+ghost use Rattle.tables.specs.Answer.{Within, Listed};
+
+// Whether two names are the same.
+fn same_name(s: &[u8], a: usize, b: usize) -> bool
+    requires { ⌜ (a < length (now s)) × (b < length (now s)) ⌝ }
+    ensures { λ r. ⌜ r ≡ sameBytes (nameOf (now (s .entry)) a) (nameOf (now (s .entry)) b) ⌝ }
+{
+    let n = fields::peek(s, a);
+    let m = fields::peek(s, b);
+    if n != m {
+        return false;
+    }
+    let mut k = 0;
+    while k < n {
+        let x = fields::peek(s, a + 1 + k);
+        let y = fields::peek(s, b + 1 + k);
+        if x != y {
+            return false;
+        }
+        k += 1;
+    }
+    true
+}
+
+// Whether the name at a is below the name at b.
+pub fn below_name(s: &[u8], a: usize, b: usize) -> bool
+    requires { ⌜ (a < length (now s)) × (b < length (now s)) ⌝ }
+    ensures { λ r. ⌜ r ≡ belowBytes (nameOf (now (s .entry)) a) (nameOf (now (s .entry)) b) ⌝ }
+{
+    let n = fields::peek(s, a);
+    let m = fields::peek(s, b);
+    let mut k = 0;
+    while k < m {
+        if k == n {
+            return true;
+        }
+        let x = fields::peek(s, a + 1 + k);
+        let y = fields::peek(s, b + 1 + k);
+        if x != y {
+            return x < y;
+        }
+        k += 1;
+    }
+    false
+}
+
+// Whether the name at p is among the first i.
+fn repeated_name(s: &[u8], starts: &[usize], i: usize, p: usize) -> bool
+    requires { ⌜ (i ≤ length (now starts)) × (p < length (now s)) × Within (now s) (now starts) i ⌝ }
+    ensures { λ r. ⌜ r ≡ member sameBytes (map (nameOf (now (s .entry))) (take i (now (starts .entry)))) (nameOf (now (s .entry)) p) ⌝ }
+{
+    let mut j = 0;
+    while j < i {
+        let q = starts[j];
+        if same_name(s, q, p) {
+            return true;
+        }
+        j += 1;
+    }
+    false
+}
+
+// The length of the name at p, or 0 where none stands.
+fn name_length(s: &[u8], p: usize) -> usize
+    ensures { λ r. ⌜ r ≡ cond (leb (getD (now (s .entry)) p 0) 64 && leb (getD (now (s .entry)) p 0 + 1) (length (now (s .entry)) - p)) (getD (now (s .entry)) p 0) 0 ⌝ }
+{
+    let n = fields::peek(s, p);
+    if 64 < n {
+        return 0;
+    }
+    if fields::room(s, p) < n + 1 {
+        return 0;
+    }
+    n
+}
+
+// So many names, all different, and their positions.
+fn fill_names(s: &[u8], starts: &mut [usize], n: usize, at: usize) -> fields::Number
+    requires { ⌜ n ≤ length (now starts) ⌝ }
+    ensures { λ r. ⌜ r ≡ tableOf (tableFrom (nameAt version1 (now (s .entry))) [] n at) ⌝ }
+    ensures starts { λ r. ⌜ ((ns : List (List ℕ)) (next : ℕ) → tableFrom (nameAt version1 (now (s .entry))) [] n at ≡ ok ns next
+        → Listed (nameOf (now (s .entry))) (now (s .entry)) (now (starts .exit)) ns) ⌝ }
+{
+    let mut i = 0;
+    let mut p = at;
+    while i < n {
+        let len = name_length(s, p);
+        if len == 0 {
+            return fields::Number::Wrong(3);
+        }
+        if repeated_name(s, &starts[..], i, p) {
+            return fields::Number::Wrong(3);
+        }
+        starts[i] = p;
+        p += len + 1;
+        i += 1;
+    }
+    fields::Number::Is(n, p)
+}
+
+// Whether the name at p is `this`.
+fn is_this(s: &[u8], p: usize) -> bool
+    requires { ⌜ p < length (now s) ⌝ }
+    ensures { λ r. ⌜ r ≡ sameBytes (nameOf (now (s .entry)) p) thisName ⌝ }
+{
+    if fields::peek(s, p) != 4 {
+        return false;
+    }
+    if fields::peek(s, p + 1) != 116 {
+        return false;
+    }
+    if fields::peek(s, p + 2) != 104 {
+        return false;
+    }
+    if fields::peek(s, p + 3) != 105 {
+        return false;
+    }
+    fields::peek(s, p + 4) == 115
+}
+
+// The table of names: its count and the position after it. The names' positions go to `starts`.
+pub fn read_names(s: &[u8], starts: &mut [usize], at: usize) -> fields::Number
+    requires { ⌜ 512 ≤ length (now starts) ⌝ }
+    ensures { λ r. ⌜ r ≡ tableOf (namesAt version1 (now (s .entry)) at) ⌝ }
+    ensures starts { λ r. ⌜ ((ns : List (List ℕ)) (next : ℕ) → namesAt version1 (now (s .entry)) at ≡ ok ns next
+        → Listed (nameOf (now (s .entry))) (now (s .entry)) (now (starts .exit)) ns) ⌝ }
+{
+    match fields::field(s, 3, 513, 2, at) {
+        fields::Number::Wrong(f) => fields::Number::Wrong(f),
+        fields::Number::Is(n, first) => {
+            if n == 0 {
+                return fields::Number::Wrong(3);
+            }
+            match fill_names(s, starts, n, first) {
+                fields::Number::Wrong(f) => fields::Number::Wrong(f),
+                fields::Number::Is(_, next) => {
+                    if is_this(s, first) {
+                        fields::Number::Is(n, next)
+                    } else {
+                        fields::Number::Wrong(3)
+                    }
+                }
+            }
+        }
+    }
+}

@@ -1,0 +1,140 @@
+// The table of types.
+ghost use mathlib.Core.Path.{_≡_};
+ghost use Prim.Native.Nat.{ℕ, _+_, _-_, _≤_, _<_};
+ghost use mathlib.Core.Bool.{cond, _||_};
+ghost use mathlib.Core.List.{List, map, []};
+ghost use lib.ListN.{length, getD, take};
+ghost use lib.Dec.{ltb, eqb};
+ghost use Rattle.fields.specs.Parsed.{ok};
+ghost use Rattle.fields.specs.Table.{tableFrom};
+ghost use Rattle.fields.specs.Answer.{tableOf};
+ghost use Rattle.tables.specs.Limits.{version1};
+ghost use Rattle.tables.specs.Ty.{Ty, ofLimit, partsAt, typeAt, typesAt, typeIn, genericFlags};
+ghost use Rattle.tables.specs.Answer.{typeOf, Listed};
+
+// By kind, as in specs/Ty.antt.
+const OF_WIDTH: [u8; 5] = [0, 2, 2, 2, 2];
+
+const SHAPE_WIDTH: [u8; 5] = [0, 0, 2, 0, 0];
+
+// A type's kind, its name or lower type, and the position after it, or the fault's number.
+pub enum TypeRead {
+    OneType(usize, usize, usize),
+    NoType(u8),
+}
+
+fn of_limit(names: usize, i: usize, kind: usize) -> usize
+    ensures { λ r. ⌜ r ≡ ofLimit names i kind ⌝ }
+{
+    if kind == 0 {
+        return 1;
+    }
+    if kind < 3 {
+        return names;
+    }
+    i
+}
+
+// Type 0 is plain.
+fn kind_ok(i: usize, kind: usize) -> bool
+    ensures { λ r. ⌜ r ≡ (ltb 0 i || eqb kind 0) ⌝ }
+{
+    if 0 < i {
+        return true;
+    }
+    kind == 0
+}
+
+// Whether a type is generic, perhaps behind pointers, by the flags of the lower types.
+fn generic_flag(flags: &[u8], kind: usize, of: usize) -> u8
+    ensures { λ r. ⌜ r ≡ cond (eqb kind 2) 1 (cond (eqb kind 4) (getD (now (flags .entry)) of 0) 0) ⌝ }
+{
+    if kind == 2 {
+        return 1;
+    }
+    if kind == 4 {
+        if of < flags.len() {
+            return flags[of];
+        }
+    }
+    0
+}
+
+// The name or lower type of a type of a kind, and its shape.
+fn read_parts(s: &[u8], names: usize, i: usize, kind: usize, at: usize) -> TypeRead
+    requires { ⌜ kind < 5 ⌝ }
+    ensures { λ r. ⌜ ((ts : List Ty) → length ts ≡ i → r ≡ typeOf (partsAt names (now (s .entry)) ts kind at)) ⌝ }
+{
+    let of_width = fields::wide(OF_WIDTH[kind]);
+    match fields::field(s, 4, of_limit(names, i, kind), of_width, at) {
+        fields::Number::Wrong(f) => TypeRead::NoType(f),
+        fields::Number::Is(of, p) => {
+            let shape_width = fields::wide(SHAPE_WIDTH[kind]);
+            match fields::field(s, 4, 65536, shape_width, p) {
+                fields::Number::Wrong(f) => TypeRead::NoType(f),
+                fields::Number::Is(_, q) => TypeRead::OneType(kind, of, q),
+            }
+        }
+    }
+}
+
+// Type number i.
+fn read_type(s: &[u8], names: usize, i: usize, at: usize) -> TypeRead
+    ensures { λ r. ⌜ ((ts : List Ty) → length ts ≡ i → r ≡ typeOf (typeAt names (now (s .entry)) ts at)) ⌝ }
+{
+    match fields::field(s, 4, 5, 1, at) {
+        fields::Number::Wrong(f) => TypeRead::NoType(f),
+        fields::Number::Is(kind, p) => {
+            if kind_ok(i, kind) {
+                read_parts(s, names, i, kind, p)
+            } else {
+                TypeRead::NoType(4)
+            }
+        }
+    }
+}
+
+// So many types, their positions and their flags.
+fn fill_types(s: &[u8], starts: &mut [usize], flags: &mut [u8], names: usize, n: usize, at: usize) -> fields::Number
+    requires { ⌜ (n ≤ length (now starts)) × (n ≤ length (now flags)) ⌝ }
+    ensures { λ r. ⌜ r ≡ tableOf (tableFrom (typeAt names (now (s .entry))) [] n at) ⌝ }
+    ensures filled { λ r. ⌜ ((ts : List Ty) (next : ℕ) → tableFrom (typeAt names (now (s .entry))) [] n at ≡ ok ts next
+        → Listed (typeIn (now (s .entry))) (now (s .entry)) (now (starts .exit)) ts × (take (length ts) (now (flags .exit)) ≡ genericFlags [] ts)) ⌝ }
+{
+    let mut i = 0;
+    let mut p = at;
+    while i < n {
+        match read_type(s, names, i, p) {
+            TypeRead::NoType(f) => {
+                return fields::Number::Wrong(f);
+            }
+            TypeRead::OneType(kind, of, next) => {
+                let f = generic_flag(&flags[..], kind, of);
+                flags[i] = f;
+                starts[i] = p;
+                p = next;
+                i += 1;
+            }
+        }
+    }
+    fields::Number::Is(n, p)
+}
+
+// The table of types: its count and the position after it. The types' positions go to `starts`, and to `flags`, for each of them, 1
+// if it is generic, perhaps behind pointers.
+pub fn read_types(s: &[u8], starts: &mut [usize], flags: &mut [u8], names: usize, at: usize) -> fields::Number
+    requires { ⌜ (256 ≤ length (now starts)) × (256 ≤ length (now flags)) ⌝ }
+    ensures { λ r. ⌜ r ≡ tableOf (typesAt version1 names (now (s .entry)) at) ⌝ }
+    ensures filled { λ r. ⌜ ((ts : List Ty) (next : ℕ) → typesAt version1 names (now (s .entry)) at ≡ ok ts next
+        → Listed (typeIn (now (s .entry))) (now (s .entry)) (now (starts .exit)) ts × (take (length ts) (now (flags .exit)) ≡ genericFlags [] ts)) ⌝ }
+{
+    match fields::field(s, 4, 257, 2, at) {
+        fields::Number::Wrong(f) => fields::Number::Wrong(f),
+        fields::Number::Is(n, first) => {
+            if n == 0 {
+                return fields::Number::Wrong(4);
+            }
+            fill_types(s, starts, flags, names, n, first)
+        }
+    }
+}
