@@ -7,9 +7,9 @@ use Prim.Native.Nat.{ℕ, zero, suc, _+_, _-_, _*_, _≤_, _<_}
 use native.Mathlib.Omega.{arith}
 use native.Mathlib.Numerals.{add-one}
 use borrow.Author.Tests.{leb-true, le-leb, lt-leb, eqb-true, eq-eqb, ne-eqb}
-use lib.ListN.{length, getD, take, set, length-append, length-set}
+use lib.ListN.{length, getD, take, set, length-append, length-set, length-map}
 use lib.Seq.{take-suc-set}
-use lib.Dec.{eqb}
+use lib.Dec.{eqb, leb}
 use Rattle.fields.specs.Parsed.{Parsed, ok, fault, bind, ensure}
 use Rattle.fields.specs.Number.{two, fieldAt}
 use Rattle.fields.specs.Table.{manyOf, tableFrom, tableAt, member, entries}
@@ -195,3 +195,59 @@ module _ (s : List ℕ) (w x : ℕ) where
 pub stride-less : (w i : ℕ) → 0 < i → w * i ≡ w + w * (i - 1)
 stride-less w zero lt = absurd (omega arith)
 stride-less w (suc i) lt = let g : suc i - 1 ≡ i = omega arith in rw g (omega arith)
+
+-- two readers of entries that differ only in what they make of them answer alike
+bind-assoc : {A B C : Type 0} (x : Parsed A) (k : A → ℕ → Parsed B) (l : B → ℕ → Parsed C) → bind (bind x k) l ≡ bind x (λ a p. bind (k a p) l)
+unfolding bind
+bind-assoc (ok a p) k l = refl
+bind-assoc (fault n) k l = refl
+
+bind-same : {A B : Type 0} (x : Parsed A) {k l : A → ℕ → Parsed B} → ((a : A) (p : ℕ) → k a p ≡ l a p) → bind x k ≡ bind x l
+unfolding bind
+bind-same (ok a p) e = e a p
+bind-same (fault n) e = refl
+
+bind-ensure : {A B : Type 0} (b : Bool) (n : ℕ) (x : Parsed A) (k : A → ℕ → Parsed B) → bind (ensure b n x) k ≡ ensure b n (bind x k)
+unfolding bind ensure
+bind-ensure true n x k = refl
+bind-ensure false n x k = refl
+
+-- two fields, a test and a record: the record made into another
+pub remade : {A B : Type 0} (h : A → B) (x : Parsed ℕ) (y : ℕ → Parsed ℕ) (b : ℕ → Bool) (n : ℕ) (make : ℕ → ℕ → A)
+    → bind (bind x (λ a p. bind (y p) (λ c q. ensure (b a) n (ok (make a c) q)))) (λ r q. ok (h r) q)
+    ≡ bind x (λ a p. bind (y p) (λ c q. ensure (b a) n (ok (h (make a c)) q)))
+unfolding bind
+remade h x y b n make =
+    bind-assoc x _ _ ∙ bind-same x (λ a p. bind-assoc (y p) _ _ ∙ bind-same (y p) (λ c q. bind-ensure (b a) n (ok (make a c) q) (λ r q. ok (h r) q)))
+
+entry-alike : {A B : Type 0} (h : A → B) (y : Parsed A) (k : A → ℕ → Parsed (List A)) (l : B → ℕ → Parsed (List B))
+    → ((x : A) (q : ℕ) → tableOf (k x q) ≡ tableOf (l (h x) q)) → tableOf (bind y k) ≡ tableOf (bind (bind y (λ x q. ok (h x) q)) l)
+unfolding bind tableOf
+entry-alike h (ok x q) k l e = e x q
+entry-alike h (fault n) k l e = refl
+
+test-alike : {A B : Type 0} (b : Bool) (k : ℕ) (x : Parsed (List A)) (y : Parsed (List B)) → tableOf x ≡ tableOf y → tableOf (ensure b k x) ≡ tableOf (ensure b k y)
+unfolding ensure tableOf
+test-alike true k x y e = e
+test-alike false k x y e = refl
+
+count-alike : {A B : Type 0} (y : Parsed ℕ) (b : ℕ → Bool) (k : ℕ) (f : ℕ → ℕ → Parsed (List A)) (g : ℕ → ℕ → Parsed (List B))
+    → ((n p : ℕ) → tableOf (f n p) ≡ tableOf (g n p)) → tableOf (bind y (λ n p. ensure (b n) k (f n p))) ≡ tableOf (bind y (λ n p. ensure (b n) k (g n p)))
+unfolding bind tableOf
+count-alike (ok n p) b k f g e = test-alike (b n) k (f n p) (g n p) (e n p)
+count-alike (fault n) b k f g e = refl
+
+module _ {A B : Type 0} (h : A → B) (f : List A → ℕ → Parsed A) (g : List B → ℕ → Parsed B)
+    (alike : (xs : List A) (p : ℕ) → bind (f xs p) (λ x q. ok (h x) q) ≡ g (map h xs) p) where
+  from-alike : (xs : List A) (n p : ℕ) → tableOf (tableFrom f xs n p) ≡ tableOf (tableFrom g (map h xs) n p)
+  unfolding tableFrom tableOf
+  from-alike xs zero p = ap (λ k. Is k p) (sym (length-map xs h))
+  from-alike xs (suc n) p =
+      entry-alike h (f xs p) (λ x q. tableFrom f (xs ++ (x ∷ [])) n q) (λ x q. tableFrom g (map h xs ++ (x ∷ [])) n q)
+      (λ x q. from-alike (xs ++ (x ∷ [])) n q ∙ ap (λ l. tableOf (tableFrom g l n q)) (map-append h xs (x ∷ [])))
+      ∙ ap (λ y. tableOf (bind y (λ x q. tableFrom g (map h xs ++ (x ∷ [])) n q))) (alike xs p)
+
+  pub table-alike : (k least limit : ℕ) (s : List ℕ) (at : ℕ) → tableOf (tableAt k least limit f s at) ≡ tableOf (tableAt k least limit g s at)
+  unfolding tableAt
+  table-alike k least limit s at =
+      count-alike (fieldAt k limit 2 s at) (leb least) k (λ n p. tableFrom f [] n p) (λ n p. tableFrom g [] n p) (λ n p. from-alike [] n p)

@@ -2,3 +2,4 @@
 pub mod Placing
 pub mod Names
 pub mod Types
+pub mod Signatures

@@ -1,7 +1,7 @@
 -- Structs, globals and the entry (signature.rs).
 use Prim.Native.Nat.{ℕ, zero, suc, _+_}
 use mathlib.Core.List.{List, [], _∷_, map}
-use mathlib.Core.Bool.{Bool, true, false, cond, not}
+use mathlib.Core.Bool.{Bool, true, false, cond, not, _&&_}
 use lib.ListN.{length, getD}
 use lib.Dec.{ltb, leb, eqb}
 use Rattle.fields.specs.Parsed.{Parsed, ok, bind, ensure}
@@ -57,14 +57,18 @@ rises ns (x ∷ []) name = belowBytes (getD ns (x .name) []) (getD ns name [])
 rises ns (x ∷ y ∷ xs) name = rises ns (y ∷ xs) name
 
 -- Structs: count to 64, rising by name bytes: name, destructor flag, shape (0: none), method count to 32, methods. Fault 5.
+-- what follows a struct's name
+unfoldable pub structRestAt : Limits → ℕ → List ℕ → ℕ → ℕ → Parsed Struct
+structRestAt L names s name p =
+    bind (fieldAt 5 2 1 s p) (λ destructor q.
+    bind (fieldAt 5 65536 2 s q) (λ shape r.
+    bind (tableAt 5 0 (L .methods + 1) (methodAt names s) s r) (λ ms u.
+    ok (record { name = name; destructor = destructor; shape = shape; methods = ms }) u)))
+
 unfoldable pub structAt : Limits → List (List ℕ) → List ℕ → List Struct → ℕ → Parsed Struct
 structAt L ns s ss at =
     bind (fieldAt 5 (length ns) 2 s at) (λ name p.
-    ensure (rises ns ss name) 5
-    (bind (fieldAt 5 2 1 s p) (λ destructor q.
-    bind (fieldAt 5 65536 2 s q) (λ shape r.
-    bind (tableAt 5 0 (L .methods + 1) (methodAt (length ns) s) s r) (λ ms u.
-    ok (record { name = name; destructor = destructor; shape = shape; methods = ms }) u)))))
+    ensure (rises ns ss name) 5 (structRestAt L (length ns) s name p))
 
 unfoldable pub structsAt : Limits → List (List ℕ) → List ℕ → ℕ → Parsed (List Struct)
 structsAt L ns s at = tableAt 5 0 (L .structs + 1) (structAt L ns s) s at
@@ -98,7 +102,23 @@ entryAt L names types s at =
     bind (tableAt 7 0 (L .params + 1) (paramAt names types s) s q) (λ ps r.
     ok (record { receiver = receiver; this = this; params = ps }) r)))
 
+-- A method, a global and a parameter are each a name and a number: what one reader of all three reads. k is the fault, w the
+-- width of the number and limit what it stays below; names differ if distinct.
+pub record Named : Type 0 where
+  pub name : ℕ
+  pub value : ℕ
+
+unfoldable pub namedAt : ℕ → ℕ → ℕ → ℕ → Bool → List ℕ → List Named → ℕ → Parsed Named
+namedAt k names limit w distinct s xs at =
+    bind (fieldAt k names 2 s at) (λ name p.
+    bind (fieldAt k limit w s p) (λ value q.
+    ensure (not (distinct && member eqb (map (λ x. x .name) xs) name)) k
+    (ok (record { name = name; value = value }) q)))
+
 -- the entries that stand at a position
+abbrev pub namedIn : ℕ → List ℕ → ℕ → Named
+namedIn w s at = record { name = two s at; value = numberIn s w (at + 2) }
+
 abbrev pub methodIn : List ℕ → ℕ → Method
 methodIn s at = record { name = two s at; modifier = getD s (at + 2) 0 }
 
