@@ -2,6 +2,9 @@
 use Prim.Native.Nat.{ℕ}
 
 pub record Limits : Type 0 where
+  -- the version byte
+  pub version : ℕ
+  -- bytes in all
   pub size : ℕ
   pub names : ℕ
   pub nameBytes : ℕ
@@ -12,11 +15,13 @@ pub record Limits : Type 0 where
   pub params : ℕ
   pub blockDepth : ℕ
   pub exprDepth : ℕ
+  -- locals at one time, and places in a state
   pub locals : ℕ
   pub places : ℕ
 
 abbrev pub version1 : Limits
 version1 = record {
+  version = 1;
   size = 65536;
   names = 512;
   nameBytes = 64;
