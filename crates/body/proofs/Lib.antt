@@ -1,7 +1,8 @@
 -- What the proofs of several functions and crates use.
 pub mod Standing
 pub mod Shallow
-mod Walking
+pub mod Walking
+pub mod Skipping
+pub mod Statements
 mod Reading
 mod BodyReading
-mod Skipping

@@ -13,8 +13,14 @@ ghost use Rattle.body.specs.StmtNode.{stmtNodeAt};
 ghost use Rattle.body.specs.Stands.{Stands, StandAll, Placed, count};
 ghost use Rattle.body.specs.Depth.{Walkable, WalkableAll};
 ghost use Rattle.body.specs.Answer.{scopeOf, startOf, stmtStartOf, frontOf};
-
-use fields::{field, peek, peek_two, room, two_at, wide, Number, Read};
+use fields::Number;
+use fields::Read;
+use fields::field;
+use fields::peek;
+use fields::peek_two;
+use fields::room;
+use fields::two_at;
+use fields::wide;
 
 // Expressions by tag, 0 to 15, as in specs/Expr.antt.
 const ARG_WIDTH: [u8; 16] = [0, 2, 0, 1, 0, 0, 0, 0, 0, 0, 0, 0, 0, 0, 2, 0];
@@ -460,7 +466,12 @@ pub fn skip(s: &[u8], left: usize, at: usize) -> usize
     ensures { λ r. ⌜ ((e : Expr) (next : ℕ) → Stands e (now (s .entry)) at next → r ≡ next) ⌝ }
 {
     let tag = peek(s, at);
-    let p = skip_many(s, left - 1, wide(FIXED_COUNT[tag]), at + 7 + wide(ARG_WIDTH[tag]));
+    let p = skip_many(
+        s,
+        left - 1,
+        wide(FIXED_COUNT[tag]),
+        at + 7 + wide(ARG_WIDTH[tag]),
+    );
     let width = wide(COUNT_WIDTH[tag]);
     let q = skip_many(s, left - 1, items_at(s, width, p), p + width);
     q + wide(LAST_WIDTH[tag])
