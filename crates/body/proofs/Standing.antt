@@ -43,6 +43,24 @@ unfolding StandAll
 end-all none s at next le g = omega arith
 end-all (more e es) s at next le g = end-all es s (g .0) next (ends e s at (g .0) (g .1)) (g .2)
 
+-- and not before it begins
+mutual
+  unfolding Stands
+
+  pub order : (e : Expr) (s : List ℕ) (p q : ℕ) → Stands e s p q → p + 7 ≤ q
+  order (node h ks xs) s p q g =
+      let a = order-all ks s (p + 7 + getD argWidth (h .tag) 0) (g .0) (g .4) in
+      let b = order-all xs s (g .0 + getD countWidth (h .tag) 0) (g .1) (g .6) in
+      let c = g .7 in
+      omega arith
+
+  pub order-all : (es : Exprs) (s : List ℕ) (p q : ℕ) → StandAll es s p q → p ≤ q
+  order-all none s p q g = omega arith
+  order-all (more e es) s p q g =
+      let a = order e s p (g .0) (g .1) in
+      let b = order-all es s (g .0) q (g .2) in
+      omega arith
+
 -- the head, with the argument that stands before the children
 pub head-stands : (names types : ℕ) (s : List ℕ) (at : ℕ) (h : Head) (p : ℕ) → headAt names types s at ≡ ok h p
     → (getD s at 0 ≡ h .tag) × (four s (at + 1) ≡ h .span) × (two s (at + 5) ≡ h .ty)
