@@ -4,5 +4,6 @@ pub mod Shallow
 pub mod Walking
 pub mod Skipping
 pub mod Statements
+pub mod Heads
 mod Reading
 mod BodyReading

@@ -2,12 +2,12 @@
 -- Assumes nothing.
 use mathlib.Core.Path.{_≡_, refl, sym, ap, _∙_, subst, subst₂}
 use mathlib.Core.List.{List, [], _∷_}
-use mathlib.Core.Bool.{Bool, true, false, cond, _&&_}
+use mathlib.Core.Bool.{Bool, true, false, cond, _&&_, _||_}
 use Prim.Native.Nat.{ℕ, zero, suc, _+_, _-_, _≤_, _<_}
 use native.Mathlib.Omega.{arith}
 use borrow.Author.Tests.{leb-true, ltb-true}
 use lib.ListN.{length, getD}
-use lib.Dec.{eqb, ltb, ltb→lt, T}
+use lib.Dec.{eqb, ltb, T, ltb→lt, eqb·suc-zero}
 use Rattle.fields.specs.Parsed.{Parsed, ok, fault, bind, ensure}
 use Rattle.fields.specs.Number.{two, four, numberIn, fieldAt}
 use Rattle.fields.specs.Table.{manyOf}
@@ -495,3 +495,55 @@ stmts-count f t s (suc k) at c n e =
     bound e (λ x p e1 e2. bound e2 (λ d q e3 e4.
     let z : c ≡ before x d = cc in
     ap stmtCount z ∙ before-count _ _ _ _ _ _ d ∙ ap suc (stmts-count f t s k p d q e3)))
+
+-- a statement's head takes a byte
+someHead : ℕ → ℕ → Bool
+someHead k x = eqb k 0 || ltb 0 x
+
+some-head : (k : ℕ) → 0 < k → k < 11 → 0 < getD headBytes k 0
+unfolding someHead headBytes
+some-head zero low lt = absurd (omega arith)
+some-head (suc k) low lt = ltb→lt _ _ (subst (λ b. T (b || ltb 0 (getD headBytes (suc k) 0))) (eqb·suc-zero k) (at someHead headBytes tt (suc k) lt))
+
+-- where reading one ends after it begins and within the bytes, so does reading many
+many-ends : {A L : Type 0} (nil : L) (cons : A → L → L) (f : ℕ → Parsed A) (s : List ℕ)
+    → ((p : ℕ) (x : A) (q : ℕ) → f p ≡ ok x q → (p < q) × (q ≤ length s)) → (k at : ℕ) (xs : L) (n : ℕ) → at ≤ length s → manyOf nil cons f k at ≡ ok xs n
+    → (at + k ≤ n) × (n ≤ length s)
+unfolding manyOf
+many-ends nil cons f s each zero at xs n le e = let z : at ≡ n = cc in (omega arith, omega arith)
+many-ends nil cons f s each (suc k) at xs n le e =
+    bound e (λ x p e1 e2. bound e2 (λ ys q e3 e4.
+    let a = each at x p e1 in
+    let b = many-ends nil cons f s each k p ys q (a .1) e3 in
+    let z : q ≡ n = cc in
+    (omega arith, omega arith)))
+
+module _ (f : ℕ → Parsed Block) (t : Scope) (s : List ℕ) (each : (p : ℕ) (b : Block) (q : ℕ) → f p ≡ ok b q → (p < q) × (q ≤ length s)) where
+  pub stmt-ends : (at : ℕ) (x : Stmt) (n : ℕ) → stmtAt f t s at ≡ ok x n → (at < n) × (n ≤ length s)
+  stmt-ends at x n e =
+      let g = parts f t s at x n e in
+      let one = some-head (getD s at 0) (g .low) (g .high) in
+      let fits = g .fits in
+      let a = field-ok (g .flag) in
+      let la : g .p ≤ length s = field-end (omega arith) a in
+      let v = stand-all t s (t .exprDepth) _ _ _ _ (g .values) in
+      let lv : g .q ≤ length s = end-all (x .front .values) s (g .p) (g .q) la (v .0) in
+      let ov : g .p ≤ g .q = order-all (x .front .values) s (g .p) (g .q) (v .0) in
+      let y = field-ok (g .type) in
+      let b = many-ends [] _∷_ f s each _ (g .r) (x .blocks) (g .u) (field-end lv y) (g .blocks) in
+      let z = field-ok (g .other) in
+      let c = many-ends [] _∷_ f s each (g .w) (g .v) (x .others) n (field-end (b .1) z) (g .others) in
+      (omega (arith, one, a .end, ov, y .end, b .0, z .end, c .0), c .1)
+
+  pub stmts-end : (k at : ℕ) (c : Tree) (n : ℕ) → at ≤ length s → stmtsBy f t s k at ≡ ok c n → (at + k ≤ n) × (n ≤ length s)
+  stmts-end = many-ends (done tt) before (stmtAt f t s) s stmt-ends
+
+-- a block ends after its head and within the bytes
+pub block-ends : (t : Scope) (s : List ℕ) (d at : ℕ) (b : Block) (n : ℕ) → blockAt t s d at ≡ ok b n → (at + 6 ≤ n) × (n ≤ length s)
+block-ends t s zero at b n e = let g = block-parts t s zero at b n e in let l = g .left in absurd (omega arith)
+block-ends t s (suc d) at b n e =
+    let g = block-parts t s (suc d) at b n e in
+    let z : suc d - 1 ≡ d = omega arith in
+    let h = stmts-end (blockAt t s d) t s (λ p c q y. let w = block-ends t s d p c q y in (omega arith, w .1)) (two s (at + 4)) (at + 6) (b .code) n (g .room)
+    (ap (λ i. stmtsAt t s i (two s (at + 4)) (at + 6)) (sym z) ∙ g .stmts) in
+    (omega arith, h .1)
