@@ -1,0 +1,9 @@
+-- What the proofs of several functions and crates use.
+pub mod Standing
+pub mod Shallow
+pub mod Walking
+pub mod Skipping
+pub mod Statements
+pub mod Heads
+mod Reading
+mod BodyReading
