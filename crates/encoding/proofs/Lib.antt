@@ -1,0 +1,2 @@
+-- Reading and writing undo each other.
+pub mod Parts
