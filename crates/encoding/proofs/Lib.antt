@@ -1,2 +1,3 @@
 -- Reading and writing undo each other.
 pub mod Parts
+pub mod Runs
