@@ -1,3 +1,5 @@
 -- Reading and writing undo each other.
 pub mod Parts
 pub mod Runs
+pub mod TablesWritten
+pub mod TablesReadBack

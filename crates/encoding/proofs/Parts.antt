@@ -8,7 +8,8 @@ use native.Mathlib.Omega.{arith}
 use native.Mathlib.Numerals.{add-one}
 use lib.ListN.{length, getD, drop, length-append, length-drop}
 use lib.Seq.{drop-cons, drop-drop, drop-append-seam, getD-drop}
-use Rattle.fields.specs.Parsed.{Parsed, ok}
+use Rattle.fields.specs.Parsed.{Parsed, ok, bind, ensure}
+use mathlib.Core.Bool.{Bool, true}
 use Rattle.fields.specs.Number.{two, four, numberIn, fieldAt}
 use Rattle.fields.specs.Bytes.{twoBytes, fourBytes, numberBytes, Bytes, Part}
 use Rattle.fields.proofs.Numbers.{Field, field-ok, field-good}
@@ -157,3 +158,12 @@ module _ (f limit : ℕ) {s : List ℕ} {p n q : ℕ} where
         (let h = four-here (subst (λ x. Written s p (numberBytes x n) q) e g) in
         let r = h .1 in
         field-good f limit 4 s p refl (omega arith) (sym (h .0)) lt ∙ ap (ok n) (sym (h .2)))) w
+
+-- the steps of a reading that succeeds
+pub goes : {A B : Type 0} {x : Parsed A} (k : A → ℕ → Parsed B) {a : A} {p : ℕ} {y : Parsed B} → x ≡ ok a p → k a p ≡ y → bind x k ≡ y
+unfolding bind
+goes k e f = rw e f
+
+pub passes : {A : Type 0} {b : Bool} (n : ℕ) {k y : Parsed A} → b ≡ true → k ≡ y → ensure b n k ≡ y
+unfolding ensure
+passes n e f = rw e f
