@@ -8,6 +8,7 @@ use lib.Dec.{eqb}
 use Rattle.fields.specs.Bytes.{Bytes}
 use Rattle.fields.specs.Table.{member}
 use Rattle.tables.specs.Limits.{Limits}
+use Rattle.tables.specs.Tables.{Tables}
 use Rattle.tables.specs.Name.{sameBytes, thisName}
 use Rattle.tables.specs.Ty.{Ty, ofLimit}
 use Rattle.tables.specs.Signature.{Method, Struct, Global, Param, Entry, methodNames, globalNames, rises}
@@ -77,3 +78,9 @@ pub record ValidEntry (L : Limits) (names types : ℕ) (x : Entry) : Type 0 wher
   pub without : x .receiver < 2 → x .this ≡ 0
   pub few : length (x .params) ≤ L .params
   pub params : Each (ValidParam names types) [] (x .params)
+
+pub record ValidTables (L : Limits) (T : Tables) : Type 0 where
+  pub names : ValidNames L (T .names)
+  pub types : ValidTypes L (length (T .names)) (T .types)
+  pub structs : ValidStructs L (T .names) (T .structs)
+  pub globals : ValidGlobals L (length (T .names)) (T .globals)
