@@ -3,3 +3,5 @@ pub mod Parts
 pub mod Runs
 pub mod TablesWritten
 pub mod TablesReadBack
+pub mod ExprWritten
+pub mod ExprReadBack

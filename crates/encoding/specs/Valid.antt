@@ -12,6 +12,8 @@ use Rattle.tables.specs.Tables.{Tables}
 use Rattle.tables.specs.Name.{sameBytes, thisName}
 use Rattle.tables.specs.Ty.{Ty, ofLimit}
 use Rattle.tables.specs.Signature.{Method, Struct, Global, Param, Entry, methodNames, globalNames, rises}
+use Rattle.body.specs.Expr.{Head, Expr, Exprs, node, none, more, argWidth, fixedCount, countWidth, lastWidth, Scope, argLimit, genericCallee}
+use Rattle.body.specs.Stands.{count}
 
 -- each entry is valid after those before it; xs are those before
 unfoldable pub Each : {A : Type 0} → (List A → A → Type 0) → List A → List A → Type 0
@@ -84,3 +86,33 @@ pub record ValidTables (L : Limits) (T : Tables) : Type 0 where
   pub types : ValidTypes L (length (T .names)) (T .types)
   pub structs : ValidStructs L (T .names) (T .structs)
   pub globals : ValidGlobals L (length (T .names)) (T .globals)
+
+-- a body is read against at least one name and one type
+pub record ValidScope (t : Scope) : Type 0 where
+  pub names : 0 < t .names
+  pub types : 0 < t .types
+
+-- what the argument of a tag stays below: an operator, a name, or 1 where there is none
+abbrev pub argBelow : ℕ → ℕ → ℕ → ℕ
+argBelow names before after = cond (eqb (before + after) 0) 1 (argLimit names before)
+
+-- a node by itself
+pub record ValidNode (t : Scope) (h : Head) (ks xs : Exprs) : Type 0 where
+  pub low : 0 < h .tag
+  pub high : h .tag < 16
+  pub span : h .span < 4294967296
+  pub ty : h .ty < t .types
+  pub delete : h .tag ≡ 10 → h .ty ≡ 0
+  pub arg : h .arg < argBelow (t .names) (getD argWidth (h .tag) 0) (getD lastWidth (h .tag) 0)
+  pub fixed : count ks ≡ getD fixedCount (h .tag) 0
+  pub items : count xs < cond (eqb (getD countWidth (h .tag) 0) 0) 1 65536
+  pub receiver : h .tag ≡ 6 → genericCallee (t .generic) ks ≡ false
+
+unfoldable pub EachExpr : (Expr → Type 0) → Exprs → Type 0
+EachExpr Good none = Unit {0}
+EachExpr Good (more e es) = Good e × EachExpr Good es
+
+-- an expression no deeper than so much
+unfoldable pub ValidExpr : Scope → ℕ → Expr → Type 0
+ValidExpr t zero e = ⊥
+ValidExpr t (suc d) (node h ks xs) = ValidNode t h ks xs × EachExpr (ValidExpr t d) ks × EachExpr (ValidExpr t d) xs
