@@ -5,3 +5,4 @@ pub mod TablesWritten
 pub mod TablesReadBack
 pub mod ExprWritten
 pub mod ExprReadBack
+pub mod StmtBytes
