@@ -6,3 +6,4 @@ pub mod TablesReadBack
 pub mod ExprWritten
 pub mod ExprReadBack
 pub mod StmtBytes
+pub mod BodyWritten
