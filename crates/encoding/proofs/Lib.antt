@@ -7,3 +7,4 @@ pub mod ExprWritten
 pub mod ExprReadBack
 pub mod StmtBytes
 pub mod BodyWritten
+pub mod BodyReadBack

@@ -14,6 +14,8 @@ use Rattle.tables.specs.Ty.{Ty, ofLimit}
 use Rattle.tables.specs.Signature.{Method, Struct, Global, Param, Entry, methodNames, globalNames, rises}
 use Rattle.body.specs.Expr.{Head, Expr, Exprs, node, none, more, argWidth, fixedCount, countWidth, lastWidth, Scope, argLimit, genericCallee}
 use Rattle.body.specs.Stands.{count}
+use Rattle.body.specs.Stmt.{Code, Tree, Block, done, exprStmt, variable, assign, return, bareReturn, block, ifElse, ifThen, while, jump}
+use Rattle.encoding.specs.Body.{size}
 
 -- each entry is valid after those before it; xs are those before
 unfoldable pub Each : {A : Type 0} → (List A → A → Type 0) → List A → List A → Type 0
@@ -116,3 +118,27 @@ EachExpr Good (more e es) = Good e × EachExpr Good es
 unfoldable pub ValidExpr : Scope → ℕ → Expr → Type 0
 ValidExpr t zero e = ⊥
 ValidExpr t (suc d) (node h ks xs) = ValidNode t h ks xs × EachExpr (ValidExpr t d) ks × EachExpr (ValidExpr t d) xs
+
+-- a value of a statement
+abbrev pub ValidValue : Scope → Expr → Type 0
+ValidValue t e = ValidExpr t (t .exprDepth) e
+
+-- statements whose blocks are good
+unfoldable pub ValidCode : (Block → Type 0) → Scope → Tree → Type 0
+ValidCode Good t (done x) = Unit {0}
+ValidCode Good t (exprStmt p e y c) = (p < 4294967296) × ValidValue t e × ValidCode Good t c
+ValidCode Good t (variable b p n u e c) = (p < 4294967296) × (n < t .names) × (u < t .types) × ValidValue t e × ValidCode Good t c
+ValidCode Good t (assign p d e u x c) = (p < 4294967296) × ValidValue t d × ValidValue t e × (u < t .types) × ValidCode Good t c
+ValidCode Good t (return p e u x c) = (p < 4294967296) × ValidValue t e × (u < t .types) × ValidCode Good t c
+ValidCode Good t (bareReturn p u c) = (p < 4294967296) × (u < t .types) × ValidCode Good t c
+ValidCode Good t (block q b c) = Good (record { span = q; code = b }) × ValidCode Good t c
+ValidCode Good t (ifElse p e q b r d c) =
+    (p < 4294967296) × ValidValue t e × Good (record { span = q; code = b }) × Good (record { span = r; code = d }) × ValidCode Good t c
+ValidCode Good t (ifThen p e q b c) = (p < 4294967296) × ValidValue t e × Good (record { span = q; code = b }) × ValidCode Good t c
+ValidCode Good t (while p e q b c) = (p < 4294967296) × ValidValue t e × Good (record { span = q; code = b }) × ValidCode Good t c
+ValidCode Good t (jump b p c) = (p < 4294967296) × ValidCode Good t c
+
+-- a block no deeper than so much
+unfoldable pub ValidBlock : Scope → ℕ → Block → Type 0
+ValidBlock t zero b = ⊥
+ValidBlock t (suc d) b = (b .span < 4294967296) × (size (b .code) < 65536) × ValidCode (ValidBlock t d) t (b .code)
