@@ -177,6 +177,10 @@ module _ (t : Scope) (scope : ValidScope t) (s : List ℕ) where
         (goes _ (field-read-back 8 2 {k = mflag} (inl (omega arith)) (λ z. omega arith) (omega arith) g6)
         (goes _ (blocks-back cs [] p6 q (v .others) g7) refl)))))))))
 
+    within : (n u : ℕ) → n < t .names → u < t .types → binds (t .names) (t .types) true n u ≡ true
+    unfolding binds
+    within n u ln lu = rw (lt-ltb n (t .names) ln) (lt-ltb u (t .types) lu)
+
     -- a statement before those that are read back
     step : (h : StmtHead) (es : Exprs) (n l : ℕ) (bs cs : List Block) (c : Tree) (p q : ℕ) → ValidStmt t Good h es n l bs cs
         → ((r : ℕ) → Written s r (encodeCode c) q → stmtsBy f t s (size c) r ≡ ok c q)
@@ -186,3 +190,76 @@ module _ (t : Scope) (scope : ValidScope t) (s : List ℕ) where
         let k = encodes (h .tag) h es n l bs cs c (shape-of (h .tag) es n bs cs (v .shape)) in
         split (stmtBytes (h .tag) h es n l bs cs) (encodeCode c) (being (k .0) g) (λ r x y.
         ap (λ m. stmtsBy f t s m p) (k .1) ∙ many-more (done tt) before (stmtAt f t s) (size c) (stmt-back h es n l bs cs p r v x) (rest r y))
+
+    code-back : (c : Tree) (p q : ℕ) → ValidCode Good t c → Written s p (encodeCode c) q → stmtsBy f t s (size c) p ≡ ok c q
+    unfolding ValidCode EachExpr Each beforeOf encodeCode size shapeOk binds headBytes valueFlag valueCount typeWidth blockCount elseFlag
+    code-back (done x) p q v g = let e = g .end in many-none (done tt) before (stmtAt f t s) p ∙ ap (ok (done tt)) (omega arith)
+    code-back (exprStmt o e y c) p q v g =
+        step (record { tag = 3; span = o; name = 0; ty = 0 }) (more e none) 0 0 [] [] c p q
+        record { shape = refl; span = refl; name = refl; ty = refl; bound = refl; last = omega arith; values = (v .1, tt); blocks = tt; others = tt }
+        (λ r x. code-back c r q (v .2) x) g
+    code-back (variable false o n u e c) p q v g =
+        step (record { tag = 4; span = o; name = n; ty = u }) (more e none) 0 0 [] [] c p q
+        record { shape = refl; span = refl; name = refl; ty = refl; bound = within n u (v .1) (v .2); last = omega arith; values = (v .3, tt); blocks = tt; others = tt }
+        (λ r x. code-back c r q (v .4) x) g
+    code-back (variable true o n u e c) p q v g =
+        step (record { tag = 5; span = o; name = n; ty = u }) (more e none) 0 0 [] [] c p q
+        record { shape = refl; span = refl; name = refl; ty = refl; bound = within n u (v .1) (v .2); last = omega arith; values = (v .3, tt); blocks = tt; others = tt }
+        (λ r x. code-back c r q (v .4) x) g
+    code-back (assign o d e u x c) p q v g =
+        step (record { tag = 6; span = o; name = 0; ty = 0 }) (more d (more e none)) 0 u [] [] c p q
+        record { shape = refl; span = refl; name = refl; ty = refl; bound = refl; last = v .3; values = (v .1, (v .2, tt)); blocks = tt; others = tt }
+        (λ r x. code-back c r q (v .4) x) g
+    code-back (return o e u x c) p q v g =
+        step (record { tag = 2; span = o; name = 0; ty = 0 }) (more e none) 1 u [] [] c p q
+        record { shape = refl; span = refl; name = refl; ty = refl; bound = refl; last = v .2; values = (v .1, tt); blocks = tt; others = tt }
+        (λ r x. code-back c r q (v .3) x) g
+    code-back (bareReturn o u c) p q v g =
+        step (record { tag = 2; span = o; name = 0; ty = 0 }) none 0 u [] [] c p q
+        record { shape = refl; span = refl; name = refl; ty = refl; bound = refl; last = v .1; values = tt; blocks = tt; others = tt }
+        (λ r x. code-back c r q (v .2) x) g
+    code-back (block o b c) p q v g =
+        step (record { tag = 1; span = 0; name = 0; ty = 0 }) none 0 0 (record { span = o; code = b } ∷ []) [] c p q
+        record { shape = refl; span = refl; name = refl; ty = refl; bound = refl; last = omega arith; values = tt; blocks = (v .0, tt); others = tt }
+        (λ r x. code-back c r q (v .1) x) g
+    code-back (ifElse o e k b m d c) p q v g =
+        step (record { tag = 7; span = o; name = 0; ty = 0 }) (more e none) 0 0 (record { span = k; code = b } ∷ []) (record { span = m; code = d } ∷ []) c p q
+        record { shape = refl; span = refl; name = refl; ty = refl; bound = refl; last = omega arith; values = (v .1, tt); blocks = (v .2, tt); others = (v .3, tt) }
+        (λ r x. code-back c r q (v .4) x) g
+    code-back (ifThen o e k b c) p q v g =
+        step (record { tag = 7; span = o; name = 0; ty = 0 }) (more e none) 0 0 (record { span = k; code = b } ∷ []) [] c p q
+        record { shape = refl; span = refl; name = refl; ty = refl; bound = refl; last = omega arith; values = (v .1, tt); blocks = (v .2, tt); others = tt }
+        (λ r x. code-back c r q (v .3) x) g
+    code-back (while o e k b c) p q v g =
+        step (record { tag = 8; span = o; name = 0; ty = 0 }) (more e none) 0 0 (record { span = k; code = b } ∷ []) [] c p q
+        record { shape = refl; span = refl; name = refl; ty = refl; bound = refl; last = omega arith; values = (v .1, tt); blocks = (v .2, tt); others = tt }
+        (λ r x. code-back c r q (v .3) x) g
+    code-back (jump false o c) p q v g =
+        step (record { tag = 9; span = o; name = 0; ty = 0 }) none 0 0 [] [] c p q
+        record { shape = refl; span = refl; name = refl; ty = refl; bound = refl; last = omega arith; values = tt; blocks = tt; others = tt }
+        (λ r x. code-back c r q (v .1) x) g
+    code-back (jump true o c) p q v g =
+        step (record { tag = 10; span = o; name = 0; ty = 0 }) none 0 0 [] [] c p q
+        record { shape = refl; span = refl; name = refl; ty = refl; bound = refl; last = omega arith; values = tt; blocks = tt; others = tt }
+        (λ r x. code-back c r q (v .1) x) g
+
+  pub block-read-back : (d p : ℕ) (b : Block) (q : ℕ) → ValidBlock t d b → Written s p (encodeBlock b) q → blockAt t s d p ≡ ok b q
+  unfolding ValidBlock blockAt encodeBlock
+  block-read-back zero p b q v g = absurd v
+  block-read-back (suc d) p b q v g =
+      split (fourBytes (b .span)) (twoBytes (size (b .code)) ++ encodeCode (b .code)) g (λ p1 g1 r1.
+      split (twoBytes (size (b .code))) (encodeCode (b .code)) r1 (λ p2 g2 g3.
+      let h1 = four-here g1 in
+      let h2 = two-here g2 in
+      let z1 : p1 ≡ p + 4 = h1 .2 in
+      let z2 : p2 ≡ p1 + 2 = h2 .2 in
+      let l : p1 + 2 ≤ length s = h2 .1 in
+      let y : p2 ≡ p + 6 = omega arith in
+      let e : two s (p + 4) ≡ size (b .code) = ap (two s) (sym z1) ∙ h2 .0 in
+      passes _ (le-leb 6 (length s - p) (omega arith))
+      (goes _ (subst₂ (λ n r. stmtsBy (blockAt t s d) t s n r ≡ ok (b .code) q) (sym e) y
+          (code-back (blockAt t s d) (ValidBlock t d) (block-read-back d) (b .code) p2 q (v .2) g3))
+      (ap (λ n. ok (record { span = n; code = b .code }) q) (h1 .0)))))
+
+  pub stmts-read-back : (d : ℕ) (c : Tree) (p q : ℕ) → ValidCode (ValidBlock t d) t c → Written s p (encodeCode c) q → stmtsAt t s d (size c) p ≡ ok c q
+  stmts-read-back d = code-back (blockAt t s d) (ValidBlock t d) (block-read-back d)
