@@ -64,8 +64,12 @@ head-here false true s p tag span name ty q o es en et g =
     let y2 : p + 5 ≡ p2 = omega arith in
     let y3 : p + 7 ≡ p3 = omega arith in
     record {
-      tag-here = here g; span-here = ap (four s) (sym z1) ∙ h .0; name-here = ap (two s) y2 ∙ h2 .0; ty-here = ap (two s) y3 ∙ h3 .0;
-      end = omega arith; fits = omega arith;
+      tag-here = here g;
+      span-here = ap (four s) (sym z1) ∙ h .0;
+      name-here = ap (two s) y2 ∙ h2 .0;
+      ty-here = ap (two s) y3 ∙ h3 .0;
+      end = omega arith;
+      fits = omega arith;
     })))
 
 -- the name and type of a Let or Const are within the tables
@@ -117,8 +121,12 @@ shape-of tag es n bs cs e =
     let d = and-true (ltb n (1 + getD valueFlag tag 0)) _ (c .1) in
     let f = and-true (eqb (length bs) (getD blockCount tag 0)) _ (d .1) in
     record {
-      low = ltb-true _ _ (a .0); high = ltb-true _ _ (b .0); values = eqb-true _ _ (c .0); flag = ltb-true _ _ (d .0);
-      blocks = eqb-true _ _ (f .0); others = ltb-true _ _ (f .1);
+      low = ltb-true _ _ (a .0);
+      high = ltb-true _ _ (b .0);
+      values = eqb-true _ _ (c .0);
+      flag = ltb-true _ _ (d .0);
+      blocks = eqb-true _ _ (f .0);
+      others = ltb-true _ _ (f .1);
     }
 
 -- a statement that is valid by itself, after its flag n
@@ -168,11 +176,11 @@ module _ (t : Scope) (scope : ValidScope t) (s : List ℕ) where
         split (eachBytes encodeBlock bs) end r4 (λ p5 g5 r5.
         split (numberBytes mflag (length cs)) (eachBytes encodeBlock cs) r5 (λ p6 g6 g7.
         goes _ (goes _ (stmt-head-back (t .names) (t .types) s p (h .tag) (h .span) (h .name) (h .ty) p1 (sh .low) (sh .high) (v .bound)
-            (head-here (eqb (h .tag) 1) (eqb (getD headBytes (h .tag) 0) 9) s p (h .tag) (h .span) (h .name) (h .ty) p1
-              (head-width (h .tag) (sh .low) (sh .high) .1) (v .span) (v .name) (v .ty) g1))
-          (goes _ (field-read-back 8 2 {k = nflag} (inl (omega arith)) (λ z. omega arith) (omega arith) g2)
-          (goes _ (subst (λ m. exprsAt t s (t .exprDepth) m p2 ≡ ok es p3) (sh .values) (exprs-read-back t scope s (t .exprDepth) es p2 p3 (v .values) g3))
-          (goes _ (field-read-back 8 (t .types) {k = width} (inl (type-width (h .tag) (sh .high))) (la .0) (la .1) g4) refl))))
+        (head-here (eqb (h .tag) 1) (eqb (getD headBytes (h .tag) 0) 9) s p (h .tag) (h .span) (h .name) (h .ty) p1
+        (head-width (h .tag) (sh .low) (sh .high) .1) (v .span) (v .name) (v .ty) g1))
+        (goes _ (field-read-back 8 2 {k = nflag} (inl (omega arith)) (λ z. omega arith) (omega arith) g2)
+        (goes _ (subst (λ m. exprsAt t s (t .exprDepth) m p2 ≡ ok es p3) (sh .values) (exprs-read-back t scope s (t .exprDepth) es p2 p3 (v .values) g3))
+        (goes _ (field-read-back 8 (t .types) {k = width} (inl (type-width (h .tag) (sh .high))) (la .0) (la .1) g4) refl))))
         (goes _ (subst (λ m. manyOf [] _∷_ f m p4 ≡ ok bs p5) (sh .blocks) (blocks-back bs [] p4 p5 (v .blocks) g5))
         (goes _ (field-read-back 8 2 {k = mflag} (inl (omega arith)) (λ z. omega arith) (omega arith) g6)
         (goes _ (blocks-back cs [] p6 q (v .others) g7) refl)))))))))
@@ -258,7 +266,7 @@ module _ (t : Scope) (scope : ValidScope t) (s : List ℕ) where
       let e : two s (p + 4) ≡ size (b .code) = ap (two s) (sym z1) ∙ h2 .0 in
       passes _ (le-leb 6 (length s - p) (omega arith))
       (goes _ (subst₂ (λ n r. stmtsBy (blockAt t s d) t s n r ≡ ok (b .code) q) (sym e) y
-          (code-back (blockAt t s d) (ValidBlock t d) (block-read-back d) (b .code) p2 q (v .2) g3))
+      (code-back (blockAt t s d) (ValidBlock t d) (block-read-back d) (b .code) p2 q (v .2) g3))
       (ap (λ n. ok (record { span = n; code = b .code }) q) (h1 .0)))))
 
   pub stmts-read-back : (d : ℕ) (c : Tree) (p q : ℕ) → ValidCode (ValidBlock t d) t c → Written s p (encodeCode c) q → stmtsAt t s d (size c) p ≡ ok c q

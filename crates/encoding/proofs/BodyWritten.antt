@@ -59,11 +59,11 @@ module _ (s : List ℕ) (small : Bytes s) where
       let e4 = ensure-ok _ (e3 .1) .1 in
       let w = getD headBytes (getD s p 0) 0 in
       let x : record {
-            tag = getD s p 0;
-            span = cond (eqb (getD s p 0) 1) 0 (four s (p + 1));
-            name = cond (eqb w 9) (two s (p + 5)) 0;
-            ty = cond (eqb w 9) (two s (p + 7)) 0;
-          } ≡ h = cc in
+        tag = getD s p 0;
+        span = cond (eqb (getD s p 0) 1) 0 (four s (p + 1));
+        name = cond (eqb w 9) (two s (p + 5)) 0;
+        ty = cond (eqb w 9) (two s (p + 7)) 0;
+      } ≡ h = cc in
       let y : p + w ≡ q = cc in
       let low : 0 < getD s p 0 = ltb-true _ _ (e1 .0) in
       let high : getD s p 0 < 11 = ltb-true _ _ (e2 .0) in
@@ -119,8 +119,8 @@ module _ (s : List ℕ) (small : Bytes s) where
               flag = n;
               shape = record { low = wh .1; high = high; values = we .1; flag = flag-small _ s p1 n p2 vf en; blocks = wb .1; others = omega arith };
               bytes = then (wh .0) (then (field-written s small _ _ {k = getD valueFlag (h .tag) 0} (inl (omega arith)) en) (then (we .0)
-                (then (field-written s small _ _ (inl (type-width (h .tag) high)) el) (then (wb .0)
-                (then (being (ap (numberBytes (getD elseFlag (h .tag) 0)) (sym lm)) (field-written s small _ _ {k = getD elseFlag (h .tag) 0} (inl (omega arith)) em)) (wc .0))))));
+                  (then (field-written s small _ _ (inl (type-width (h .tag) high)) el) (then (wb .0)
+                  (then (being (ap (numberBytes (getD elseFlag (h .tag) 0)) (sym lm)) (field-written s small _ _ {k = getD elseFlag (h .tag) 0} (inl (omega arith)) em)) (wc .0))))));
             }
 
     stmts-by-written : (t : Scope) (n p : ℕ) (c : Tree) (q : ℕ) → stmtsBy f t s n p ≡ ok c q → Written s p (encodeCode c) q × (size c ≡ n)

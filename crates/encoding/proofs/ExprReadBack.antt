@@ -36,24 +36,59 @@ record Args (names b k x : ℕ) : Type 0 where
 args : (names b k x : ℕ) → 0 < names → b ≤ 2 → k ≤ 2 → (k ≡ 0) ⊎ (b ≡ 0) → x < argBelow names b k → Args names b k x
 unfolding numberBytes
 args names zero zero x some lb lk w lt = record {
-  before = 0; after = 0; same-before = refl; same-after = refl; none-before = λ z. refl; none-after = λ z. refl;
-  low-before = some; low-after = some; is = omega arith;
+  before = 0;
+  after = 0;
+  same-before = refl;
+  same-after = refl;
+  none-before = λ z. refl;
+  none-after = λ z. refl;
+  low-before = some;
+  low-after = some;
+  is = omega arith;
 }
 args names (suc zero) zero x some lb lk w lt = record {
-  before = x; after = 0; same-before = refl; same-after = refl; none-before = λ z. absurd (omega arith); none-after = λ z. refl;
-  low-before = lt; low-after = some; is = refl;
+  before = x;
+  after = 0;
+  same-before = refl;
+  same-after = refl;
+  none-before = λ z. absurd (omega arith);
+  none-after = λ z. refl;
+  low-before = lt;
+  low-after = some;
+  is = refl;
 }
 args names (suc (suc zero)) zero x some lb lk w lt = record {
-  before = x; after = 0; same-before = refl; same-after = refl; none-before = λ z. absurd (omega arith); none-after = λ z. refl;
-  low-before = lt; low-after = some; is = refl;
+  before = x;
+  after = 0;
+  same-before = refl;
+  same-after = refl;
+  none-before = λ z. absurd (omega arith);
+  none-after = λ z. refl;
+  low-before = lt;
+  low-after = some;
+  is = refl;
 }
 args names zero (suc zero) x some lb lk w lt = record {
-  before = 0; after = x; same-before = refl; same-after = refl; none-before = λ z. refl; none-after = λ z. absurd (omega arith);
-  low-before = some; low-after = lt; is = refl;
+  before = 0;
+  after = x;
+  same-before = refl;
+  same-after = refl;
+  none-before = λ z. refl;
+  none-after = λ z. absurd (omega arith);
+  low-before = some;
+  low-after = lt;
+  is = refl;
 }
 args names zero (suc (suc zero)) x some lb lk w lt = record {
-  before = 0; after = x; same-before = refl; same-after = refl; none-before = λ z. refl; none-after = λ z. absurd (omega arith);
-  low-before = some; low-after = lt; is = refl;
+  before = 0;
+  after = x;
+  same-before = refl;
+  same-after = refl;
+  none-before = λ z. refl;
+  none-after = λ z. absurd (omega arith);
+  low-before = some;
+  low-after = lt;
+  is = refl;
 }
 args names (suc (suc (suc b))) k x some lb lk w lt = absurd (omega arith)
 args names zero (suc (suc (suc k))) x some lb lk w lt = absurd (omega arith)
@@ -137,15 +172,15 @@ module _ (t : Scope) (scope : ValidScope t) (s : List ℕ) where
         let y2 : q2 ≡ p + 5 = omega arith in
         let y3 : q3 ≡ p + 7 = omega arith in
         goes _ (head-back (t .names) (t .types) s p (h .tag) (h .span) (h .ty) (x .before) p1 (here g) (ap (four s) (sym z1) ∙ f2 .0) (ap (two s) (sym y2) ∙ f3 .0)
-          (omega arith) (v .low) (v .high) (v .ty) (v .delete)
-          (field-read-back 8 (argLimit (t .names) b) (inl (arg-width (h .tag) (v .high))) (x .none-before) (x .low-before)
-            (subst₂ (λ y z. Written s y z p1) y3 (x .same-before) g4)))
+        (omega arith) (v .low) (v .high) (v .ty) (v .delete)
+        (field-read-back 8 (argLimit (t .names) b) (inl (arg-width (h .tag) (v .high))) (x .none-before) (x .low-before)
+        (subst₂ (λ y z. Written s y z p1) y3 (x .same-before) g4)))
         (rest-back (record { tag = h .tag; span = h .span; ty = h .ty; arg = x .before }) ks xs p1 p2 p3 p4 (x .after) q
-          (subst (λ m. exprsBy f m p1 ≡ ok ks p2) (v .fixed) (exprs-by-back ks p1 p2 vk g5))
-          (field-read-back 8 65536 (inl (count-width (h .tag) (v .high))) (c .0) (c .1) g6)
-          (exprs-by-back xs p3 p4 vx g7)
-          (field-read-back 8 (t .names) (inl (last-width (h .tag) (v .high))) (x .none-after) (x .low-after) (subst (λ z. Written s p4 z q) (x .same-after) g8))
-          (v .receiver)
+        (subst (λ m. exprsBy f m p1 ≡ ok ks p2) (v .fixed) (exprs-by-back ks p1 p2 vk g5))
+        (field-read-back 8 65536 (inl (count-width (h .tag) (v .high))) (c .0) (c .1) g6)
+        (exprs-by-back xs p3 p4 vx g7)
+        (field-read-back 8 (t .names) (inl (last-width (h .tag) (v .high))) (x .none-after) (x .low-after) (subst (λ z. Written s p4 z q) (x .same-after) g8))
+        (v .receiver)
         ∙ ap (λ a. ok (node (record { tag = h .tag; span = h .span; ty = h .ty; arg = a }) ks xs) q) (x .is)))))))))
 
   pub expr-read-back : (d p : ℕ) (e : Expr) (q : ℕ) → ValidExpr t d e → Written s p (encodeExpr e) q → exprAt t s d p ≡ ok e q

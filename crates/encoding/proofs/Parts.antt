@@ -48,7 +48,7 @@ module _ {s : List ℕ} {p r : ℕ} where
   first a b g =
       let e : drop p s ≡ a ++ (b ++ drop r s) = g .part .is ∙ append-assoc a b (drop r s) in
       let k : drop (p + length a) s ≡ b ++ drop r s =
-          sym (drop-drop (length a) p s) ∙ ap (drop (length a)) e ∙ drop-append-seam a (b ++ drop r s) in
+      sym (drop-drop (length a) p s) ∙ ap (drop (length a)) e ∙ drop-append-seam a (b ++ drop r s) in
       record { part = record { is = e ∙ ap (λ x. a ++ x) (sym k) }; end = refl }
 
   pub second : (a b : List ℕ) → Written s p (a ++ b) r → Written s (p + length a) b r
@@ -116,7 +116,7 @@ module _ (s : List ℕ) (small : Bytes s) where
       upto (sym (g .end))
       (⊎-elim (λ le. rw i (number-at k p le fits))
       (λ z. subst (λ x. Written s p (numberBytes x n) (p + x)) (sym z)
-          (being (ap fourBytes (sym (i ∙ ap (λ x. numberIn s x p) z))) (four-at p (omega arith)))) w)
+      (being (ap fourBytes (sym (i ∙ ap (λ x. numberIn s x p) z))) (four-at p (omega arith)))) w)
 
 -- the number that stands where its bytes do
 pub two-here : {s : List ℕ} {p n q : ℕ} → Written s p (twoBytes n) q → (two s p ≡ n) × (p + 2 ≤ length s) × (q ≡ p + 2)
@@ -155,9 +155,9 @@ module _ (f limit : ℕ) {s : List ℕ} {p n q : ℕ} where
   field-read-back {k} w z lt g =
       ⊎-elim (λ le. let h = number-here k le z g in field-good f limit k s p refl (h .1) (h .0) lt ∙ ap (ok n) (sym (h .2)))
       (λ e. subst (λ x. fieldAt f limit x s p ≡ ok n q) (sym e)
-        (let h = four-here (subst (λ x. Written s p (numberBytes x n) q) e g) in
-        let r = h .1 in
-        field-good f limit 4 s p refl (omega arith) (sym (h .0)) lt ∙ ap (ok n) (sym (h .2)))) w
+      (let h = four-here (subst (λ x. Written s p (numberBytes x n) q) e g) in
+      let r = h .1 in
+      field-good f limit 4 s p refl (omega arith) (sym (h .0)) lt ∙ ap (ok n) (sym (h .2)))) w
 
 -- the steps of a reading that succeeds
 pub goes : {A B : Type 0} {x : Parsed A} (k : A → ℕ → Parsed B) {a : A} {p : ℕ} {y : Parsed B} → x ≡ ok a p → k a p ≡ y → bind x k ≡ y

@@ -57,8 +57,8 @@ module _ {A : Type 0} (enc : A → List ℕ) (f : List A → ℕ → Parsed A) (
       let g = table-parts f k least limit s p e in
       then (being (ap twoBytes (sym (g .5))) (field-written s small _ _ {k = 2} (inl (omega arith)) (g .2)))
       (table-all f (λ x o r. Written s o (enc x) r) (λ ys o r. Written s o (eachBytes enc ys) r)
-        (λ o. nothing) (λ ys y o r u a b. being (sym (each-append enc ys y)) (then a b)) each
-        [] (g .0) (g .1) (g .1) xs q nothing (g .4))
+      (λ o. nothing) (λ ys y o r u a b. being (sym (each-append enc ys y)) (then a b)) each
+      [] (g .0) (g .1) (g .1) xs q nothing (g .4))
 
   module _ (Good : List A → A → Type 0) (each : (xs : List A) (p : ℕ) (x : A) (q : ℕ) → Good xs x → Written s p (enc x) q → f xs p ≡ ok x q) where
     entries-back : (ys xs : List A) (p q : ℕ) → Each Good xs ys → Written s p (eachBytes enc ys) q → tableFrom f xs (length ys) p ≡ ok (xs ++ ys) q

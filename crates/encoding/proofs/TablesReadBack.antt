@@ -125,7 +125,7 @@ module _ (s : List ℕ) where
       (goes _ (field-read-back 5 2 {k = 1} (inl (omega arith)) (λ y. absurd (omega arith)) (v .destructor) c)
       (goes _ (field-read-back 5 65536 {k = 2} (inl (omega arith)) (λ y. absurd (omega arith)) (v .shape) e)
       (goes _ (table-read-back encodeMethod (methodAt (length ns) s) s (ValidMethod (length ns)) (method-back (length ns)) 5 0 (L .methods + 1) p3 (x .methods) q
-        (omega arith) (omega arith) (v .methods) f) refl)))))))
+      (omega arith) (omega arith) (v .methods) f) refl)))))))
 
   pub structs-read-back : (L : Limits) (ns : List (List ℕ)) (p : ℕ) (xs : List Struct) (q : ℕ) → ValidStructs L ns xs → Written s p (encodeTable encodeStruct xs) q
       → structsAt L ns s p ≡ ok xs q
@@ -167,7 +167,7 @@ module _ (s : List ℕ) where
       goes _ (field-read-back 7 5 {k = 1} (inl (omega arith)) (λ y. absurd (omega arith)) (v .receiver) a)
       (goes _ (field-read-back 7 types (inl (this-width (x .receiver))) (without-this (x .receiver) (x .this) (v .without)) (v .this) c)
       (goes _ (table-read-back encodeParam (paramAt names types s) s (ValidParam names types) (param-back names types) 7 0 (L .params + 1) p2 (x .params) q
-        (omega arith) (omega arith) (v .params) d) refl))))
+      (omega arith) (omega arith) (v .params) d) refl))))
 
   -- all tables, one after another: each reader accepts its own
   pub tables-read-back : (L : Limits) (T : Tables) (p v : ℕ) → ValidTables L T → Written s p (encodeTables T) v
@@ -177,6 +177,12 @@ module _ (s : List ℕ) where
   tables-read-back L T p v valid g =
       split (encodeTable encodeName (T .names)) (encodeTable encodeType (T .types) ++ (encodeTable encodeStruct (T .structs) ++ encodeTable encodeGlobal (T .globals))) g (λ q a b.
       split (encodeTable encodeType (T .types)) (encodeTable encodeStruct (T .structs) ++ encodeTable encodeGlobal (T .globals)) b (λ r c d.
-      split (encodeTable encodeStruct (T .structs)) (encodeTable encodeGlobal (T .globals)) d (λ u e f.
-      (q, r, u, names-read-back L p (T .names) q (valid .names) a, types-read-back L (length (T .names)) q (T .types) r (valid .types) c,
-      structs-read-back L (T .names) r (T .structs) u (valid .structs) e, globals-read-back L (length (T .names)) u (T .globals) v (valid .globals) f))))
+      split (encodeTable encodeStruct (T .structs)) (encodeTable encodeGlobal (T .globals)) d (λ u e f. (
+        q,
+        r,
+        u,
+        names-read-back L p (T .names) q (valid .names) a,
+        types-read-back L (length (T .names)) q (T .types) r (valid .types) c,
+        structs-read-back L (T .names) r (T .structs) u (valid .structs) e,
+        globals-read-back L (length (T .names)) u (T .globals) v (valid .globals) f,
+      ))))
