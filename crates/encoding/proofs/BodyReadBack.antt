@@ -3,19 +3,19 @@
 use mathlib.Core.Path.{_≡_, refl, sym, ap, _∙_, subst, subst₂}
 use mathlib.Core.List.{List, [], _∷_, _++_}
 use mathlib.Core.Bool.{Bool, true, false, cond, not, _&&_, _||_}
-use mathlib.Core.Logic.{_⊎_, inl, inr}
+use mathlib.Core.Logic.{inl}
 use Prim.Native.Nat.{ℕ, zero, suc, _+_, _-_, _≤_, _<_}
 use native.Mathlib.Omega.{arith}
 use borrow.Author.Tests.{le-leb, lt-ltb, ltb-true, eqb-true}
 use lib.ListN.{length, getD}
 use lib.Dec.{eqb, ltb}
-use Rattle.fields.specs.Parsed.{Parsed, ok, bind, ensure}
-use Rattle.fields.specs.Number.{two, four, fieldAt}
+use Rattle.fields.specs.Parsed.{Parsed, ok}
+use Rattle.fields.specs.Number.{two, four}
 use Rattle.fields.specs.Table.{manyOf}
 use Rattle.fields.specs.Bytes.{twoBytes, fourBytes, numberBytes, eachBytes}
 use Rattle.fields.proofs.Tests.{false-true, and-true}
-use Rattle.body.specs.Expr.{Expr, Exprs, none, more, Scope, exprsAt}
-use Rattle.body.specs.Stmt.{Code, Tree, Block, StmtHead, Front, Stmt, done, exprStmt, variable, assign, return, bareReturn, block, ifElse, ifThen, while, jump, headBytes, valueFlag, valueCount, typeWidth, blockCount, elseFlag, bindsOk, stmtHeadAt, valuesAt, frontAt, backAt, stmtAt, beforeOf, before, stmtsBy, stmtsAt, blockAt}
+use Rattle.body.specs.Expr.{Exprs, none, more, Scope, exprsAt}
+use Rattle.body.specs.Stmt.{Tree, Block, StmtHead, Stmt, done, exprStmt, variable, assign, return, bareReturn, block, ifElse, ifThen, while, jump, headBytes, valueFlag, valueCount, typeWidth, blockCount, elseFlag, stmtHeadAt, valuesAt, frontAt, backAt, stmtAt, beforeOf, before, stmtsBy, stmtsAt, blockAt}
 use Rattle.body.specs.Stands.{count}
 use Rattle.encoding.specs.Written.{Written}
 use Rattle.encoding.specs.Body.{encodeExprs, encodeCode, encodeBlock, size}

@@ -3,24 +3,23 @@
 use mathlib.Core.Path.{_≡_, refl, sym, ap, _∙_, subst, subst₂}
 use mathlib.Core.List.{List, [], _∷_, _++_}
 use mathlib.Core.Bool.{Bool, true, false, cond, _&&_}
-use mathlib.Core.Logic.{_⊎_, inl, inr}
+use mathlib.Core.Logic.{inl}
 use Prim.Native.Nat.{ℕ, zero, suc, _+_, _-_, _≤_, _<_}
 use native.Mathlib.Omega.{arith}
 use borrow.Author.Tests.{leb-true, ltb-true}
 use lib.ListN.{length, getD}
 use lib.Dec.{eqb}
-use Rattle.fields.specs.Parsed.{Parsed, ok, bind, ensure}
-use Rattle.fields.specs.Number.{two, four, numberIn, fieldAt}
+use Rattle.fields.specs.Parsed.{Parsed, ok}
+use Rattle.fields.specs.Number.{two, four, fieldAt}
 use Rattle.fields.specs.Table.{manyOf}
 use Rattle.fields.specs.Bytes.{twoBytes, fourBytes, numberBytes, eachBytes, Bytes}
 use Rattle.fields.proofs.Inverse.{bound, ensure-ok, impossible}
 use Rattle.fields.proofs.Numbers.{field-ok}
 use Rattle.fields.proofs.Tests.{false-true}
 use Rattle.body.specs.Expr.{Exprs, Scope, exprsAt}
-use Rattle.body.specs.Stmt.{Tree, Block, StmtHead, Front, Stmt, done, headBytes, valueFlag, valueCount, typeWidth, blockCount, elseFlag, stmtHeadAt, valuesAt, frontAt, backAt, stmtAt, before, stmtsBy, stmtsAt, blockAt}
-use Rattle.body.specs.Stands.{count}
+use Rattle.body.specs.Stmt.{Tree, Block, StmtHead, Stmt, done, headBytes, valueFlag, valueCount, typeWidth, blockCount, elseFlag, stmtHeadAt, valuesAt, frontAt, backAt, stmtAt, before, stmtsBy, stmtsAt, blockAt}
 use Rattle.encoding.specs.Written.{Written}
-use Rattle.encoding.specs.Body.{encodeExprs, encodeCode, encodeBlock, size}
+use Rattle.encoding.specs.Body.{encodeCode, encodeBlock, size}
 use Rattle.encoding.proofs.Parts.{byte-at, then, nothing, upto, being, two-at, four-at, field-written}
 use Rattle.encoding.proofs.Runs.{many-all}
 use Rattle.encoding.proofs.ExprWritten.{exprs-written}

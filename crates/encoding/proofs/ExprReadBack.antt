@@ -3,13 +3,13 @@
 use mathlib.Core.Path.{_≡_, refl, sym, ap, _∙_, subst, subst₂}
 use mathlib.Core.List.{List, [], _∷_, _++_}
 use mathlib.Core.Bool.{Bool, true, false, cond, not, _&&_, _||_}
-use mathlib.Core.Logic.{_⊎_, inl, inr, ⊎-elim}
+use mathlib.Core.Logic.{_⊎_, inl, ⊎-elim}
 use Prim.Native.Nat.{ℕ, zero, suc, _+_, _-_, _≤_, _<_}
 use native.Mathlib.Omega.{arith}
-use borrow.Author.Tests.{le-leb, lt-ltb, eq-eqb, ne-eqb, eqb-true}
+use borrow.Author.Tests.{le-leb, lt-ltb, eq-eqb, eqb-true}
 use lib.ListN.{length, getD}
-use lib.Dec.{eqb, leb, ltb}
-use Rattle.fields.specs.Parsed.{Parsed, ok, bind, ensure}
+use lib.Dec.{eqb}
+use Rattle.fields.specs.Parsed.{Parsed, ok, bind}
 use Rattle.fields.specs.Number.{two, four, fieldAt}
 use Rattle.fields.specs.Bytes.{twoBytes, fourBytes, numberBytes}
 use Rattle.body.specs.Expr.{Head, Expr, Exprs, node, none, more, argWidth, fixedCount, countWidth, lastWidth, Scope, argLimit, typeOk, named, genericCallee, headAt, endAt, restAt, exprAt, exprsBy, exprsAt}
@@ -17,7 +17,7 @@ use Rattle.body.specs.Stands.{count}
 use Rattle.encoding.specs.Written.{Written}
 use Rattle.encoding.specs.Body.{encodeExpr, encodeExprs}
 use Rattle.encoding.specs.Valid.{ValidScope, argBelow, ValidNode, EachExpr, ValidExpr}
-use Rattle.encoding.proofs.Parts.{split, here, room, two-here, four-here, field-read-back, goes, passes}
+use Rattle.encoding.proofs.Parts.{split, here, two-here, four-here, field-read-back, goes, passes}
 use Rattle.encoding.proofs.Runs.{many-none, many-more}
 use Rattle.encoding.proofs.ExprWritten.{arg-width, count-width, last-width, one-arg}
 

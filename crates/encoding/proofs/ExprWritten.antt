@@ -1,7 +1,7 @@
 -- The bytes from which an expression was read are those that it is written in.
 -- Assumes nothing.
-use mathlib.Core.Path.{_≡_, refl, sym, ap, _∙_, subst, subst₂}
-use mathlib.Core.List.{List, [], _∷_, _++_}
+use mathlib.Core.Path.{_≡_, refl, sym, ap, subst₂}
+use mathlib.Core.List.{List, [], _∷_}
 use mathlib.Core.Bool.{Bool, true, false, cond, _||_}
 use mathlib.Core.Logic.{_⊎_, inl, inr, ⊎-elim}
 use Prim.Native.Nat.{ℕ, zero, suc, _+_, _-_, _≤_, _<_}
@@ -9,12 +9,12 @@ use native.Mathlib.Omega.{arith}
 use borrow.Author.Tests.{leb-true, ltb-true}
 use lib.ListN.{length, getD}
 use lib.Dec.{T, leb, eqb, leb→le, eqb→eq, eqb·suc-zero}
-use Rattle.fields.specs.Parsed.{Parsed, ok, bind, ensure}
+use Rattle.fields.specs.Parsed.{Parsed, ok}
 use Rattle.fields.specs.Number.{two, four}
 use Rattle.fields.specs.Bytes.{twoBytes, fourBytes, numberBytes, Bytes}
 use Rattle.fields.proofs.Inverse.{bound, ensure-ok, impossible}
 use Rattle.fields.proofs.Rules.{at}
-use Rattle.body.specs.Expr.{Head, Expr, Exprs, node, none, more, argWidth, fixedCount, countWidth, lastWidth, Scope, named, headAt, endAt, restAt, exprAt, exprsBy, exprsAt}
+use Rattle.body.specs.Expr.{Head, Expr, Exprs, node, none, more, argWidth, countWidth, lastWidth, Scope, named, headAt, endAt, restAt, exprAt, exprsBy, exprsAt}
 use Rattle.body.specs.Stands.{count}
 use Rattle.encoding.specs.Written.{Written}
 use Rattle.encoding.specs.Body.{encodeExpr, encodeExprs}

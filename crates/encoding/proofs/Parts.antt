@@ -2,7 +2,7 @@
 -- Assumes nothing.
 use mathlib.Core.Path.{_≡_, refl, sym, ap, _∙_, subst}
 use mathlib.Core.List.{List, [], _∷_, _++_, append-assoc}
-use mathlib.Core.Logic.{_⊎_, inl, inr, ⊎-elim}
+use mathlib.Core.Logic.{_⊎_, ⊎-elim}
 use Prim.Native.Nat.{ℕ, zero, suc, _+_, _-_, _*_, _/_, _%_, _≤_, _<_}
 use native.Mathlib.Omega.{arith}
 use native.Mathlib.Numerals.{add-one}
@@ -11,8 +11,8 @@ use lib.Seq.{drop-cons, drop-drop, drop-append-seam, getD-drop}
 use Rattle.fields.specs.Parsed.{Parsed, ok, bind, ensure}
 use mathlib.Core.Bool.{Bool, true}
 use Rattle.fields.specs.Number.{two, four, numberIn, fieldAt}
-use Rattle.fields.specs.Bytes.{twoBytes, fourBytes, numberBytes, Bytes, Part}
-use Rattle.fields.proofs.Numbers.{Field, field-ok, field-good}
+use Rattle.fields.specs.Bytes.{twoBytes, fourBytes, numberBytes, Bytes}
+use Rattle.fields.proofs.Numbers.{field-ok, field-good}
 use Rattle.encoding.specs.Written.{Written}
 
 -- putting together

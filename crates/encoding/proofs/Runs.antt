@@ -1,14 +1,12 @@
 -- Runs of entries: what was read is what was written, and what was written is read back, for any entry.
 -- Assumes nothing.
-use mathlib.Core.Path.{_≡_, refl, sym, ap, _∙_, subst, subst₂}
+use mathlib.Core.Path.{_≡_, refl, sym, ap, _∙_, subst₂}
 use mathlib.Core.List.{List, [], _∷_, _++_, append-assoc, append-nil}
-use mathlib.Core.Logic.{_⊎_, inl, inr}
-use Prim.Native.Nat.{ℕ, zero, suc, _+_, _≤_, _<_}
+use mathlib.Core.Logic.{inl}
+use Prim.Native.Nat.{ℕ, zero, suc, _≤_, _<_}
 use native.Mathlib.Omega.{arith}
-use borrow.Author.Tests.{le-leb}
 use lib.ListN.{length}
-use Rattle.fields.specs.Parsed.{Parsed, ok, bind, ensure}
-use Rattle.fields.specs.Number.{fieldAt}
+use Rattle.fields.specs.Parsed.{Parsed, ok, bind}
 use Rattle.fields.specs.Table.{manyOf, tableFrom, tableAt}
 use Rattle.fields.specs.Bytes.{twoBytes, numberBytes, eachBytes, Bytes}
 use Rattle.fields.proofs.Inverse.{bound}

@@ -1,16 +1,16 @@
 -- The bytes of a statement by the tables of its layout: what encodeCode writes before the rest of the list.
 -- Assumes nothing.
-use mathlib.Core.Path.{_≡_, refl, sym, ap, _∙_, subst}
+use mathlib.Core.Path.{_≡_, refl, sym, ap, _∙_}
 use mathlib.Core.List.{List, [], _∷_, _++_, append-assoc, append-nil}
-use mathlib.Core.Bool.{Bool, true, false, cond, _&&_}
+use mathlib.Core.Bool.{Bool, false, cond, _&&_}
 use Prim.Native.Nat.{ℕ, zero, suc, _+_, _≤_, _<_}
 use native.Mathlib.Omega.{arith}
 use lib.ListN.{length, getD}
 use lib.Dec.{eqb, leb, leb→le}
 use Rattle.fields.specs.Bytes.{twoBytes, fourBytes, numberBytes, eachBytes}
 use Rattle.fields.proofs.Rules.{at}
-use Rattle.body.specs.Expr.{Expr, Exprs, none, more}
-use Rattle.body.specs.Stmt.{Tree, Block, StmtHead, Stmt, headBytes, valueFlag, valueCount, typeWidth, blockCount, elseFlag, firstValue, secondValue, firstBlock, beforeOf, before}
+use Rattle.body.specs.Expr.{Exprs, none, more}
+use Rattle.body.specs.Stmt.{Tree, Block, StmtHead, headBytes, valueFlag, valueCount, typeWidth, blockCount, elseFlag, firstValue, secondValue, firstBlock, beforeOf, before}
 use Rattle.body.specs.Stands.{count}
 use Rattle.encoding.specs.Body.{encodeExpr, encodeExprs, encodeCode, encodeBlock, size}
 

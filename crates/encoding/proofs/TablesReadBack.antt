@@ -1,16 +1,16 @@
 -- A valid table or entry is read back from the bytes that it is written in.
 -- Assumes nothing.
-use mathlib.Core.Path.{_≡_, refl, sym, ap, _∙_, subst, subst₂}
+use mathlib.Core.Path.{_≡_, refl, sym, ap, subst, subst₂}
 use mathlib.Core.List.{List, [], _∷_, _++_}
-use mathlib.Core.Bool.{Bool, true, false, cond, not, _&&_, _||_}
-use mathlib.Core.Logic.{_⊎_, inl, inr, ⊎-elim}
+use mathlib.Core.Bool.{true, cond, _||_}
+use mathlib.Core.Logic.{inl, inr, ⊎-elim}
 use Prim.Native.Nat.{ℕ, zero, suc, _+_, _-_, _≤_, _<_}
 use native.Mathlib.Omega.{arith}
-use borrow.Author.Tests.{le-leb, lt-ltb, eq-eqb, eqb-true, ltb-true, ltb-false, le-ltb}
+use borrow.Author.Tests.{le-leb, lt-ltb, eq-eqb, le-ltb}
 use lib.ListN.{length, getD}
-use lib.Dec.{ltb, leb, eqb}
-use Rattle.fields.specs.Parsed.{Parsed, ok, bind, ensure}
-use Rattle.fields.specs.Bytes.{twoBytes, fourBytes, numberBytes, eachBytes, Bytes}
+use lib.Dec.{ltb, eqb}
+use Rattle.fields.specs.Parsed.{ok}
+use Rattle.fields.specs.Bytes.{twoBytes, fourBytes, numberBytes}
 use Rattle.fields.proofs.Tests.{less}
 use Rattle.tables.specs.Limits.{Limits}
 use Rattle.tables.specs.Name.{bytesAt, nameOf, sameBytes, thisName, nameAt, namesAt}
@@ -19,7 +19,7 @@ use Rattle.tables.specs.Signature.{Method, Struct, Global, Param, Entry, method
 use Rattle.tables.specs.Tables.{Tables}
 use Rattle.encoding.specs.Written.{Written}
 use Rattle.encoding.specs.Tables.{encodeTable, encodeName, encodeType, encodeMethod, encodeStruct, encodeGlobal, encodeParam, encodeEntry, encodeTables}
-use Rattle.encoding.specs.Valid.{Each, ValidName, ValidNames, ValidType, ValidTypes, ValidMethod, ValidStruct, ValidStructs, ValidGlobal, ValidGlobals, ValidParam, ValidEntry, ValidTables}
+use Rattle.encoding.specs.Valid.{ValidName, ValidNames, ValidType, ValidTypes, ValidMethod, ValidStruct, ValidStructs, ValidGlobal, ValidGlobals, ValidParam, ValidEntry, ValidTables}
 use Rattle.encoding.proofs.Parts.{split, here, room, field-read-back, goes, passes}
 use Rattle.encoding.proofs.Runs.{table-read-back}
 use Rattle.encoding.proofs.TablesWritten.{of-width, shape-width, this-width}

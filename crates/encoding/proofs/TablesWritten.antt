@@ -1,16 +1,16 @@
 -- The bytes from which a table or the entry was read are those that it is written in.
 -- Assumes nothing.
-use mathlib.Core.Path.{_≡_, refl, sym, ap, _∙_, subst, subst₂}
-use mathlib.Core.List.{List, [], _∷_, _++_}
+use mathlib.Core.Path.{_≡_, refl, sym, ap, _∙_, subst₂}
+use mathlib.Core.List.{List, _∷_}
 use mathlib.Core.Bool.{Bool, true, false, cond}
-use mathlib.Core.Logic.{_⊎_, inl, inr}
+use mathlib.Core.Logic.{inl, inr}
 use Prim.Native.Nat.{ℕ, zero, suc, _+_, _-_, _≤_, _<_}
 use native.Mathlib.Omega.{arith}
 use borrow.Author.Tests.{leb-true}
 use lib.ListN.{length, getD}
 use lib.Dec.{ltb, leb, leb→le}
-use Rattle.fields.specs.Parsed.{Parsed, ok, bind, ensure}
-use Rattle.fields.specs.Bytes.{twoBytes, fourBytes, numberBytes, eachBytes, Bytes}
+use Rattle.fields.specs.Parsed.{ok}
+use Rattle.fields.specs.Bytes.{numberBytes, Bytes}
 use Rattle.fields.proofs.Inverse.{bound, ensure-ok}
 use Rattle.fields.proofs.Numbers.{field-ok}
 use Rattle.fields.proofs.Rules.{at}

@@ -2,7 +2,7 @@
 use Prim.Native.Nat.{ℕ, zero, suc, _+_, _≤_, _<_}
 use mathlib.Core.Path.{_≡_}
 use mathlib.Core.List.{List, [], _∷_, _++_}
-use mathlib.Core.Bool.{Bool, true, false, cond, _&&_}
+use mathlib.Core.Bool.{true, false, cond}
 use lib.ListN.{length, getD}
 use lib.Dec.{eqb}
 use Rattle.fields.specs.Bytes.{Bytes}
@@ -14,7 +14,7 @@ use Rattle.tables.specs.Ty.{Ty, ofLimit}
 use Rattle.tables.specs.Signature.{Method, Struct, Global, Param, Entry, methodNames, globalNames, rises}
 use Rattle.body.specs.Expr.{Head, Expr, Exprs, node, none, more, argWidth, fixedCount, countWidth, lastWidth, Scope, argLimit, genericCallee}
 use Rattle.body.specs.Stands.{count}
-use Rattle.body.specs.Stmt.{Code, Tree, Block, done, exprStmt, variable, assign, return, bareReturn, block, ifElse, ifThen, while, jump}
+use Rattle.body.specs.Stmt.{Tree, Block, done, exprStmt, variable, assign, return, bareReturn, block, ifElse, ifThen, while, jump}
 use Rattle.encoding.specs.Body.{size}
 
 -- each entry is valid after those before it; xs are those before
