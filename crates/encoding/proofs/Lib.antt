@@ -8,3 +8,4 @@ pub mod ExprReadBack
 pub mod StmtBytes
 pub mod BodyWritten
 pub mod BodyReadBack
+pub mod TablesValid
