@@ -1,6 +1,6 @@
 -- The bytes from which statements or a block were read are those that they are written in.
 -- Assumes nothing.
-use mathlib.Core.Path.{_≡_, refl, sym, ap, _∙_, subst, subst₂}
+use mathlib.Core.Path.{_≡_, refl, sym, ap, _∙_, subst₂}
 use mathlib.Core.List.{List, [], _∷_, _++_}
 use mathlib.Core.Bool.{Bool, true, false, cond, _&&_}
 use mathlib.Core.Logic.{inl}
@@ -10,25 +10,20 @@ use borrow.Author.Tests.{leb-true, ltb-true}
 use lib.ListN.{length, getD}
 use lib.Dec.{eqb}
 use Rattle.fields.specs.Parsed.{Parsed, ok}
-use Rattle.fields.specs.Number.{two, four, fieldAt}
+use Rattle.fields.specs.Number.{two, four}
 use Rattle.fields.specs.Table.{manyOf}
 use Rattle.fields.specs.Bytes.{twoBytes, fourBytes, numberBytes, eachBytes, Bytes}
 use Rattle.fields.proofs.Inverse.{bound, ensure-ok, impossible}
-use Rattle.fields.proofs.Numbers.{field-ok}
 use Rattle.fields.proofs.Tests.{false-true}
-use Rattle.body.specs.Expr.{Exprs, Scope, exprsAt}
-use Rattle.body.specs.Stmt.{Tree, Block, StmtHead, Stmt, done, headBytes, valueFlag, valueCount, typeWidth, blockCount, elseFlag, stmtHeadAt, valuesAt, frontAt, backAt, stmtAt, before, stmtsBy, stmtsAt, blockAt}
+use Rattle.body.specs.Expr.{Scope}
+use Rattle.body.specs.Stmt.{Tree, Block, StmtHead, Stmt, done, headBytes, valueFlag, elseFlag, stmtHeadAt, stmtAt, before, stmtsBy, stmtsAt, blockAt}
 use Rattle.encoding.specs.Written.{Written}
 use Rattle.encoding.specs.Body.{encodeCode, encodeBlock, size}
 use Rattle.encoding.proofs.Parts.{byte-at, then, nothing, upto, being, two-at, four-at, field-written}
 use Rattle.encoding.proofs.Runs.{many-all}
 use Rattle.encoding.proofs.ExprWritten.{exprs-written}
+use Rattle.encoding.proofs.StmtRead.{stmt-read, flag-small}
 use Rattle.encoding.proofs.StmtBytes.{headPart, stmtBytes, Shape, value-flag, else-flag, type-width, head-width, encodes}
-
-flag-small : (k : ℕ) (s : List ℕ) (p n q : ℕ) → k ≤ 1 → fieldAt 8 2 k s p ≡ ok n q → n < 1 + k
-flag-small zero s p n q le e = let z : n ≡ 0 = field-ok e .is in omega arith
-flag-small (suc zero) s p n q le e = field-ok e .small
-flag-small (suc (suc k)) s p n q le e = absurd (omega arith)
 
 -- what a statement's reading tells
 pub record StmtWritten (s : List ℕ) (x : Stmt) (p q : ℕ) : Type 0 where
@@ -78,49 +73,28 @@ module _ (s : List ℕ) (small : Bytes s) where
         (λ p. (nothing, refl)) (λ b bs n p q r x y. (then x (y .0), ap suc (y .1))) each
 
     stmt-written : (t : Scope) (p : ℕ) (x : Stmt) (q : ℕ) → stmtAt f t s p ≡ ok x q → StmtWritten s x p q
-    unfolding stmtAt frontAt valuesAt backAt stmtBytes
+    unfolding stmtBytes
     stmt-written t p x q e =
-        bound e (λ front p4 ef eb.
-        bound ef (λ h p1 eh ev.
-        bound ev (λ n p2 en ew.
-        bound ew (λ es p3 es1 el.
-        bound el (λ l p5 el1 eo.
-        bound eb (λ bs p6 ebs e6.
-        bound e6 (λ m p7 em e7.
-        bound e7 (λ cs p8 ecs e8.
-        let z : record { head = h; values = es; last = l } ≡ front = cc in
-        let y : p5 ≡ p4 = cc in
-        let k : front .head .tag ≡ h .tag = ap (λ r. r .head .tag) (sym z) in
-        assembled t p x q h es l bs cs n m p1 p2 p3 p4 p6 p7 p8 eh en es1
-        (subst (λ r. fieldAt 8 (t .types) (getD typeWidth (h .tag) 0) s p3 ≡ ok l r) y el1)
-        (subst (λ r. manyOf [] _∷_ f (getD blockCount r 0) p4 ≡ ok bs p6) k ebs)
-        (subst (λ r. fieldAt 8 2 (getD elseFlag r 0) s p6 ≡ ok m p7) k em)
-        ecs (ap (λ r. ok (record { front = r; blocks = bs; others = cs }) p8) z ∙ e8)))))))))
-      where
-        assembled : (t : Scope) (p : ℕ) (x : Stmt) (q : ℕ) (h : StmtHead) (es : Exprs) (l : ℕ) (bs cs : List Block) (n m p1 p2 p3 p4 p6 p7 p8 : ℕ)
-            → stmtHeadAt (t .names) (t .types) s p ≡ ok h p1 → fieldAt 8 2 (getD valueFlag (h .tag) 0) s p1 ≡ ok n p2
-            → exprsAt t s (t .exprDepth) (getD valueCount (h .tag) 0 + n) p2 ≡ ok es p3 → fieldAt 8 (t .types) (getD typeWidth (h .tag) 0) s p3 ≡ ok l p4
-            → manyOf [] _∷_ f (getD blockCount (h .tag) 0) p4 ≡ ok bs p6 → fieldAt 8 2 (getD elseFlag (h .tag) 0) s p6 ≡ ok m p7 → manyOf [] _∷_ f m p7 ≡ ok cs p8
-            → ok (record { front = record { head = h; values = es; last = l }; blocks = bs; others = cs }) p8 ≡ ok x q → StmtWritten s x p q
-        assembled t p x q h es l bs cs n m p1 p2 p3 p4 p6 p7 p8 eh en ees el ebs em ecs ex =
-            let wh = stmt-head-written (t .names) (t .types) p h p1 eh in
-            let we = exprs-written s small t (t .exprDepth) _ p2 es p3 ees in
-            let wb = blocks-written _ p4 bs p6 ebs in
-            let wc = blocks-written m p7 cs p8 ecs in
-            let high : h .tag < 11 = wh .2 in
-            let fm : m < 1 + getD elseFlag (h .tag) 0 = flag-small _ s p6 m p7 (else-flag (h .tag) high) em in
-            let lm : length cs ≡ m = wc .1 in
-            let z : record { front = record { head = h; values = es; last = l }; blocks = bs; others = cs } ≡ x = cc in
-            let y : p8 ≡ q = cc in
-            let vf = value-flag (h .tag) high in
-            let ef = else-flag (h .tag) high in
-            subst₂ (λ v r. StmtWritten s v p r) z y record {
-              flag = n;
-              shape = record { low = wh .1; high = high; values = we .1; flag = flag-small _ s p1 n p2 vf en; blocks = wb .1; others = omega arith };
-              bytes = then (wh .0) (then (field-written s small _ _ {k = getD valueFlag (h .tag) 0} (inl (omega arith)) en) (then (we .0)
-                  (then (field-written s small _ _ (inl (type-width (h .tag) high)) el) (then (wb .0)
-                  (then (being (ap (numberBytes (getD elseFlag (h .tag) 0)) (sym lm)) (field-written s small _ _ {k = getD elseFlag (h .tag) 0} (inl (omega arith)) em)) (wc .0))))));
-            }
+        let g = stmt-read f t s x p q e in
+        let tag = x .front .head .tag in
+        let wh = stmt-head-written (t .names) (t .types) p (x .front .head) (g .p1) (g .head) in
+        let we = exprs-written s small t (t .exprDepth) _ (g .p2) (x .front .values) (g .p3) (g .values) in
+        let wb = blocks-written _ (g .p4) (x .blocks) (g .p5) (g .blocks) in
+        let wc = blocks-written (g .other) (g .p6) (x .others) q (g .others) in
+        let high : tag < 11 = wh .2 in
+        let vf = value-flag tag high in
+        let ef = else-flag tag high in
+        let lm : length (x .others) ≡ g .other = wc .1 in
+        let fm : g .other < 1 + getD elseFlag tag 0 = flag-small _ s (g .p5) (g .other) (g .p6) ef (g .followed) in
+        record {
+          flag = g .flag;
+          shape = record {
+            low = wh .1; high = high; values = we .1; flag = flag-small _ s (g .p1) (g .flag) (g .p2) vf (g .flagged); blocks = wb .1; others = omega arith;
+          };
+          bytes = then (wh .0) (then (field-written s small _ _ {k = getD valueFlag tag 0} (inl (omega arith)) (g .flagged)) (then (we .0)
+            (then (field-written s small _ _ (inl (type-width tag high)) (g .last)) (then (wb .0)
+            (then (being (ap (numberBytes (getD elseFlag tag 0)) (sym lm)) (field-written s small _ _ {k = getD elseFlag tag 0} (inl (omega arith)) (g .followed))) (wc .0))))));
+        }
 
     stmts-by-written : (t : Scope) (n p : ℕ) (c : Tree) (q : ℕ) → stmtsBy f t s n p ≡ ok c q → Written s p (encodeCode c) q × (size c ≡ n)
     unfolding encodeCode size

@@ -1,14 +1,14 @@
 -- A table or entry that was read is valid: with Written and ReadBack, the readers accept just the bytes of valid values.
 -- Assumes nothing.
-use mathlib.Core.Path.{_≡_, refl, sym, ap, _∙_, subst, subst₂}
+use mathlib.Core.Path.{_≡_, refl, sym, ap, _∙_, subst}
 use mathlib.Core.List.{List, [], _∷_, _++_, append-assoc, append-nil}
-use mathlib.Core.Bool.{Bool, true, false, cond, not, _&&_, _||_}
-use Prim.Native.Nat.{ℕ, zero, suc, _+_, _-_, _≤_, _<_}
+use mathlib.Core.Bool.{true, cond, _||_}
+use Prim.Native.Nat.{ℕ, zero, suc, _+_, _≤_, _<_}
 use native.Mathlib.Omega.{arith}
 use borrow.Author.Tests.{leb-true, ltb-true, lt-ltb, eqb-true, not-true}
 use lib.ListN.{length, getD}
-use lib.Dec.{ltb, leb, eqb}
-use Rattle.fields.specs.Parsed.{Parsed, ok, bind, ensure}
+use lib.Dec.{ltb, eqb}
+use Rattle.fields.specs.Parsed.{Parsed, ok}
 use Rattle.fields.specs.Number.{numberIn, fieldAt}
 use Rattle.fields.specs.Table.{tableFrom, tableAt}
 use Rattle.fields.specs.Bytes.{Bytes}
@@ -17,8 +17,8 @@ use Rattle.fields.proofs.Numbers.{field-ok}
 use Rattle.fields.proofs.Tables.{table-parts}
 use Rattle.fields.proofs.Tests.{and-true, false-true}
 use Rattle.tables.specs.Limits.{Limits}
-use Rattle.tables.specs.Name.{bytesAt, nameOf, sameBytes, thisName, nameAt, namesAt}
-use Rattle.tables.specs.Ty.{Ty, ofWidth, shapeWidth, ofLimit, typeAt, typesAt}
+use Rattle.tables.specs.Name.{bytesAt, nameOf, sameBytes, nameAt, namesAt}
+use Rattle.tables.specs.Ty.{Ty, shapeWidth, typeAt, typesAt}
 use Rattle.tables.specs.Signature.{Method, Struct, Global, Param, Entry, methodAt, structAt, structsAt, globalAt, globalsAt, paramAt, thisWidth, entryAt}
 use Rattle.encoding.specs.Valid.{Each, ValidName, ValidNames, ValidType, ValidTypes, ValidMethod, ValidStruct, ValidStructs, ValidGlobal, ValidGlobals, ValidParam, ValidEntry}
 use Rattle.encoding.proofs.TablesWritten.{bytes-length}
