@@ -89,11 +89,16 @@ module _ (s : List ℕ) (small : Bytes s) where
         record {
           flag = g .flag;
           shape = record {
-            low = wh .1; high = high; values = we .1; flag = flag-small _ s (g .p1) (g .flag) (g .p2) vf (g .flagged); blocks = wb .1; others = omega arith;
+            low = wh .1;
+            high = high;
+            values = we .1;
+            flag = flag-small _ s (g .p1) (g .flag) (g .p2) vf (g .flagged);
+            blocks = wb .1;
+            others = omega arith;
           };
           bytes = then (wh .0) (then (field-written s small _ _ {k = getD valueFlag tag 0} (inl (omega arith)) (g .flagged)) (then (we .0)
-            (then (field-written s small _ _ (inl (type-width tag high)) (g .last)) (then (wb .0)
-            (then (being (ap (numberBytes (getD elseFlag tag 0)) (sym lm)) (field-written s small _ _ {k = getD elseFlag tag 0} (inl (omega arith)) (g .followed))) (wc .0))))));
+              (then (field-written s small _ _ (inl (type-width tag high)) (g .last)) (then (wb .0)
+              (then (being (ap (numberBytes (getD elseFlag tag 0)) (sym lm)) (field-written s small _ _ {k = getD elseFlag tag 0} (inl (omega arith)) (g .followed))) (wc .0))))));
         }
 
     stmts-by-written : (t : Scope) (n p : ℕ) (c : Tree) (q : ℕ) → stmtsBy f t s n p ≡ ok c q → Written s p (encodeCode c) q × (size c ≡ n)

@@ -111,10 +111,10 @@ module _ (s : List ℕ) (small : Bytes s) (t : Scope) where
             ty = v .ty;
             delete = v .delete;
             arg = arg-valid (t .names) (getD argWidth (h .tag) 0) (getD lastWidth (h .tag) 0) (h .arg) a (arg-width (h .tag) (v .high))
-              (last-width (h .tag) (v .high)) (one-arg (h .tag) (v .high)) (v .arg) (field-ok e7 .small) (v .without);
+                (last-width (h .tag) (v .high)) (one-arg (h .tag) (v .high)) (v .arg) (field-ok e7 .small) (v .without);
             fixed = vk .1;
             items = subst (λ m. m < cond (eqb (getD countWidth (h .tag) 0) 0) 1 65536) (sym (vx .1))
-              (below-valid (getD countWidth (h .tag) 0) n 65536 (field-ok e3 .small) (field-none _ _ _ s p2 n p3 e3));
+                (below-valid (getD countWidth (h .tag) 0) n 65536 (field-ok e3 .small) (field-none _ _ _ s p2 n p3 e3));
             receiver = receiver-valid (h .tag) _ (e9 .0);
           },
           vk .0,

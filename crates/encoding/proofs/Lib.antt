@@ -11,3 +11,4 @@ pub mod BodyWritten
 pub mod BodyReadBack
 pub mod TablesValid
 pub mod ExprValid
+pub mod BodyValid

@@ -41,9 +41,16 @@ module _ (f : ℕ → Parsed Block) (t : Scope) (s : List ℕ) where
       let k : front .head .tag ≡ h .tag = ap (λ r. r .head .tag) (sym z) in
       let w : v ≡ q = cc in
       let a : record { front = record { head = h; values = es; last = l }; blocks = bs; others = cs } ≡ x =
-          ap (λ r. record { front = r; blocks = bs; others = cs }) z ∙ cc in
+      ap (λ r. record { front = r; blocks = bs; others = cs }) z ∙ cc in
       subst₂ (λ r i. StmtRead f t s r p i) a w record {
-        flag = n; other = m; p1 = p1; p2 = p2; p3 = p3; p4 = p4; p5 = p5; p6 = p6;
+        flag = n;
+        other = m;
+        p1 = p1;
+        p2 = p2;
+        p3 = p3;
+        p4 = p4;
+        p5 = p5;
+        p6 = p6;
         head = eh;
         flagged = en;
         values = ees;

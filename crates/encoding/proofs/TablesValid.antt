@@ -148,7 +148,12 @@ module _ (s : List ℕ) where
       let v = table-valid (methodAt (length ns) s) (ValidMethod (length ns)) (method-valid (length ns)) _ _ _ s p3 ms p4 e7 in
       let few : length ms < L .methods + 1 = v .1 in
       subst (ValidStruct L ns ss) a record {
-        name = field-ok e1 .small; rising = g .0; destructor = field-ok e3 .small; shape = field-ok e5 .small; few = omega arith; methods = v .2;
+        name = field-ok e1 .small;
+        rising = g .0;
+        destructor = field-ok e3 .small;
+        shape = field-ok e5 .small;
+        few = omega arith;
+        methods = v .2;
       }))))
 
   pub structs-valid : (L : Limits) (ns : List (List ℕ)) (p : ℕ) (xs : List Struct) (q : ℕ) → structsAt L ns s p ≡ ok xs q → ValidStructs L ns xs
