@@ -22,7 +22,7 @@ use Rattle.encoding.specs.Body.{encodeExprs, encodeCode, encodeBlock, si
 use Rattle.encoding.specs.Valid.{Each, ValidScope, EachExpr, ValidExpr, ValidCode, ValidBlock}
 use Rattle.encoding.proofs.Parts.{being, split, here, room, two-here, four-here, field-read-back, goes, passes}
 use Rattle.encoding.proofs.Runs.{many-none, many-more}
-use Rattle.encoding.proofs.ExprReadBack.{exprs-read-back}
+use Rattle.encoding.proofs.ExprReadBack.{below-limit, exprs-read-back}
 use Rattle.encoding.proofs.StmtBytes.{headPart, stmtBytes, Shape, value-flag, else-flag, type-width, head-width, encodes}
 
 -- the numbers of a head, from its bytes: b of a Block, c of a Let or Const
@@ -98,14 +98,6 @@ stmt-head-back names types s p tag span name ty q low high e g =
     (passes _ (le-leb w (length s - p) n)
     (passes _ (binds-here names types (eqb w 9) (two s (p + 5)) (two s (p + 7)) name ty (g .name-here) (g .ty-here) e) refl))))
 
--- a type after the values: 0 where it has no bytes
-last-below : (types k l : ℕ) → 0 < types → l < cond (eqb k 0) 1 types → (k ≡ 0 → l ≡ 0) × (l < types)
-last-below types k l some lt = (λ z. let g : l < 1 = rw z at lt in omega arith, below (eqb k 0) lt)
-  where
-    below : (b : Bool) → l < cond b 1 types → l < types
-    below true g = omega arith
-    below false g = g
-
 -- the numbers of values and blocks, as one test
 shapeOk : ℕ → Exprs → ℕ → List Block → List Block → Bool
 shapeOk tag es n bs cs =
@@ -168,7 +160,7 @@ module _ (t : Scope) (scope : ValidScope t) (s : List ℕ) where
         let ef : mflag ≤ 1 = else-flag (h .tag) (sh .high) in
         let ln : n < 1 + nflag = sh .flag in
         let lm : length cs < 1 + mflag = sh .others in
-        let la = last-below (t .types) width l (scope .types) (v .last) in
+        let la = below-limit width l (t .types) (scope .types) (v .last) in
         split (headPart (h .tag) h) (numberBytes nflag n ++ (encodeExprs es ++ (numberBytes width l ++ back))) g (λ p1 g1 r1.
         split (numberBytes nflag n) (encodeExprs es ++ (numberBytes width l ++ back)) r1 (λ p2 g2 r2.
         split (encodeExprs es) (numberBytes width l ++ back) r2 (λ p3 g3 r3.

@@ -95,13 +95,13 @@ args names zero (suc (suc (suc k))) x some lb lk w lt = absurd (omega arith)
 args names (suc zero) (suc k) x some lb lk w lt = absurd (⊎-elim (λ z. omega arith) (λ z. omega arith) w)
 args names (suc (suc zero)) (suc k) x some lb lk w lt = absurd (⊎-elim (λ z. omega arith) (λ z. omega arith) w)
 
--- the count: 0 where it has no bytes
-count-below : (k n : ℕ) → n < cond (eqb k 0) 1 65536 → (k ≡ 0 → n ≡ 0) × (n < 65536)
-count-below k n lt = (λ z. let g : n < 1 = rw z at lt in omega arith, below (eqb k 0) lt)
+-- a number below a limit that is 1 where it has no bytes
+pub below-limit : (k n limit : ℕ) → 0 < limit → n < cond (eqb k 0) 1 limit → (k ≡ 0 → n ≡ 0) × (n < limit)
+below-limit k n limit some lt = (λ z. let g : n < 1 = rw z at lt in omega arith, below (eqb k 0) lt)
   where
-    below : (b : Bool) → n < cond b 1 65536 → n < 65536
+    below : (b : Bool) → n < cond b 1 limit → n < limit
     below true l = omega arith
-    below false l = omega arith
+    below false l = l
 
 type-ok : (types tag ty : ℕ) → ty < types → (tag ≡ 10 → ty ≡ 0) → typeOk types tag ty ≡ true
 type-ok types tag ty lt f = rw (lt-ltb ty types lt) (plain (eqb tag 10) (λ e. eq-eqb ty 0 (f (eqb-true tag 10 e))))
@@ -155,7 +155,7 @@ module _ (t : Scope) (scope : ValidScope t) (s : List ℕ) where
         let end = encodeExprs xs ++ numberBytes k (h .arg) in
         let list = encodeExprs ks ++ (numberBytes n (count xs) ++ end) in
         let x = args (t .names) b k (h .arg) (scope .names) (arg-width (h .tag) (v .high)) (last-width (h .tag) (v .high)) (one-arg (h .tag) (v .high)) (v .arg) in
-        let c = count-below n (count xs) (v .items) in
+        let c = below-limit n (count xs) 65536 (omega arith) (v .items) in
         split (h .tag ∷ []) (fourBytes (h .span) ++ (twoBytes (h .ty) ++ (numberBytes b (h .arg) ++ list))) g (λ q1 g1 r1.
         split (fourBytes (h .span)) (twoBytes (h .ty) ++ (numberBytes b (h .arg) ++ list)) r1 (λ q2 g2 r2.
         split (twoBytes (h .ty)) (numberBytes b (h .arg) ++ list) r2 (λ q3 g3 r3.

@@ -8,7 +8,7 @@ use Prim.Native.Nat.{ℕ, zero, suc, _+_, _-_, _≤_, _<_}
 use native.Mathlib.Omega.{arith}
 use borrow.Author.Tests.{leb-true, ltb-true}
 use lib.ListN.{length, getD}
-use lib.Dec.{T, leb, eqb, leb→le, eqb→eq, eqb·suc-zero}
+use lib.Dec.{T, eqb, eqb→eq, eqb·suc-zero}
 use Rattle.fields.specs.Parsed.{Parsed, ok}
 use Rattle.fields.specs.Number.{two, four}
 use Rattle.fields.specs.Bytes.{twoBytes, fourBytes, numberBytes, Bytes}
@@ -18,25 +18,22 @@ use Rattle.body.specs.Expr.{Head, Expr, Exprs, node, none, more, argWidth, coun
 use Rattle.body.specs.Stands.{count}
 use Rattle.encoding.specs.Written.{Written}
 use Rattle.encoding.specs.Body.{encodeExpr, encodeExprs}
-use Rattle.encoding.proofs.Parts.{byte-at, then, nothing, upto, from, being, two-at, four-at, field-written}
+use Rattle.encoding.proofs.Parts.{at-most, byte-at, then, nothing, upto, from, being, two-at, four-at, field-written}
 use Rattle.encoding.proofs.Runs.{many-all}
 
 -- the table of layouts: no argument or count takes more than two bytes, and no tag has both a name after the children and an
 -- argument before them
-twoAtMost : ℕ → ℕ → Bool
-twoAtMost k x = leb x 2
-
 pub arg-width : (k : ℕ) → k < 16 → getD argWidth k 0 ≤ 2
-unfolding twoAtMost argWidth
-arg-width k lt = leb→le _ _ (at twoAtMost argWidth tt k lt)
+unfolding argWidth
+arg-width k lt = at-most 2 argWidth tt k lt
 
 pub count-width : (k : ℕ) → k < 16 → getD countWidth k 0 ≤ 2
-unfolding twoAtMost countWidth
-count-width k lt = leb→le _ _ (at twoAtMost countWidth tt k lt)
+unfolding countWidth
+count-width k lt = at-most 2 countWidth tt k lt
 
 pub last-width : (k : ℕ) → k < 16 → getD lastWidth k 0 ≤ 2
-unfolding twoAtMost lastWidth
-last-width k lt = leb→le _ _ (at twoAtMost lastWidth tt k lt)
+unfolding lastWidth
+last-width k lt = at-most 2 lastWidth tt k lt
 
 oneArg : ℕ → ℕ → Bool
 oneArg k x = eqb x 0 || eqb (getD argWidth k 0) 0

@@ -12,6 +12,8 @@ use Rattle.fields.specs.Parsed.{Parsed, ok, bind, ensure}
 use mathlib.Core.Bool.{Bool, true}
 use Rattle.fields.specs.Number.{two, four, numberIn, fieldAt}
 use Rattle.fields.specs.Bytes.{twoBytes, fourBytes, numberBytes, Bytes}
+use lib.Dec.{T, leb, leb→le}
+use Rattle.fields.proofs.Rules.{every, at}
 use Rattle.fields.proofs.Numbers.{field-ok, field-good}
 use Rattle.encoding.specs.Written.{Written}
 
@@ -167,3 +169,7 @@ goes k e f = rw e f
 pub passes : {A : Type 0} {b : Bool} (n : ℕ) {k y : Parsed A} → b ≡ true → k ≡ y → ensure b n k ≡ y
 unfolding ensure
 passes n e f = rw e f
+
+-- every entry of a table of widths is at most w: antt computes the test
+pub at-most : (w : ℕ) (xs : List ℕ) → T (every (λ k x. leb x w) 0 xs) → (k : ℕ) → k < length xs → getD xs k 0 ≤ w
+at-most w xs t k lt = leb→le _ _ (at (λ i x. leb x w) xs t k lt)

@@ -2,16 +2,17 @@
 -- Assumes nothing.
 use mathlib.Core.Path.{_≡_, refl, sym, ap, _∙_}
 use mathlib.Core.List.{List, [], _∷_, _++_, append-assoc, append-nil}
-use mathlib.Core.Bool.{Bool, false, cond, _&&_}
+use mathlib.Core.Bool.{false, cond, _&&_}
 use Prim.Native.Nat.{ℕ, zero, suc, _+_, _≤_, _<_}
 use native.Mathlib.Omega.{arith}
 use lib.ListN.{length, getD}
-use lib.Dec.{eqb, leb, leb→le}
+use lib.Dec.{eqb}
 use Rattle.fields.specs.Bytes.{twoBytes, fourBytes, numberBytes, eachBytes}
 use Rattle.fields.proofs.Rules.{at}
 use Rattle.body.specs.Expr.{Exprs, none, more}
 use Rattle.body.specs.Stmt.{Tree, Block, StmtHead, headBytes, valueFlag, valueCount, typeWidth, blockCount, elseFlag, firstValue, secondValue, firstBlock, beforeOf, before}
 use Rattle.body.specs.Stands.{count}
+use Rattle.encoding.proofs.Parts.{at-most}
 use Rattle.encoding.specs.Body.{encodeExpr, encodeExprs, encodeCode, encodeBlock, size}
 
 -- a head in so many bytes of a tag
@@ -35,20 +36,17 @@ pub record Shape (tag : ℕ) (es : Exprs) (n : ℕ) (bs cs : List Block) : Type 
   pub others : length cs < 1 + getD elseFlag tag 0
 
 -- widths of the layout
-atMost : ℕ → ℕ → ℕ → Bool
-atMost w k x = leb x w
-
 pub value-flag : (k : ℕ) → k < 11 → getD valueFlag k 0 ≤ 1
-unfolding atMost valueFlag
-value-flag k lt = leb→le _ _ (at (atMost 1) valueFlag tt k lt)
+unfolding valueFlag
+value-flag k lt = at-most 1 valueFlag tt k lt
 
 pub else-flag : (k : ℕ) → k < 11 → getD elseFlag k 0 ≤ 1
-unfolding atMost elseFlag
-else-flag k lt = leb→le _ _ (at (atMost 1) elseFlag tt k lt)
+unfolding elseFlag
+else-flag k lt = at-most 1 elseFlag tt k lt
 
 pub type-width : (k : ℕ) → k < 11 → getD typeWidth k 0 ≤ 2
-unfolding atMost typeWidth
-type-width k lt = leb→le _ _ (at (atMost 2) typeWidth tt k lt)
+unfolding typeWidth
+type-width k lt = at-most 2 typeWidth tt k lt
 
 -- what holds at the tags 1 to 10 holds at every tag
 pub tags : (P : ℕ → Type 0) → P 1 → P 2 → P 3 → P 4 → P 5 → P 6 → P 7 → P 8 → P 9 → P 10 → (k : ℕ) → 0 < k → k < 11 → P k

@@ -8,12 +8,11 @@ use Prim.Native.Nat.{ℕ, zero, suc, _+_, _-_, _≤_, _<_}
 use native.Mathlib.Omega.{arith}
 use borrow.Author.Tests.{leb-true}
 use lib.ListN.{length, getD}
-use lib.Dec.{ltb, leb, leb→le}
+use lib.Dec.{ltb}
 use Rattle.fields.specs.Parsed.{ok}
 use Rattle.fields.specs.Bytes.{numberBytes, Bytes}
 use Rattle.fields.proofs.Inverse.{bound, ensure-ok}
 use Rattle.fields.proofs.Numbers.{field-ok}
-use Rattle.fields.proofs.Rules.{at}
 use Rattle.tables.specs.Limits.{Limits}
 use Rattle.tables.specs.Name.{bytesAt, nameOf, nameAt, namesAt}
 use Rattle.tables.specs.Ty.{Ty, ofWidth, shapeWidth, typeAt, typesAt}
@@ -21,7 +20,7 @@ use Rattle.tables.specs.Signature.{Method, Struct, Global, Param, Entry, method
 use Rattle.encoding.specs.Written.{Written}
 use Rattle.encoding.specs.Tables.{encodeTable, encodeName, encodeType, encodeMethod, encodeStruct, encodeGlobal, encodeParam, encodeEntry, encodeTables}
 use Rattle.tables.specs.Tables.{Tables}
-use Rattle.encoding.proofs.Parts.{byte-at, then, nothing, upto, from, being, field-written}
+use Rattle.encoding.proofs.Parts.{at-most, byte-at, then, nothing, upto, from, being, field-written}
 use Rattle.encoding.proofs.Runs.{table-written}
 
 pub bytes-at : (s : List ℕ) (p n : ℕ) → p + n ≤ length s → Written s p (bytesAt s p n) (p + n)
@@ -35,16 +34,13 @@ bytes-length s p zero = refl
 bytes-length s p (suc n) = ap suc (bytes-length s (p + 1) n)
 
 -- the tables' widths
-twoAtMost : ℕ → ℕ → Bool
-twoAtMost k x = leb x 2
-
 pub of-width : (k : ℕ) → k < 5 → getD ofWidth k 0 ≤ 2
-unfolding twoAtMost ofWidth
-of-width k lt = leb→le _ _ (at twoAtMost ofWidth tt k lt)
+unfolding ofWidth
+of-width k lt = at-most 2 ofWidth tt k lt
 
 pub shape-width : (k : ℕ) → k < 5 → getD shapeWidth k 0 ≤ 2
-unfolding twoAtMost shapeWidth
-shape-width k lt = leb→le _ _ (at twoAtMost shapeWidth tt k lt)
+unfolding shapeWidth
+shape-width k lt = at-most 2 shapeWidth tt k lt
 
 cond-width : (b : Bool) → cond b 0 2 ≤ 2
 cond-width true = omega arith
