@@ -1,2 +1,4 @@
+pub mod Written
 pub mod Tables
 pub mod Body
+pub mod Valid
