@@ -2,19 +2,38 @@
 use Prim.Native.Nat.{ℕ, _+_, _*_, _≤_}
 use mathlib.Core.Path.{_≡_}
 use mathlib.Core.List.{List}
-use lib.ListN.{length}
+use mathlib.Core.Bool.{cond}
+use lib.ListN.{length, getD}
+use lib.Dec.{eqb}
 use Rattle.fields.specs.Parsed.{ok}
 use Rattle.fields.specs.Table.{entries}
-use Rattle.tables.specs.Limits.{version1}
+use Rattle.fields.specs.declared.Read.{Read}
+use Rattle.fields.specs.declared.Read.the-variants.{Next, Fault}
+use Rattle.fields.specs.declared.Number.{Number}
+use Rattle.fields.specs.declared.Number.the-variants.{Is, Wrong}
+use Rattle.tables.specs.Limits.{Limits, version1}
 use Rattle.tables.specs.Name.{nameOf}
 use Rattle.tables.specs.Ty.{Ty, typeIn}
 use Rattle.tables.specs.Signature.{globalIn, structIn, entryAt}
 use Rattle.tables.specs.Answer.{Listed}
 use Rattle.body.specs.Stmt.{blockAt}
-use Rattle.image.specs.Image.{Image, Decoded, accepted, decode, faultOf, restAt, scopeIn}
+use Rattle.image.specs.Image.{Image, Decoded, accepted, decode, outcome, faultOf, lengthOk, restAt, scopeIn}
 use Rattle.image.specs.declared.Layout.{Layout}
 use Rattle.image.specs.declared.Rest.{Rest}
 use Rattle.image.specs.declared.ImageRead.{ImageRead}
+
+-- faults 1 and 2, or 0
+unfoldable pub headFault : Limits → List ℕ → ℕ
+headFault L s = cond (lengthOk L s) (cond (eqb (getD s 4 0) (L .version)) 0 2) 1
+
+-- the fault of an answer, or 0
+unfoldable pub wrongOf : Number → ℕ
+wrongOf (Is n p) = 0
+wrongOf (Wrong k) = k
+
+unfoldable pub faultIn : Read → ℕ
+faultIn (Next p) = 0
+faultIn (Fault k) = k
 
 -- the structs, the globals, the entry and the body
 pub record RestStands (s starts : List ℕ) (i : Image) (r : Rest) : Type 0 where
@@ -24,6 +43,11 @@ pub record RestStands (s starts : List ℕ) (i : Image) (r : Rest) : Type 0 wher
   pub globalsFit : r .globals + 6 * r .«global_count» ≤ length s
   pub entry : entryAt version1 (length (i .tables .names)) (length (i .tables .types)) s (r .entry) ≡ ok (i .entry) (r .body)
   pub body : blockAt (scopeIn version1 (i .tables .names) (i .tables .types)) s 12 (r .body) ≡ ok (i .body) (length s)
+
+-- what the reader of the rest answers: the fault's number, or 0 and where everything stands
+pub record RestReads (ns : List (List ℕ)) (ts : List Ty) (s : List ℕ) (at : ℕ) (starts : List ℕ) (r : Rest) : Type 0 where
+  pub fault : r .fault ≡ faultOf (outcome (restAt version1 ns ts s at))
+  pub stands : (i : Image) (next : ℕ) → restAt version1 ns ts s at ≡ ok i next → RestStands s starts i r
 
 -- every part of the image
 pub record Laid (s : List ℕ) (i : Image) (l : Layout) : Type 0 where

@@ -1,0 +1,34 @@
+use borrow.Author.Needs.{needs}
+use Rattle.image.proofs.read_body.Statement.{statement}
+use Rattle.image.proofs.read_body.Tie as tie
+use Rattle.image.proofs.read_body.Reads as reads
+use Rattle.image.proofs.read_body.Lts as lts
+use Rattle.body.proofs.read_block.Reads as read-block-reads
+
+-- src/lib.rt:65:11
+read-block-requires : tie.Need-read-block-requires
+read-block-requires c κs = search needs
+
+-- src/lib.rt:66:29
+enum-known-f : tie.Need-enum-known-f
+enum-known-f c = search needs
+
+-- src/lib.rt:67:28
+enum-known-p : tie.Need-enum-known-p
+enum-known-p c = search needs
+
+-- src/lib.rt:62:1
+returns : tie.Need-returns
+returns c = ?
+
+-- src/lib.rt:62:1
+returns-2 : tie.Need-returns-2
+returns-2 c = ?
+
+-- src/lib.rt:62:1
+returns-3 : tie.Need-returns-3
+returns-3 c = ?
+
+pub read-body-spec : {M : Type 1} → statement M
+read-body-spec =
+    tie.close (tie.spec read-block-requires enum-known-f enum-known-p returns returns-2 returns-3)

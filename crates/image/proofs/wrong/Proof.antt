@@ -1,0 +1,24 @@
+use borrow.Author.Needs.{needs}
+use Rattle.image.proofs.wrong.Statement.{statement}
+use Rattle.image.proofs.wrong.Tie as tie
+use Rattle.image.proofs.wrong.Reads as reads
+use Rattle.image.proofs.wrong.Lts as lts
+
+-- src/lib.rt:115:37
+enum-told : tie.Need-enum-told
+enum-told c = search needs
+
+-- src/lib.rt:116:31
+enum-known-n : tie.Need-enum-known-n
+enum-known-n c = search needs
+
+-- src/lib.rt:111:1
+returns : tie.Need-returns
+returns c = ?
+
+-- src/lib.rt:111:1
+returns-2 : tie.Need-returns-2
+returns-2 c = ?
+
+pub wrong-spec : {M : Type 1} → statement M
+wrong-spec = tie.close (tie.spec enum-told enum-known-n returns returns-2)
