@@ -1,0 +1,5 @@
+-- What the proofs of several functions use.
+pub mod First
+pub mod Ty
+pub mod Signature
+pub mod Name
