@@ -11,8 +11,9 @@ use native.Mathlib.Numerals.{add-one}
 use lib.ListN.{length, getD, drop}
 use lib.Seq.{drop-cons, drop-length}
 use Rattle.fields.specs.Table.{entries}
-use Rattle.fields.proofs.Tests.{split}
-use Rattle.lookup.specs.First.{firstFrom, andThen}
+use Rattle.fields.proofs.Tests.{split, less}
+use Rattle.fields.proofs.Numbers.{past-end}
+use Rattle.lookup.specs.First.{firstFrom, andThen, Within}
 use Rattle.lookup.specs.Answer.{foundOf}
 use Rattle.lookup.specs.declared.Found.{Found}
 use Rattle.lookup.specs.declared.Found.the-variants.{At, Nothing}
@@ -107,3 +108,11 @@ pub viewed : {A : Type 0} (view : ℕ → A) (starts : List ℕ) (i : ℕ) (d : 
 viewed view [] i d lt = absurd (omega arith)
 viewed view (x ∷ xs) zero d lt = refl
 viewed view (x ∷ xs) (suc i) d lt = viewed view xs i d (omega arith)
+
+-- past the table a position counts as 0
+pub within : (s starts : List ℕ) → Within s starts → (n : ℕ) {at : ℕ} → at ≡ getD starts n 0 → at ≤ length s
+within s starts h n e =
+    ⊎-elim
+    (λ lt. let g : getD starts n 0 < length s = h n lt in omega arith)
+    (λ le. let g : getD starts n 0 ≡ 0 = past-end starts n le in omega arith)
+    (less n (length starts))

@@ -1,3 +1,9 @@
+use denote.Ref.{now}
+use mathlib.Core.Path.{_≡_, refl, sym, ap, _∙_}
+use native.Mathlib.Omega.{arith}
+use Rattle.tables.specs.Name.{nameOf}
+use Rattle.lookup.specs.Name.{isTemp}
+use Rattle.lookup.proofs.First.{within}
 use borrow.Author.Needs.{needs}
 use Rattle.lookup.proofs.is_compiler_temp_name.Statement.{statement}
 use Rattle.lookup.proofs.is_compiler_temp_name.Tie as tie
@@ -16,11 +22,11 @@ slice-aggregate-begins-with c = search needs
 
 -- src/lib.rt:211:5
 begins-with-requires : tie.Need-begins-with-requires
-begins-with-requires c κs = ?
+begins-with-requires c κs = within (now (c .before .before .before .before .args .s)) (now (c .before .before .before .before .args .names)) (c .before .before .before .before .pre) (c .before .before .before .before .args .n) (c .before .start-of .ensures)
 
 -- src/lib.rt:207:1
 returns : tie.Need-returns
-returns c = ?
+returns c = c .begins-with .ensures ∙ ap (λ p. isTemp (nameOf (now (c .before .before .before .before .before .args .s)) p)) (c .before .before .start-of .ensures)
 
 pub is-compiler-temp-name-spec : {M : Type 1} → statement M
 is-compiler-temp-name-spec =

@@ -1,3 +1,10 @@
+use denote.Ref.{now}
+use mathlib.Core.Path.{_≡_, refl, sym, ap, _∙_}
+use native.Mathlib.Omega.{arith}
+use Rattle.tables.specs.Name.{nameOf, moveName}
+use Rattle.lookup.specs.Name.{isMove}
+use Rattle.lookup.proofs.First.{within}
+use Rattle.lookup.proofs.Name.{name-is, name-not}
 use borrow.Author.Needs.{needs}
 use Rattle.lookup.proofs.is_move.Statement.{statement}
 use Rattle.lookup.proofs.is_move.Tie as tie
@@ -21,15 +28,15 @@ slice-aggregate-begins-with c = search needs
 
 -- src/lib.rt:221:9
 begins-with-requires : tie.Need-begins-with-requires
-begins-with-requires c κs = ?
+begins-with-requires c κs = within (now (c .before .before .before .before .before .before .args .s)) (now (c .before .before .before .before .before .before .args .names)) (c .before .before .before .before .before .before .pre) (c .before .before .before .before .before .before .args .n) (c .before .before .before .start-of .ensures)
 
 -- src/lib.rt:215:1
 returns : tie.Need-returns
-returns c = ?
+returns c = c .begins-with .ensures ∙ name-is (now (c .before .before .before .before .before .before .before .args .s)) moveName _ (c .before .before .before .peek .ensures .0) (c .before .before .if1 .taken) ∙ ap (λ p. isMove (nameOf (now (c .before .before .before .before .before .before .before .args .s)) p)) (c .before .before .before .before .start-of .ensures)
 
 -- src/lib.rt:215:1
 returns-2 : tie.Need-returns-2
-returns-2 c = ?
+returns-2 c = name-not (now (c .before .before .before .before .before .args .s)) moveName _ (c .before .peek .ensures .0) (c .if1 .left) ∙ ap (λ p. isMove (nameOf (now (c .before .before .before .before .before .args .s)) p)) (c .before .before .start-of .ensures)
 
 pub is-move-spec : {M : Type 1} → statement M
 is-move-spec =

@@ -1,3 +1,9 @@
+use denote.Ref.{now}
+use mathlib.Core.Path.{_≡_, refl, sym, ap, _∙_}
+use native.Mathlib.Omega.{arith}
+use Prim.Native.Nat.{_<_}
+use Rattle.lookup.proofs.First.{was-found, was-missing}
+use Rattle.lookup.proofs.Ty.{found-in, deletes, keeps}
 use borrow.Author.Needs.{needs}
 use Rattle.lookup.proofs.should_auto_delete.Statement.{statement}
 use Rattle.lookup.proofs.should_auto_delete.Tie as tie
@@ -16,15 +22,15 @@ enum-known-i c = search needs
 
 -- src/lib.rt:121:41
 mul-peek : tie.Need-mul-peek
-mul-peek c = ?
+mul-peek c = let lt = found-in _ (now (c .before .before .before .before .before .before .before .args .s)) (now (c .before .before .before .before .before .before .before .args .structs)) _ (was-found (c .before .before .before .struct-of-type .ensures) (c .before .i .given .1)) in omega arith
 
 -- src/lib.rt:121:41
 shared-slice-read-peek : tie.Need-shared-slice-read-peek
-shared-slice-read-peek c = ?
+shared-slice-read-peek c = found-in _ (now (c .before .before .before .before .before .before .before .before .args .s)) (now (c .before .before .before .before .before .before .before .before .args .structs)) _ (was-found (c .before .before .before .before .struct-of-type .ensures) (c .before .before .i .given .1))
 
 -- src/lib.rt:121:41
 add-peek : tie.Need-add-peek
-add-peek c = ?
+add-peek c = let h = c .before .before .before .before .before .before .before .before .pre .1 _ (found-in _ (now (c .before .before .before .before .before .before .before .before .args .s)) (now (c .before .before .before .before .before .before .before .before .args .structs)) _ (was-found (c .before .before .before .before .struct-of-type .ensures) (c .before .before .i .given .1))) in omega arith
 
 -- src/lib.rt:121:25
 peek-requires : tie.Need-peek-requires
@@ -36,11 +42,11 @@ enum-told c = search needs
 
 -- src/lib.rt:116:1
 returns : tie.Need-returns
-returns c = ?
+returns c = deletes _ (now (c .before .before .before .before .before .before .before .before .before .args .s)) (now (c .before .before .before .before .before .before .before .before .before .args .structs)) _ (was-found (c .before .before .before .before .before .struct-of-type .ensures) (c .before .before .before .i .given .1)) (c .peek .ensures .0)
 
 -- src/lib.rt:116:1
 returns-2 : tie.Need-returns-2
-returns-2 c = ?
+returns-2 c = keeps _ (now (c .before .before .before .before .before .before .args .s)) (now (c .before .before .before .before .before .before .args .structs)) _ _ (was-missing (c .before .before .struct-of-type .ensures) (c .enum-told .given .1))
 
 pub should-auto-delete-spec : {M : Type 1} → statement M
 should-auto-delete-spec =

@@ -1,3 +1,8 @@
+use denote.Ref.{now}
+use mathlib.Core.Path.{_≡_, refl, sym, ap, _∙_}
+use native.Mathlib.Omega.{arith}
+use Rattle.lookup.specs.Answer.{foundOf}
+use Rattle.lookup.proofs.Ty.{by-name}
 use borrow.Author.Needs.{needs}
 use Rattle.lookup.proofs.struct_named.Statement.{statement}
 use Rattle.lookup.proofs.struct_named.Tie as tie
@@ -11,7 +16,7 @@ first-at-requires c κs = search needs
 
 -- src/lib.rt:63:1
 returns : tie.Need-returns
-returns c = ?
+returns c = c .first-at .ensures ∙ ap foundOf (sym (by-name (now (c .before .before .before .args .s)) (now (c .before .before .before .args .structs)) (c .before .before .before .args .name)))
 
 pub struct-named-spec : {M : Type 1} → statement M
 struct-named-spec = tie.close (tie.spec first-at-requires returns)

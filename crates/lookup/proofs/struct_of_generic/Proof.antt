@@ -1,3 +1,9 @@
+use denote.Ref.{now}
+use mathlib.Core.Path.{_≡_, refl, sym, ap, _∙_}
+use native.Mathlib.Omega.{arith}
+use Rattle.lookup.specs.Answer.{foundOf}
+use Rattle.lookup.proofs.First.{found, was-found, was-missing}
+use Rattle.lookup.proofs.Ty.{generic-named, generic-shaped}
 use borrow.Author.Needs.{needs}
 use Rattle.lookup.proofs.struct_of_generic.Statement.{statement}
 use Rattle.lookup.proofs.struct_of_generic.Tie as tie
@@ -24,11 +30,11 @@ struct-shaped-requires c κs = search needs
 
 -- src/lib.rt:83:1
 returns : tie.Need-returns
-returns c = ?
+returns c = found (generic-named _ _ _ (was-found (c .before .before .before .struct-named .ensures) (c .before .i .given .1)))
 
 -- src/lib.rt:83:1
 returns-2 : tie.Need-returns-2
-returns-2 c = ?
+returns-2 c = c .struct-shaped .ensures ∙ ap foundOf (sym (generic-shaped _ _ _ (was-missing (c .before .before .before .struct-named .ensures) (c .before .enum-told .given .1))))
 
 pub struct-of-generic-spec : {M : Type 1} → statement M
 struct-of-generic-spec =

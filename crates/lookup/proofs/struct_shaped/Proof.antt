@@ -1,3 +1,9 @@
+use denote.Ref.{now}
+use mathlib.Core.Path.{_≡_, refl, sym, ap, _∙_}
+use native.Mathlib.Omega.{arith}
+use Rattle.lookup.specs.Answer.{foundOf}
+use Rattle.lookup.proofs.First.{missing}
+use Rattle.lookup.proofs.Ty.{by-shape, shape-zero}
 use borrow.Author.Needs.{needs}
 use Rattle.lookup.proofs.struct_shaped.Statement.{statement}
 use Rattle.lookup.proofs.struct_shaped.Tie as tie
@@ -11,11 +17,11 @@ first-at-requires c κs = search needs
 
 -- src/lib.rt:71:1
 returns : tie.Need-returns
-returns c = ?
+returns c = missing (shape-zero _ _ (c .if1 .taken))
 
 -- src/lib.rt:71:1
 returns-2 : tie.Need-returns-2
-returns-2 c = ?
+returns-2 c = c .first-at .ensures ∙ ap foundOf (sym (by-shape (now (c .before .before .before .before .args .s)) (now (c .before .before .before .before .args .structs)) (c .before .before .before .before .args .shape) (c .before .if1 .left)))
 
 pub struct-shaped-spec : {M : Type 1} → statement M
 struct-shaped-spec = tie.close (tie.spec first-at-requires returns returns-2)
