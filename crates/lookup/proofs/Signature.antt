@@ -1,21 +1,20 @@
 -- What a struct, a method and a global that were found answer.
 -- Assumes nothing.
-use mathlib.Core.Path.{_≡_, refl, sym, ap, _∙_, subst}
-use mathlib.Core.List.{List, [], _∷_, map}
-use mathlib.Core.Bool.{Bool, true, false}
-use mathlib.Core.Option.{Option, none, some}
+use mathlib.Core.Path.{_≡_, refl, sym, ap, _∙_}
+use mathlib.Core.List.{List, map}
+use mathlib.Core.Bool.{Bool}
+use mathlib.Core.Option.{none, some}
 use Prim.Native.Nat.{ℕ, _+_, _*_, _<_}
 use native.Mathlib.Omega.{arith}
 use lib.ListN.{length, getD, length-map}
-use lib.Dec.{eqb}
-use Rattle.fields.specs.Number.{two, four}
+use Rattle.fields.specs.Number.{four}
 use Rattle.fields.specs.Table.{entries}
 use Rattle.fields.proofs.Tables.{entries-map, entries-length}
 use Rattle.tables.specs.Ty.{Ty}
-use Rattle.tables.specs.Signature.{Method, Struct, Global, methodIn, structIn, globalIn}
+use Rattle.tables.specs.Signature.{Struct, methodIn, structIn, globalIn}
 use Rattle.lookup.specs.First.{firstFrom, andThen, isNumber, positions}
-use Rattle.lookup.specs.Ty.{structNo, structNamed, structOf, hasDestructor, shouldAutoDelete, classOf}
-use Rattle.lookup.specs.Signature.{modifierIn, modifierOf, globalOf, methodNo, globalNo}
+use Rattle.lookup.specs.Ty.{structNo, structNamed, classOf}
+use Rattle.lookup.specs.Signature.{modifierIn, modifierOf, globalOf}
 use Rattle.lookup.proofs.Ty.{named-below}
 use Rattle.lookup.proofs.First.{goes-on, stops, first-map, first-below, entry-at, viewed}
 

@@ -1,16 +1,16 @@
 -- What a type answers, one step after the other.
 -- Assumes nothing.
 use mathlib.Core.Path.{_≡_, refl, sym, ap, _∙_, subst}
-use mathlib.Core.List.{List, [], _∷_, map}
+use mathlib.Core.List.{List, map}
 use mathlib.Core.Bool.{Bool, true, false, cond}
 use mathlib.Core.Option.{Option, none, some}
-use mathlib.Core.Logic.{_⊎_, inl, inr, ⊎-elim}
+use mathlib.Core.Logic.{⊎-elim}
 use Prim.Native.Nat.{ℕ, zero, suc, _+_, _≤_, _<_}
 use native.Mathlib.Omega.{arith}
-use borrow.Author.Tests.{eqb-true, eqb-false, eq-eqb, ne-eqb}
+use borrow.Author.Tests.{eqb-true, eq-eqb, ne-eqb}
 use lib.ListN.{length, getD, length-map, List·getD-eq-default}
 use lib.Dec.{eqb}
-use Rattle.fields.specs.Number.{two, numberIn}
+use Rattle.fields.specs.Number.{two}
 use Rattle.fields.proofs.Tests.{split}
 use Rattle.tables.specs.Ty.{Ty, ofWidth, shapeWidth, typeIn}
 use Rattle.tables.specs.Signature.{Struct, structIn}
@@ -255,3 +255,12 @@ no-destructor types structs t i k e d =
         struct-here types t structs (λ z. absurd (omega arith)) ∙ generic-struct structs (typeNo types t) k ∙ generic-named _ _ structs e
     in
     rw (f, d)
+
+-- a pointer is not deleted
+pub pointer-kept : (types : List Ty) (structs : List Struct) (t : ℕ) → typeNo types t .kind ≡ 4 → shouldAutoDelete types structs t ≡ false
+unfolding shouldAutoDelete hasDestructor
+pointer-kept types structs t k =
+    let f : structOf types structs t ≡ none =
+        struct-here types t structs (λ z. omega arith) ∙ no-struct structs (typeNo types t) (λ z. omega arith) (λ z. omega arith)
+    in
+    rw f

@@ -1,7 +1,7 @@
 // What the tables of an image answer: every answer equals what the definitions of specs/ say of the entries in the bytes.
 ghost use mathlib.Core.Path.{_≡_};
 ghost use mathlib.Core.List.{map};
-ghost use Prim.Native.Nat.{ℕ, _+_, _*_, _≤_, _<_};
+ghost use Prim.Native.Nat.{_+_, _*_, _≤_, _<_};
 ghost use lib.ListN.{length, getD};
 ghost use Rattle.fields.specs.Table.{entries};
 ghost use Rattle.tables.specs.Name.{nameOf, startsWith};

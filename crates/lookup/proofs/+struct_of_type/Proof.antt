@@ -1,12 +1,13 @@
+-- Recursion on the number of the type: an inline array has a lower inner type.
 use denote.Ref.{now}
-use mathlib.Core.Path.{_≡_, refl, sym, ap, _∙_}
+use mathlib.Core.Path.{refl, sym, ap, _∙_}
 use native.Mathlib.Omega.{arith}
 use borrow.Author.Needs.{needs}
 use Prim.Native.Nat.{_<_}
 use lib.ListN.{length}
 use Rattle.tables.specs.Ty.{ofWidth}
 use Rattle.lookup.specs.Answer.{foundOf}
-use Rattle.lookup.proofs.First.{found, missing}
+use Rattle.lookup.proofs.First.{missing}
 use Rattle.lookup.proofs.Ty.{past-struct, inner-lower, array-of, named-of, generic-of, other-of}
 use Prim.Native.Nat.{ℕ, _<_}
 use borrow.Fn.Kinds.{In}

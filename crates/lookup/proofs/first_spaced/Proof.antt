@@ -1,10 +1,9 @@
+-- The loop over positions of one stride: what is left of them answers as all do.
 use mathlib.Core.Path.{ap}
 use denote.Ref.{now}
-use Prim.Native.Nat.{ℕ, _+_, _-_, _*_, _≤_}
-use mathlib.Core.Path.{_≡_, refl, sym, _∙_}
+use Prim.Native.Nat.{_+_, _-_, _*_, _≤_}
+use mathlib.Core.Path.{_≡_, sym, _∙_}
 use native.Mathlib.Omega.{arith}
-use borrow.Author.Needs.{needs}
-use lib.ListN.{length}
 use Rattle.lookup.specs.First.{firstFrom, isNumber, positions}
 use Rattle.lookup.proofs.First.{found, missing, first-none, first-here, first-next, rest-entries, no-entries, step}
 use Rattle.lookup.proofs.first_spaced.Statement.{statement}

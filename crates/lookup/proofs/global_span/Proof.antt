@@ -1,6 +1,6 @@
-use Prim.Native.Nat.{ℕ, _<_}
+-- A global that was found stands in the run of globals.
+use Prim.Native.Nat.{_<_}
 use denote.Ref.{now}
-use mathlib.Core.Path.{_≡_, refl, sym, ap, _∙_}
 use native.Mathlib.Omega.{arith}
 use Rattle.lookup.proofs.First.{found, missing, was-found, was-missing}
 use Rattle.lookup.proofs.Signature.{span-found, span-missing, found-below}

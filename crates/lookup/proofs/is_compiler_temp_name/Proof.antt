@@ -1,6 +1,6 @@
+-- The word is `__tmp`.
 use denote.Ref.{now}
-use mathlib.Core.Path.{_≡_, refl, sym, ap, _∙_}
-use native.Mathlib.Omega.{arith}
+use mathlib.Core.Path.{ap, _∙_}
 use Rattle.tables.specs.Name.{nameOf}
 use Rattle.lookup.specs.Name.{isTemp}
 use Rattle.lookup.proofs.First.{within}

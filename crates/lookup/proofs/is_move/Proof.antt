@@ -1,6 +1,6 @@
+-- As long as `std::move`, and begins with it.
 use denote.Ref.{now}
-use mathlib.Core.Path.{_≡_, refl, sym, ap, _∙_}
-use native.Mathlib.Omega.{arith}
+use mathlib.Core.Path.{ap, _∙_}
 use Rattle.tables.specs.Name.{nameOf, moveName}
 use Rattle.lookup.specs.Name.{isMove}
 use Rattle.lookup.proofs.First.{within}

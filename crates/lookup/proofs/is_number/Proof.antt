@@ -1,6 +1,4 @@
-use mathlib.Core.Path.{_≡_, ap}
-use native.Mathlib.Omega.{arith}
-use lib.Dec.{eqb}
+-- Two bytes read one by one are the number.
 use borrow.Author.Needs.{needs}
 use Rattle.lookup.proofs.is_number.Statement.{statement}
 use Rattle.lookup.proofs.is_number.Tie as tie

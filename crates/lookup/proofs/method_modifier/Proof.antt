@@ -1,5 +1,6 @@
+-- The class, its struct, its method.
 use denote.Ref.{now}
-use mathlib.Core.Path.{_≡_, refl, sym, ap, _∙_}
+use mathlib.Core.Path.{sym, ap, _∙_}
 use native.Mathlib.Omega.{arith}
 use Rattle.lookup.specs.Answer.{foundOf}
 use Rattle.lookup.proofs.First.{missing, was-found, was-missing}

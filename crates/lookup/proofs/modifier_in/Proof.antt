@@ -1,11 +1,12 @@
+-- A method that was found stands in the run of the struct's methods.
 use Rattle.fields.specs.Table.{entries}
 use Rattle.tables.specs.Signature.{methodIn}
 use Rattle.lookup.specs.Signature.{modifierIn}
 use Rattle.lookup.specs.Answer.{foundOf}
 use denote.Ref.{now}
-use mathlib.Core.Path.{_≡_, refl, sym, ap, _∙_}
+use mathlib.Core.Path.{ap, _∙_}
 use native.Mathlib.Omega.{arith}
-use Prim.Native.Nat.{ℕ, _+_, _<_}
+use Prim.Native.Nat.{_+_, _<_}
 use Rattle.lookup.proofs.First.{found, missing, was-found, was-missing}
 use Rattle.lookup.proofs.Signature.{modifier-found, modifier-missing, found-below}
 use borrow.Author.Needs.{needs}

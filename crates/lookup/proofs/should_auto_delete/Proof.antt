@@ -1,7 +1,6 @@
+-- The struct that was found is in the table, and its flag decides.
 use denote.Ref.{now}
-use mathlib.Core.Path.{_≡_, refl, sym, ap, _∙_}
 use native.Mathlib.Omega.{arith}
-use Prim.Native.Nat.{_<_}
 use Rattle.lookup.proofs.First.{was-found, was-missing}
 use Rattle.lookup.proofs.Ty.{found-in, deletes, keeps}
 use borrow.Author.Needs.{needs}

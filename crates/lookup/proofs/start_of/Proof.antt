@@ -1,4 +1,5 @@
-use mathlib.Core.Path.{_≡_, sym}
+-- Past the table a position is 0.
+use mathlib.Core.Path.{sym}
 use Rattle.fields.proofs.Numbers.{past-end}
 use denote.Ref.{now}
 use borrow.Author.Needs.{needs}

@@ -1,6 +1,5 @@
-use denote.Ref.{now}
-use mathlib.Core.Path.{_≡_, refl, sym, ap, _∙_}
-use native.Mathlib.Omega.{arith}
+-- By name first, then by shape.
+use mathlib.Core.Path.{sym, ap, _∙_}
 use Rattle.lookup.specs.Answer.{foundOf}
 use Rattle.lookup.proofs.First.{found, was-found, was-missing}
 use Rattle.lookup.proofs.Ty.{generic-named, generic-shaped}

@@ -1,6 +1,6 @@
+-- The number three bytes after a struct's position is its shape.
 use denote.Ref.{now}
-use mathlib.Core.Path.{_≡_, refl, sym, ap, _∙_}
-use native.Mathlib.Omega.{arith}
+use mathlib.Core.Path.{sym, ap, _∙_}
 use Rattle.lookup.specs.Answer.{foundOf}
 use Rattle.lookup.proofs.First.{missing}
 use Rattle.lookup.proofs.Ty.{by-shape, shape-zero}
