@@ -252,7 +252,7 @@ pub no-destructor : (types : List Ty) (structs : List Struct) (t i : ℕ) → ty
 unfolding shouldAutoDelete hasDestructor
 no-destructor types structs t i k e d =
     let f : structOf types structs t ≡ some i =
-        struct-here types t structs (λ z. absurd (omega arith)) ∙ generic-struct structs (typeNo types t) k ∙ generic-named _ _ structs e
+    struct-here types t structs (λ z. absurd (omega arith)) ∙ generic-struct structs (typeNo types t) k ∙ generic-named _ _ structs e
     in
     rw (f, d)
 
@@ -261,6 +261,6 @@ pub pointer-kept : (types : List Ty) (structs : List Struct) (t : ℕ) → typeN
 unfolding shouldAutoDelete hasDestructor
 pointer-kept types structs t k =
     let f : structOf types structs t ≡ none =
-        struct-here types t structs (λ z. omega arith) ∙ no-struct structs (typeNo types t) (λ z. omega arith) (λ z. omega arith)
+    struct-here types t structs (λ z. omega arith) ∙ no-struct structs (typeNo types t) (λ z. omega arith) (λ z. omega arith)
     in
     rw f

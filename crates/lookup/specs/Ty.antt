@@ -17,6 +17,11 @@ typeNo types t = getD types t (record { kind = 0; of = 0; shape = 0 })
 abbrev pub structNo : List Struct → ℕ → Struct
 structNo structs i = getD structs i (record { name = 0; destructor = 0; shape = 0; methods = [] })
 
+-- sig.is_some_and(|sig| sig.destructor.is_some()), the struct by its number
+unfoldable pub hasDestructor : List Struct → Option ℕ → Bool
+hasDestructor structs none = false
+hasDestructor structs (some i) = eqb (structNo structs i .destructor) 1
+
 -- an inline array or pointer has a lower type
 abbrev pub Lower : List Ty → Type 0
 Lower types = (t : ℕ) → 3 ≤ typeNo types t .kind → typeNo types t .of < t
@@ -51,10 +56,6 @@ structOfTy structs t =
 -- the struct that should_auto_delete asks; an inline array asks that of its inner type, a pointer none
 unfoldable pub structOf : List Ty → List Struct → ℕ → Option ℕ
 structOf types structs t = structOfTy structs (innermost 3 types t)
-
-unfoldable pub hasDestructor : List Struct → Option ℕ → Bool
-hasDestructor structs none = false
-hasDestructor structs (some i) = eqb (structNo structs i .destructor) 1
 
 -- should_auto_delete
 unfoldable pub shouldAutoDelete : List Ty → List Struct → ℕ → Bool

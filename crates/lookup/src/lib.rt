@@ -156,7 +156,13 @@ fn modifier_in(s: &[u8], at: usize, name: usize) -> Found
 }
 
 // The modifier of a method that is called on a receiver of the type.
-pub fn method_modifier(s: &[u8], types: &[usize], structs: &[usize], ty: usize, name: usize) -> Found
+pub fn method_modifier(
+    s: &[u8],
+    types: &[usize],
+    structs: &[usize],
+    ty: usize,
+    name: usize,
+) -> Found
     requires { ⌜ Within (now s) (now types) × Within (now s) (now structs) × Lower (map (typeIn (now s)) (now types)) ⌝ }
     ensures { λ r. ⌜ r ≡ foundOf (modifierOf (map (typeIn (now (s .entry))) (now (types .entry))) (map (structIn (now (s .entry))) (now (structs .entry))) ty name) ⌝ }
 {
