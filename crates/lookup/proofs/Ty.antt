@@ -191,10 +191,10 @@ module _ (n k : ℕ) (structs : List Struct) where
   unfolding structOfGeneric orElse
   generic-shaped e = rw e
 
--- a struct that is found is in the table
 pub none-some : {A C : Type 0} {a : A} → _≡_ {A = Option A} none (some a) → C
 none-some e = let z : _≡_ {A = ℕ} 0 1 = cc in absurd (omega arith)
 
+-- a struct that is found is in the table
 module _ (structs : List Struct) {i : ℕ} where
   pub named-below : (n : ℕ) → structNamed n structs ≡ some i → i < length structs
   unfolding structNamed

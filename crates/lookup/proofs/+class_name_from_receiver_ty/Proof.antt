@@ -44,7 +44,8 @@ class-name-from-receiver-ty-claims t = (peek-reads.Asked, peek-reads.Learnt, pee
 
 -- src/lib.rt:133:9
 class-name-from-receiver-ty-returns : (t : ℕ) → class-name-from-receiver-ty-lts.Need-returns (class-name-from-receiver-ty-claims t) (class-name-from-receiver-ty-at t) class-name-from-receiver-ty.Post
-class-name-from-receiver-ty-returns t c = missing (past-class (now (c .before .before .before .args .s)) (now (c .before .before .before .args .types)) (c .before .before .before .args .ty) (c .if1 .taken))
+class-name-from-receiver-ty-returns t c = let a = c .before .before .before .args in
+    missing (past-class (now (a .s)) (now (a .types)) (a .ty) (c .if1 .taken))
 
 -- src/lib.rt:135:14
 class-name-from-receiver-ty-mul-at : (t : ℕ) → class-name-from-receiver-ty-lts.Need-mul-at (class-name-from-receiver-ty-claims t) (class-name-from-receiver-ty-at t) class-name-from-receiver-ty.Post
@@ -69,19 +70,23 @@ class-name-from-receiver-ty-peek-two-requires t c κs = let lt : _<_ (c .before 
 -- src/lib.rt:139:9
 class-name-from-receiver-ty-class-name-from-receiver-ty-requires : (t : ℕ) → class-name-from-receiver-ty-lts.Need-class-name-from-receiver-ty-requires (class-name-from-receiver-ty-claims t) (class-name-from-receiver-ty-at t) class-name-from-receiver-ty.Post
 unfolding ofWidth
-class-name-from-receiver-ty-class-name-from-receiver-ty-requires t c κs = let o = inner-lower (now (c .before .before .before .before .before .before .before .args .s)) (now (c .before .before .before .before .before .before .before .args .types)) (c .before .before .before .before .before .before .before .args .ty) (c .before .before .before .before .if1 .left) (c .before .before .peek .ensures .0) (c .before .peek-two .ensures .0) (c .before .before .before .before .before .before .before .pre .1 .1) 4 (omega arith) (c .if2 .taken) refl in (omega arith, c .before .before .before .before .before .before .before .pre .1)
+class-name-from-receiver-ty-class-name-from-receiver-ty-requires t c κs = let a = c .before .before .before .before .before .before .before .args in
+    let o = inner-lower (now (a .s)) (now (a .types)) (a .ty) (c .before .before .before .before .if1 .left) (c .before .before .peek .ensures .0) (c .before .peek-two .ensures .0) (c .before .before .before .before .before .before .before .pre .1 .1) 4 (omega arith) (c .if2 .taken) refl in (omega arith, c .before .before .before .before .before .before .before .pre .1)
 
 -- src/lib.rt:139:9
 class-name-from-receiver-ty-returns-2 : (t : ℕ) → class-name-from-receiver-ty-lts.Need-returns-2 (class-name-from-receiver-ty-claims t) (class-name-from-receiver-ty-at t) class-name-from-receiver-ty.Post
-class-name-from-receiver-ty-returns-2 t c = c .class-name-from-receiver-ty .ensures ∙ ap foundOf (sym (pointer-of (now (c .before .before .before .before .before .before .before .before .args .s)) (now (c .before .before .before .before .before .before .before .before .args .types)) (c .before .before .before .before .before .before .before .before .args .ty) (c .before .before .before .before .before .if1 .left) (c .before .before .before .peek .ensures .0) (c .before .before .peek-two .ensures .0) (c .before .before .before .before .before .before .before .before .pre .1 .1) (c .before .if2 .taken)))
+class-name-from-receiver-ty-returns-2 t c = let a = c .before .before .before .before .before .before .before .before .args in
+    c .class-name-from-receiver-ty .ensures ∙ ap foundOf (sym (pointer-of (now (a .s)) (now (a .types)) (a .ty) (c .before .before .before .before .before .if1 .left) (c .before .before .before .peek .ensures .0) (c .before .before .peek-two .ensures .0) (c .before .before .before .before .before .before .before .before .pre .1 .1) (c .before .if2 .taken)))
 
 -- src/lib.rt:142:9
 class-name-from-receiver-ty-returns-3 : (t : ℕ) → class-name-from-receiver-ty-lts.Need-returns-3 (class-name-from-receiver-ty-claims t) (class-name-from-receiver-ty-at t) class-name-from-receiver-ty.Post
-class-name-from-receiver-ty-returns-3 t c = found (class-of (now (c .before .before .before .before .before .before .before .before .args .s)) (now (c .before .before .before .before .before .before .before .before .args .types)) (c .before .before .before .before .before .before .before .before .args .ty) (c .before .before .before .before .before .if1 .left) (c .before .before .before .peek .ensures .0) (c .before .before .peek-two .ensures .0) (c .if3 .taken))
+class-name-from-receiver-ty-returns-3 t c = let a = c .before .before .before .before .before .before .before .before .args in
+    found (class-of (now (a .s)) (now (a .types)) (a .ty) (c .before .before .before .before .before .if1 .left) (c .before .before .before .peek .ensures .0) (c .before .before .peek-two .ensures .0) (c .if3 .taken))
 
 -- src/lib.rt:128:1
 class-name-from-receiver-ty-returns-4 : (t : ℕ) → class-name-from-receiver-ty-lts.Need-returns-4 (class-name-from-receiver-ty-claims t) (class-name-from-receiver-ty-at t) class-name-from-receiver-ty.Post
-class-name-from-receiver-ty-returns-4 t c = missing (no-class-of (now (c .before .before .before .before .before .before .before .before .args .s)) (now (c .before .before .before .before .before .before .before .before .args .types)) (c .before .before .before .before .before .before .before .before .args .ty) (c .before .before .before .before .before .if1 .left) (c .before .before .before .peek .ensures .0) (c .before .before .peek-two .ensures .0) (c .before .if2 .left) (c .if3 .left))
+class-name-from-receiver-ty-returns-4 t c = let a = c .before .before .before .before .before .before .before .before .args in
+    missing (no-class-of (now (a .s)) (now (a .types)) (a .ty) (c .before .before .before .before .before .if1 .left) (c .before .before .before .peek .ensures .0) (c .before .before .peek-two .ensures .0) (c .before .if2 .left) (c .if3 .left))
 
 pub +class-name-from-receiver-ty-spec : {M : Type 1} → statement M
 +class-name-from-receiver-ty-spec =

@@ -46,7 +46,8 @@ struct-of-type-claims t = (peek-reads.Asked, peek-reads.Learnt, peek-two-reads.A
 
 -- src/lib.rt:99:9
 struct-of-type-returns : (t : ℕ) → struct-of-type-lts.Need-returns (struct-of-type-claims t) (struct-of-type-at t) struct-of-type.Post
-struct-of-type-returns t c = missing (past-struct (now (c .before .before .before .before .args .s)) (now (c .before .before .before .before .args .types)) (c .before .before .before .before .args .ty) _ (c .if1 .taken))
+struct-of-type-returns t c = let a = c .before .before .before .before .args in
+    missing (past-struct (now (a .s)) (now (a .types)) (a .ty) _ (c .if1 .taken))
 
 -- src/lib.rt:101:14
 struct-of-type-mul-at : (t : ℕ) → struct-of-type-lts.Need-mul-at (struct-of-type-claims t) (struct-of-type-at t) struct-of-type.Post
@@ -71,11 +72,13 @@ struct-of-type-peek-two-requires t c κs = let lt : _<_ (c .before .before .befo
 -- src/lib.rt:105:9
 struct-of-type-struct-of-type-requires : (t : ℕ) → struct-of-type-lts.Need-struct-of-type-requires (struct-of-type-claims t) (struct-of-type-at t) struct-of-type.Post
 unfolding ofWidth
-struct-of-type-struct-of-type-requires t c κs = let o = inner-lower (now (c .before .before .before .before .before .before .before .before .args .s)) (now (c .before .before .before .before .before .before .before .before .args .types)) (c .before .before .before .before .before .before .before .before .args .ty) (c .before .before .before .before .if1 .left) (c .before .before .peek .ensures .0) (c .before .peek-two .ensures .0) (c .before .before .before .before .before .before .before .before .pre .1 .2) 3 (omega arith) (c .if2 .taken) refl in (omega arith, c .before .before .before .before .before .before .before .before .pre .1)
+struct-of-type-struct-of-type-requires t c κs = let a = c .before .before .before .before .before .before .before .before .args in
+    let o = inner-lower (now (a .s)) (now (a .types)) (a .ty) (c .before .before .before .before .if1 .left) (c .before .before .peek .ensures .0) (c .before .peek-two .ensures .0) (c .before .before .before .before .before .before .before .before .pre .1 .2) 3 (omega arith) (c .if2 .taken) refl in (omega arith, c .before .before .before .before .before .before .before .before .pre .1)
 
 -- src/lib.rt:105:9
 struct-of-type-returns-2 : (t : ℕ) → struct-of-type-lts.Need-returns-2 (struct-of-type-claims t) (struct-of-type-at t) struct-of-type.Post
-struct-of-type-returns-2 t c = c .struct-of-type .ensures ∙ ap foundOf (sym (array-of (now (c .before .before .before .before .before .before .before .before .before .args .s)) (now (c .before .before .before .before .before .before .before .before .before .args .types)) (c .before .before .before .before .before .before .before .before .before .args .ty) (c .before .before .before .before .before .if1 .left) (c .before .before .before .peek .ensures .0) (c .before .before .peek-two .ensures .0) (c .before .before .before .before .before .before .before .before .before .pre .1 .2) _ (c .before .if2 .taken)))
+struct-of-type-returns-2 t c = let a = c .before .before .before .before .before .before .before .before .before .args in
+    c .struct-of-type .ensures ∙ ap foundOf (sym (array-of (now (a .s)) (now (a .types)) (a .ty) (c .before .before .before .before .before .if1 .left) (c .before .before .before .peek .ensures .0) (c .before .before .peek-two .ensures .0) (c .before .before .before .before .before .before .before .before .before .pre .1 .2) _ (c .before .if2 .taken)))
 
 -- src/lib.rt:108:9
 struct-of-type-struct-named-requires : (t : ℕ) → struct-of-type-lts.Need-struct-named-requires (struct-of-type-claims t) (struct-of-type-at t) struct-of-type.Post
@@ -83,7 +86,8 @@ struct-of-type-struct-named-requires t c κs = c .before .before .before .before
 
 -- src/lib.rt:108:9
 struct-of-type-returns-3 : (t : ℕ) → struct-of-type-lts.Need-returns-3 (struct-of-type-claims t) (struct-of-type-at t) struct-of-type.Post
-struct-of-type-returns-3 t c = c .struct-named .ensures ∙ ap foundOf (sym (named-of (now (c .before .before .before .before .before .before .before .before .before .before .args .s)) (now (c .before .before .before .before .before .before .before .before .before .before .args .types)) (c .before .before .before .before .before .before .before .before .before .before .args .ty) (c .before .before .before .before .before .before .if1 .left) (c .before .before .before .before .peek .ensures .0) (c .before .before .before .peek-two .ensures .0) _ (c .before .if3 .taken)))
+struct-of-type-returns-3 t c = let a = c .before .before .before .before .before .before .before .before .before .before .args in
+    c .struct-named .ensures ∙ ap foundOf (sym (named-of (now (a .s)) (now (a .types)) (a .ty) (c .before .before .before .before .before .before .if1 .left) (c .before .before .before .before .peek .ensures .0) (c .before .before .before .peek-two .ensures .0) _ (c .before .if3 .taken)))
 
 -- src/lib.rt:111:70
 struct-of-type-add-peek-two-2 : (t : ℕ) → struct-of-type-lts.Need-add-peek-two-2 (struct-of-type-claims t) (struct-of-type-at t) struct-of-type.Post
@@ -99,11 +103,13 @@ struct-of-type-struct-of-generic-requires t c κs = c .before .before .before .b
 
 -- src/lib.rt:111:9
 struct-of-type-returns-4 : (t : ℕ) → struct-of-type-lts.Need-returns-4 (struct-of-type-claims t) (struct-of-type-at t) struct-of-type.Post
-struct-of-type-returns-4 t c = c .struct-of-generic .ensures ∙ ap foundOf (sym (generic-of (now (c .before .before .before .before .before .before .before .before .before .before .before .before .args .s)) (now (c .before .before .before .before .before .before .before .before .before .before .before .before .args .types)) (c .before .before .before .before .before .before .before .before .before .before .before .before .args .ty) (c .before .before .before .before .before .before .before .before .if1 .left) (c .before .before .before .before .before .before .peek .ensures .0) (c .before .before .before .before .before .peek-two .ensures .0) _ (c .before .before .if4 .taken) (c .before .peek-two2 .ensures .0)))
+struct-of-type-returns-4 t c = let a = c .before .before .before .before .before .before .before .before .before .before .before .before .args in
+    c .struct-of-generic .ensures ∙ ap foundOf (sym (generic-of (now (a .s)) (now (a .types)) (a .ty) (c .before .before .before .before .before .before .before .before .if1 .left) (c .before .before .before .before .before .before .peek .ensures .0) (c .before .before .before .before .before .peek-two .ensures .0) _ (c .before .before .if4 .taken) (c .before .peek-two2 .ensures .0)))
 
 -- src/lib.rt:94:1
 struct-of-type-returns-5 : (t : ℕ) → struct-of-type-lts.Need-returns-5 (struct-of-type-claims t) (struct-of-type-at t) struct-of-type.Post
-struct-of-type-returns-5 t c = missing (other-of (now (c .before .before .before .before .before .before .before .before .before .before .args .s)) (now (c .before .before .before .before .before .before .before .before .before .before .args .types)) (c .before .before .before .before .before .before .before .before .before .before .args .ty) (c .before .before .before .before .before .before .if1 .left) (c .before .before .before .before .peek .ensures .0) (c .before .before .before .peek-two .ensures .0) _ (c .before .before .if2 .left) (c .before .if3 .left) (c .if4 .left))
+struct-of-type-returns-5 t c = let a = c .before .before .before .before .before .before .before .before .before .before .args in
+    missing (other-of (now (a .s)) (now (a .types)) (a .ty) (c .before .before .before .before .before .before .if1 .left) (c .before .before .before .before .peek .ensures .0) (c .before .before .before .peek-two .ensures .0) _ (c .before .before .if2 .left) (c .before .if3 .left) (c .if4 .left))
 
 pub +struct-of-type-spec : {M : Type 1} → statement M
 +struct-of-type-spec = close μ-struct-of-type λ t. struct-of-type-lts.spec (struct-of-type-claims t) (struct-of-type-at t) struct-of-type.Post

@@ -31,7 +31,8 @@ returns c = name-short _ _ _ (c .before .peek .ensures .0) (c .if1 .taken)
 
 -- src/lib.rt:190:5
 loop-holds : tie.Need-loop-holds Inv-loop μ-loop
-loop-holds c = (omega arith, name-start (now (c .before .before .before .before .args .s)) (now (c .before .before .before .before .args .word)) (c .before .before .before .before .args .at) refl)
+loop-holds c = let a = c .before .before .before .before .args in
+    (omega arith, name-start (now (a .s)) (now (a .word)) (a .at) refl)
 
 -- src/lib.rt:191:28
 add-peek : tie.Need-add-peek Inv-loop μ-loop
@@ -55,7 +56,7 @@ wide-requires c κs = search needs
 
 -- src/lib.rt:192:13
 returns-2 : tie.Need-returns-2 Inv-loop μ-loop
-returns-2 c = sym (c .before .before .before .before .before .loop .inv .1 ∙ starts-differ (rest-starts (now (c .before .before .before .before .before .before .before .before .before .before .args .word)) (c .before .before .before .before .before .loop .i) (c .before .before .before .before .loop-test .taken)) (rest-bytes (now (c .before .before .before .before .before .before .before .before .before .before .args .s)) _ _ (c .before .before .before .before .before .loop .i) (let h = c .before .before .before .before .before .before .before .peek .ensures .0 in omega arith)) (λ e. c .if2 .taken (c .before .before .before .peek2 .ensures .0 ∙ sym e ∙ sym (c .before .wide .ensures .0))))
+returns-2 c = sym (c .before .before .before .before .before .loop .inv .1 ∙ starts-differ (rest-starts _ (c .before .before .before .before .before .loop .i) (c .before .before .before .before .loop-test .taken)) (rest-bytes _ _ _ (c .before .before .before .before .before .loop .i) (let h = c .before .before .before .before .before .before .before .peek .ensures .0 in omega arith)) (λ e. c .if2 .taken (c .before .before .before .peek2 .ensures .0 ∙ sym e ∙ sym (c .before .wide .ensures .0))))
 
 -- src/lib.rt:194:9
 add-i : tie.Need-add-i Inv-loop μ-loop
@@ -67,11 +68,11 @@ loop-less c = omega arith
 
 -- src/lib.rt:190:5
 loop-again : tie.Need-loop-again Inv-loop μ-loop
-loop-again c = (omega arith, c .before .before .before .before .before .loop .inv .1 ∙ starts-next (rest-starts (now (c .before .before .before .before .before .before .before .before .before .before .args .word)) (c .before .before .before .before .before .loop .i) (c .before .before .before .before .loop-test .taken)) (rest-bytes (now (c .before .before .before .before .before .before .before .before .before .before .args .s)) _ _ (c .before .before .before .before .before .loop .i) (let h = c .before .before .before .before .before .before .before .peek .ensures .0 in omega arith)) (sym (c .before .wide .ensures .0) ∙ sym (c .if2 .left) ∙ c .before .before .before .peek2 .ensures .0))
+loop-again c = (omega arith, c .before .before .before .before .before .loop .inv .1 ∙ starts-next (rest-starts _ (c .before .before .before .before .before .loop .i) (c .before .before .before .before .loop-test .taken)) (rest-bytes _ _ _ (c .before .before .before .before .before .loop .i) (let h = c .before .before .before .before .before .before .before .peek .ensures .0 in omega arith)) (sym (c .before .wide .ensures .0) ∙ sym (c .if2 .left) ∙ c .before .before .before .peek2 .ensures .0))
 
 -- src/lib.rt:182:1
 returns-3 : tie.Need-returns-3 Inv-loop μ-loop
-returns-3 c = sym (c .before .loop .inv .1 ∙ starts-none _ (no-starts (now (c .before .before .before .before .before .before .args .word)) _ (c .before .loop .inv .0) (c .loop-test .left)))
+returns-3 c = sym (c .before .loop .inv .1 ∙ starts-none _ (no-starts _ _ (c .before .loop .inv .0) (c .loop-test .left)))
 
 pub begins-with-spec : {M : Type 1} → statement M
 begins-with-spec =

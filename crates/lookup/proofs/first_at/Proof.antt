@@ -1,5 +1,4 @@
 -- The loop over the positions of a table: what is left of them answers as all do.
-use denote.Ref.{now}
 use Prim.Native.Nat.{_+_, _-_, _≤_}
 use mathlib.Core.Path.{_≡_, refl, sym, _∙_}
 use native.Mathlib.Omega.{arith}
@@ -41,7 +40,7 @@ is-number-requires c κs = let h = c .before .before .before .before .before .pr
 
 -- src/lib.rt:38:13
 returns : tie.Need-returns Inv-loop μ-loop
-returns c = found (c .before .before .before .before .loop .inv .1 ∙ first-here _ _ (rest-starts (now (c .before .before .before .before .before .before .before .args .starts)) _ (c .before .before .before .loop-test .taken)) (sym (c .before .is-number .ensures) ∙ c .if1 .taken))
+returns c = found (c .before .before .before .before .loop .inv .1 ∙ first-here _ _ (rest-starts _ _ (c .before .before .before .loop-test .taken)) (sym (c .before .is-number .ensures) ∙ c .if1 .taken))
 
 -- src/lib.rt:40:9
 add-i : tie.Need-add-i Inv-loop μ-loop
@@ -53,11 +52,11 @@ loop-less c = omega arith
 
 -- src/lib.rt:36:5
 loop-again : tie.Need-loop-again Inv-loop μ-loop
-loop-again c = (omega arith, c .before .before .before .before .loop .inv .1 ∙ first-next _ _ (rest-starts (now (c .before .before .before .before .before .before .before .args .starts)) _ (c .before .before .before .loop-test .taken)) (sym (c .before .is-number .ensures) ∙ c .if1 .left))
+loop-again c = (omega arith, c .before .before .before .before .loop .inv .1 ∙ first-next _ _ (rest-starts _ _ (c .before .before .before .loop-test .taken)) (sym (c .before .is-number .ensures) ∙ c .if1 .left))
 
 -- src/lib.rt:31:1
 returns-2 : tie.Need-returns-2 Inv-loop μ-loop
-returns-2 c = missing (c .before .loop .inv .1 ∙ first-none _ _ (no-starts (now (c .before .before .before .before .args .starts)) _ (c .before .loop .inv .0) (c .loop-test .left)))
+returns-2 c = missing (c .before .loop .inv .1 ∙ first-none _ _ (no-starts _ _ (c .before .loop .inv .0) (c .loop-test .left)))
 
 pub first-at-spec : {M : Type 1} → statement M
 first-at-spec =

@@ -22,7 +22,8 @@ slice-aggregate-begins-with c = search needs
 
 -- src/lib.rt:211:5
 begins-with-requires : tie.Need-begins-with-requires
-begins-with-requires c κs = within (now (c .before .before .before .before .args .s)) (now (c .before .before .before .before .args .names)) (c .before .before .before .before .pre) (c .before .before .before .before .args .n) (c .before .start-of .ensures)
+begins-with-requires c κs = let a = c .before .before .before .before .args in
+    within (now (a .s)) (now (a .names)) (c .before .before .before .before .pre) (a .n) (c .before .start-of .ensures)
 
 -- src/lib.rt:207:1
 returns : tie.Need-returns

@@ -28,15 +28,16 @@ slice-aggregate-begins-with c = search needs
 
 -- src/lib.rt:221:9
 begins-with-requires : tie.Need-begins-with-requires
-begins-with-requires c κs = within (now (c .before .before .before .before .before .before .args .s)) (now (c .before .before .before .before .before .before .args .names)) (c .before .before .before .before .before .before .pre) (c .before .before .before .before .before .before .args .n) (c .before .before .before .start-of .ensures)
+begins-with-requires c κs = let a = c .before .before .before .before .before .before .args in
+    within (now (a .s)) (now (a .names)) (c .before .before .before .before .before .before .pre) (a .n) (c .before .before .before .start-of .ensures)
 
 -- src/lib.rt:215:1
 returns : tie.Need-returns
-returns c = c .begins-with .ensures ∙ name-is (now (c .before .before .before .before .before .before .before .args .s)) moveName _ (c .before .before .before .peek .ensures .0) (c .before .before .if1 .taken) ∙ ap (λ p. isMove (nameOf (now (c .before .before .before .before .before .before .before .args .s)) p)) (c .before .before .before .before .start-of .ensures)
+returns c = c .begins-with .ensures ∙ name-is _ moveName _ (c .before .before .before .peek .ensures .0) (c .before .before .if1 .taken) ∙ ap (λ p. isMove (nameOf (now (c .before .before .before .before .before .before .before .args .s)) p)) (c .before .before .before .before .start-of .ensures)
 
 -- src/lib.rt:215:1
 returns-2 : tie.Need-returns-2
-returns-2 c = name-not (now (c .before .before .before .before .before .args .s)) moveName _ (c .before .peek .ensures .0) (c .if1 .left) ∙ ap (λ p. isMove (nameOf (now (c .before .before .before .before .before .args .s)) p)) (c .before .before .start-of .ensures)
+returns-2 c = name-not _ moveName _ (c .before .peek .ensures .0) (c .if1 .left) ∙ ap (λ p. isMove (nameOf (now (c .before .before .before .before .before .args .s)) p)) (c .before .before .start-of .ensures)
 
 pub is-move-spec : {M : Type 1} → statement M
 is-move-spec =

@@ -16,7 +16,8 @@ first-at-requires c κs = search needs
 
 -- src/lib.rt:63:1
 returns : tie.Need-returns
-returns c = c .first-at .ensures ∙ ap foundOf (sym (by-name (now (c .before .before .before .args .s)) (now (c .before .before .before .args .structs)) (c .before .before .before .args .name)))
+returns c = let a = c .before .before .before .args in
+    c .first-at .ensures ∙ ap foundOf (sym (by-name (now (a .s)) (now (a .structs)) (a .name)))
 
 pub struct-named-spec : {M : Type 1} → statement M
 struct-named-spec = tie.close (tie.spec first-at-requires returns)

@@ -21,7 +21,8 @@ returns c = missing (shape-zero _ _ (c .if1 .taken))
 
 -- src/lib.rt:71:1
 returns-2 : tie.Need-returns-2
-returns-2 c = c .first-at .ensures ∙ ap foundOf (sym (by-shape (now (c .before .before .before .before .args .s)) (now (c .before .before .before .before .args .structs)) (c .before .before .before .before .args .shape) (c .before .if1 .left)))
+returns-2 c = let a = c .before .before .before .before .args in
+    c .first-at .ensures ∙ ap foundOf (sym (by-shape (now (a .s)) (now (a .structs)) (a .shape) (c .before .if1 .left)))
 
 pub struct-shaped-spec : {M : Type 1} → statement M
 struct-shaped-spec = tie.close (tie.spec first-at-requires returns returns-2)
