@@ -3,3 +3,4 @@ pub mod First
 pub mod Ty
 pub mod Signature
 pub mod Name
+pub mod Lower
