@@ -1,0 +1,28 @@
+-- The number three bytes after a struct's position is its shape.
+use denote.Ref.{now}
+use mathlib.Core.Path.{sym, ap, _∙_}
+use Rattle.lookup.specs.Answer.{foundOf}
+use Rattle.lookup.proofs.First.{missing}
+use Rattle.lookup.proofs.Ty.{by-shape, shape-zero}
+use borrow.Author.Needs.{needs}
+use Rattle.lookup.proofs.struct_shaped.Statement.{statement}
+use Rattle.lookup.proofs.struct_shaped.Tie as tie
+use Rattle.lookup.proofs.struct_shaped.Reads as reads
+use Rattle.lookup.proofs.struct_shaped.Lts as lts
+use Rattle.lookup.proofs.first_at.Reads as first-at-reads
+
+-- src/lib.rt:78:9
+first-at-requires : tie.Need-first-at-requires
+first-at-requires c κs = search needs
+
+-- src/lib.rt:71:1
+returns : tie.Need-returns
+returns c = missing (shape-zero _ _ (c .if1 .taken))
+
+-- src/lib.rt:71:1
+returns-2 : tie.Need-returns-2
+returns-2 c = let a = c .before .before .before .before .args in
+    c .first-at .ensures ∙ ap foundOf (sym (by-shape (now (a .s)) (now (a .structs)) (a .shape) (c .before .if1 .left)))
+
+pub struct-shaped-spec : {M : Type 1} → statement M
+struct-shaped-spec = tie.close (tie.spec first-at-requires returns returns-2)
