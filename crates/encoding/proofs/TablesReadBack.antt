@@ -14,8 +14,8 @@ use Rattle.fields.specs.Bytes.{twoBytes, fourBytes, numberBytes}
 use Rattle.fields.proofs.Tests.{less}
 use Rattle.tables.specs.Limits.{Limits}
 use Rattle.tables.specs.Name.{bytesAt, nameOf, sameBytes, thisName, nameAt, namesAt}
-use Rattle.tables.specs.Ty.{Ty, ofWidth, shapeWidth, ofLimit, typeAt, typesAt}
-use Rattle.tables.specs.Signature.{Method, Struct, Global, Param, Entry, methodAt, structAt, structsAt, globalAt, globalsAt, paramAt, thisWidth, entryAt}
+use Rattle.tables.specs.Ty.{Ty, ofWidth, shapeWidth, ofLimit, partsAt, typeAt, typesAt}
+use Rattle.tables.specs.Signature.{Method, Struct, Global, Param, Entry, methodAt, structRestAt, structAt, structsAt, globalAt, globalsAt, paramAt, thisWidth, entryAt}
 use Rattle.tables.specs.Tables.{Tables}
 use Rattle.encoding.specs.Written.{Written}
 use Rattle.encoding.specs.Tables.{encodeTable, encodeName, encodeType, encodeMethod, encodeStruct, encodeGlobal, encodeParam, encodeEntry, encodeTables}
@@ -88,7 +88,7 @@ module _ (s : List ℕ) where
       (passes _ (rw (v .this) (same-self thisName)) refl)
 
   type-back : (names : ℕ) (ts : List Ty) (p : ℕ) (t : Ty) (q : ℕ) → ValidType names ts t → Written s p (encodeType t) q → typeAt names s ts p ≡ ok t q
-  unfolding typeAt encodeType numberBytes
+  unfolding typeAt partsAt encodeType numberBytes
   type-back names ts p t q v g =
       split (t .kind ∷ []) (numberBytes (getD ofWidth (t .kind) 0) (t .of) ++ numberBytes (getD shapeWidth (t .kind) 0) (t .shape)) g (λ p1 a b.
       split (numberBytes (getD ofWidth (t .kind) 0) (t .of)) (numberBytes (getD shapeWidth (t .kind) 0) (t .shape)) b (λ p2 c d.
@@ -114,7 +114,7 @@ module _ (s : List ℕ) where
 
   struct-back : (L : Limits) (ns : List (List ℕ)) (ss : List Struct) (p : ℕ) (x : Struct) (q : ℕ) → ValidStruct L ns ss x → Written s p (encodeStruct x) q
       → structAt L ns s ss p ≡ ok x q
-  unfolding structAt encodeStruct numberBytes
+  unfolding structAt structRestAt encodeStruct numberBytes
   struct-back L ns ss p x q v g =
       let few = v .few in
       split (twoBytes (x .name)) (x .destructor ∷ (twoBytes (x .shape) ++ encodeTable encodeMethod (x .methods))) g (λ p1 a b.

@@ -18,8 +18,8 @@ use Rattle.fields.proofs.Tables.{table-parts}
 use Rattle.fields.proofs.Tests.{and-true, false-true}
 use Rattle.tables.specs.Limits.{Limits}
 use Rattle.tables.specs.Name.{bytesAt, nameOf, sameBytes, nameAt, namesAt}
-use Rattle.tables.specs.Ty.{Ty, shapeWidth, typeAt, typesAt}
-use Rattle.tables.specs.Signature.{Method, Struct, Global, Param, Entry, methodAt, structAt, structsAt, globalAt, globalsAt, paramAt, thisWidth, entryAt}
+use Rattle.tables.specs.Ty.{Ty, shapeWidth, partsAt, typeAt, typesAt}
+use Rattle.tables.specs.Signature.{Method, Struct, Global, Param, Entry, methodAt, structRestAt, structAt, structsAt, globalAt, globalsAt, paramAt, thisWidth, entryAt}
 use Rattle.encoding.specs.Valid.{Each, ValidName, ValidNames, ValidType, ValidTypes, ValidMethod, ValidStruct, ValidStructs, ValidGlobal, ValidGlobals, ValidParam, ValidEntry}
 use Rattle.encoding.proofs.TablesWritten.{bytes-length}
 
@@ -105,7 +105,7 @@ module _ (s : List ℕ) where
       subst (ValidNames L) a record { some = g .0; few = omega arith; each = g .2; this = same-true _ _ (e3 .0) })
 
   type-valid : (names : ℕ) (ts : List Ty) (p : ℕ) (t : Ty) (q : ℕ) → typeAt names s ts p ≡ ok t q → ValidType names ts t
-  unfolding typeAt
+  unfolding typeAt partsAt
   type-valid names ts p t q e =
       bound e (λ kind p1 e1 e2.
       let g = ensure-ok _ e2 in
@@ -137,7 +137,7 @@ module _ (s : List ℕ) where
       subst (ValidMethod names ms) a record { name = field-ok e1 .small; modifier = field-ok e3 .small; new = not-true _ (e5 .0) }))
 
   struct-valid : (L : Limits) (ns : List (List ℕ)) (ss : List Struct) (p : ℕ) (x : Struct) (q : ℕ) → structAt L ns s ss p ≡ ok x q → ValidStruct L ns ss x
-  unfolding structAt
+  unfolding structAt structRestAt
   struct-valid L ns ss p x q e =
       bound e (λ name p1 e1 e2.
       let g = ensure-ok _ e2 in

@@ -15,8 +15,8 @@ use Rattle.fields.proofs.Inverse.{bound, ensure-ok}
 use Rattle.fields.proofs.Numbers.{field-ok}
 use Rattle.tables.specs.Limits.{Limits}
 use Rattle.tables.specs.Name.{bytesAt, nameOf, nameAt, namesAt}
-use Rattle.tables.specs.Ty.{Ty, ofWidth, shapeWidth, typeAt, typesAt}
-use Rattle.tables.specs.Signature.{Method, Struct, Global, Param, Entry, methodAt, structAt, structsAt, globalAt, globalsAt, paramAt, thisWidth, entryAt}
+use Rattle.tables.specs.Ty.{Ty, ofWidth, shapeWidth, partsAt, typeAt, typesAt}
+use Rattle.tables.specs.Signature.{Method, Struct, Global, Param, Entry, methodAt, structRestAt, structAt, structsAt, globalAt, globalsAt, paramAt, thisWidth, entryAt}
 use Rattle.encoding.specs.Written.{Written}
 use Rattle.encoding.specs.Tables.{encodeTable, encodeName, encodeType, encodeMethod, encodeStruct, encodeGlobal, encodeParam, encodeEntry, encodeTables}
 use Rattle.tables.specs.Tables.{Tables}
@@ -74,7 +74,7 @@ module _ (s : List ℕ) (small : Bytes s) where
       (table-written encodeName (nameAt L s) s small (name-written L) _ _ _ p ms r e1))
 
   type-written : (names : ℕ) (ts : List Ty) (p : ℕ) (t : Ty) (q : ℕ) → typeAt names s ts p ≡ ok t q → Written s p (encodeType t) q
-  unfolding typeAt encodeType numberBytes
+  unfolding typeAt partsAt encodeType numberBytes
   type-written names ts p t q e =
       bound e (λ kind p1 e1 e2.
       bound (ensure-ok _ e2 .1) (λ of p2 e3 e4.
@@ -102,7 +102,7 @@ module _ (s : List ℕ) (small : Bytes s) where
       (then (field-written s small _ _ {k = 2} (inl (omega arith)) e1) (field-written s small _ _ {k = 1} (inl (omega arith)) e3))))
 
   struct-written : (L : Limits) (ns : List (List ℕ)) (ss : List Struct) (p : ℕ) (x : Struct) (q : ℕ) → structAt L ns s ss p ≡ ok x q → Written s p (encodeStruct x) q
-  unfolding structAt encodeStruct numberBytes
+  unfolding structAt structRestAt encodeStruct numberBytes
   struct-written L ns ss p x q e =
       bound e (λ name p1 e1 e2.
       bound (ensure-ok _ e2 .1) (λ destructor p2 e3 e4.

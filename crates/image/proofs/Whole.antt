@@ -7,6 +7,7 @@ use Prim.Native.Nat.{ℕ, zero, suc, _+_, _-_, _*_, _≤_, _<_}
 use native.Mathlib.Omega.{arith}
 use borrow.Author.Tests.{eqb-true, eq-eqb, ne-eqb}
 use lib.ListN.{length, getD, take, length-map, length-append}
+use lib.Seq.{length-take-le, getD-take}
 use lib.Dec.{eqb, leb}
 use Rattle.fields.specs.Parsed.{Parsed, ok, fault, bind, ensure}
 use Rattle.fields.specs.Number.{fieldAt, two, four}
@@ -20,10 +21,10 @@ use Rattle.fields.proofs.Inverse.{ensure-ok, bound, impossible}
 use Rattle.fields.proofs.Numbers.{Field, field-ok}
 use Rattle.fields.proofs.Tables.{table-parts, table-all, table-entries}
 use Rattle.tables.specs.Limits.{Limits, version1}
-use Rattle.tables.specs.Name.{nameOf, namesAt}
-use Rattle.tables.specs.Ty.{Ty, typesAt, typeIn, genericFlag, genericFlags}
+use Rattle.tables.specs.Name.{nameOf, nameAt, namesAt}
+use Rattle.tables.specs.Ty.{Ty, typeAt, typesAt, typeIn, genericFlag, genericFlags}
 use Rattle.tables.specs.Signature.{Struct, Global, Entry, structsAt, globalAt, globalsAt, entryAt, structIn, globalIn}
-use Rattle.tables.specs.Answer.{Listed}
+use Rattle.tables.specs.Answer.{Within, Listed}
 use Rattle.body.specs.Expr.{Scope}
 use Rattle.body.specs.Stmt.{Block, blockAt}
 use Rattle.image.specs.Image.{Image, Decoded, accepted, refused, lengthOk, bodyAt, restAt, imageAt, outcome, decode, faultOf, scopeIn}
@@ -179,11 +180,130 @@ module _ (s names flags : List ℕ) (ts : List Ty) (ef : flags ≡ genericFlags 
               }
 
 -- the head
-module _ (s : List ℕ) {r : ℕ} (er : r ≡ headFault version1 s) where
-  pub head-stops : 0 < r → decode version1 s ≡ refused r
-  unfolding decode imageAt headFault ensure outcome
-  head-stops lt = ?
+two-tests : {A : Type 0} (a b : Bool) (x : Parsed A) {r : ℕ} → r ≡ cond a (cond b 0 2) 1 → 0 < r → ensure a 1 (ensure b 2 x) ≡ fault r
+unfolding ensure
+two-tests true true x e lt = absurd (omega arith)
+two-tests true false x e lt = rw e refl
+two-tests false b x e lt = rw e refl
 
-  pub head-passes : r ≤ 0 → imageAt version1 s ≡ bind (namesAt version1 s 5) (λ ns p. bind (typesAt version1 (length ns) s p) (λ ts q. restAt version1 ns ts s q))
-  unfolding imageAt headFault ensure
-  head-passes le = ?
+two-passed : {A : Type 0} (a b : Bool) (x : Parsed A) {r : ℕ} → r ≡ cond a (cond b 0 2) 1 → r ≤ 0 → ensure a 1 (ensure b 2 x) ≡ x
+unfolding ensure
+two-passed true true x e le = refl
+two-passed true false x e le = absurd (omega arith)
+two-passed false b x e le = absurd (omega arith)
+
+refusing : (s : List ℕ) {k : ℕ} → imageAt version1 s ≡ fault k → decode version1 s ≡ refused k
+unfolding decode outcome
+refusing s e = rw e refl
+
+no-layout : (s : List ℕ) {k : ℕ} {r : ImageRead} → decode version1 s ≡ refused k → r .fault ≡ k → Reads s r
+unfolding faultOf
+no-layout s {k = k} z e = record { fault = e ∙ sym (rw z refl); layout = λ i y. not-both (sym z ∙ y) }
+  where
+    not-both : {C : Type 0} {i : Image} → refused k ≡ accepted i → C
+    not-both e = let z : _≡_ {A = ℕ} 0 1 = cc in absurd (omega arith)
+
+outcome-fault : (x : Parsed Image) {k : ℕ} → k ≡ faultOf (outcome x) → 0 < k → x ≡ fault k
+unfolding outcome faultOf
+outcome-fault (ok i p) e lt = absurd (omega arith)
+outcome-fault (fault n) e lt = rw e refl
+
+outcome-ok : (x : Parsed Image) {i : Image} → outcome x ≡ accepted i → (p : ℕ) × (x ≡ ok i p)
+unfolding outcome
+outcome-ok (ok j p) {i} e = (p, let z : j ≡ i = cc in ap (λ y. ok y p) z)
+outcome-ok (fault n) {i} e = let z : _≡_ {A = ℕ} 0 1 = cc in absurd (omega arith)
+
+-- the names and the types are those that were read
+tables-kept : (L : Limits) (ns : List (List ℕ)) (ts : List Ty) (s : List ℕ) (at : ℕ) (i : Image) (p : ℕ) → restAt L ns ts s at ≡ ok i p
+    → (ns ≡ i .tables .names) × (ts ≡ i .tables .types)
+unfolding restAt
+tables-kept L ns ts s at i p e =
+    bound e (λ ss q e1 e2. bound e2 (λ gs r e3 e4. bound e4 (λ y u e5 e6. bound e6 (λ b v e7 e8.
+    let z : record { tables = record { names = ns; types = ts; structs = ss; globals = gs }; entry = y; body = b } ≡ i = cc in
+    (ap (λ x. x .tables .names) z, ap (λ x. x .tables .types) z)))))
+
+module _ (s : List ℕ) {r : ℕ} (er : r ≡ headFault version1 s) where
+  pub head-stops : {x : ImageRead} → 0 < r → x .fault ≡ r → Reads s x
+  unfolding imageAt headFault
+  head-stops lt e = no-layout s (refusing s (two-tests _ _ _ er lt)) e
+
+  module _ (le : r ≤ 0) where
+    head-passes : imageAt version1 s ≡ bind (namesAt version1 s 5) (λ ns p. bind (typesAt version1 (length ns) s p) (λ ts q. restAt version1 ns ts s q))
+    unfolding imageAt headFault
+    head-passes = two-passed _ _ _ er le
+
+    pub names-stop : {k : ℕ} {x : ImageRead} → namesAt version1 s 5 ≡ fault k → x .fault ≡ k → Reads s x
+    unfolding bind
+    names-stop e f = no-layout s (refusing s (head-passes ∙ rw e refl)) f
+
+    module _ {ns : List (List ℕ)} {p n : ℕ} (e1 : namesAt version1 s 5 ≡ ok ns p) (l1 : length ns ≡ n) where
+      pub types-stop : {k : ℕ} {x : ImageRead} → typesAt version1 n s p ≡ fault k → x .fault ≡ k → Reads s x
+      unfolding bind
+      types-stop e f = no-layout s (refusing s (head-passes ∙ simp (e1, l1, e))) f
+
+      module _ {ts : List Ty} {q m : ℕ} (e2 : typesAt version1 n s p ≡ ok ts q) (l2 : length ts ≡ m) where
+        to-rest : imageAt version1 s ≡ restAt version1 ns ts s q
+        unfolding bind
+        to-rest = head-passes ∙ simp (e1, l1, e2)
+
+        same-names : (nameStarts : List ℕ) → Listed (nameOf s) s nameStarts ns → map (nameOf s) (take n nameStarts) ≡ ns
+        same-names nameStarts ln = subst (λ k. map (nameOf s) (take k nameStarts) ≡ ns) l1 (ln .placed)
+
+        pub rest-stop : (nameStarts : List ℕ) {starts : List ℕ} {z : Rest} {x : ImageRead} → Listed (nameOf s) s nameStarts ns
+            → RestReads (map (nameOf s) (take n nameStarts)) ts s q starts z → 0 < z .fault → x .fault ≡ z .fault → Reads s x
+        rest-stop nameStarts {starts} {z} ln g0 lt e =
+            let g = subst (λ x. RestReads x ts s q starts z) (same-names nameStarts ln) g0 in
+            no-layout s (refusing s (to-rest ∙ outcome-fault _ (g .fault) lt)) e
+
+        pub rest-done : (nameStarts : List ℕ) {typeStarts starts : List ℕ} {z : Rest} → Listed (nameOf s) s nameStarts ns
+            → RestReads (map (nameOf s) (take n nameStarts)) ts s q starts z → z .fault ≤ 0 → Listed (typeIn s) s typeStarts ts
+            → Reads s (record { fault = 0; layout = record { names = nameStarts; «name_count» = n; types = typeStarts; «type_count» = m; structs = starts; rest = z } })
+        unfolding decode
+        rest-done nameStarts {typeStarts} {starts} {z} ln g0 le lt =
+            let g = subst (λ x. RestReads x ts s q starts z) (same-names nameStarts ln) g0 in
+            let f : z .fault ≡ faultOf (outcome (restAt version1 ns ts s q)) = g .fault in
+            let zero : 0 ≡ z .fault = omega arith in
+            record {
+              fault = zero ∙ f ∙ ap (λ x. faultOf (outcome x)) (sym to-rest);
+              layout = λ i y. laid g i (outcome-ok (restAt version1 ns ts s q) (ap outcome (sym to-rest) ∙ y));
+            }
+          where
+            laid : RestReads ns ts s q starts z → (i : Image) → (p : ℕ) × (restAt version1 ns ts s q ≡ ok i p)
+                → Laid s i (record { names = nameStarts; «name_count» = n; types = typeStarts; «type_count» = m; structs = starts; rest = z })
+            laid g i w =
+                let k = tables-kept version1 ns ts s q i (w .0) (w .1) in
+                record {
+                  nameCount = sym l1 ∙ ap length (k .0);
+                  names = subst (Listed (nameOf s) s nameStarts) (k .0) ln;
+                  typeCount = sym l2 ∙ ap length (k .1);
+                  types = subst (Listed (typeIn s) s typeStarts) (k .1) lt;
+                  rest = g .stands i (w .0) (w .1);
+                }
+
+-- the tables' limits
+pub name-limit : (s : List ℕ) (at : ℕ) (ns : List (List ℕ)) (p : ℕ) → namesAt version1 s at ≡ ok ns p → (length ns ≤ 512) × (0 < length ns)
+unfolding namesAt
+name-limit s at ns p e =
+    bound e (λ xs q e1 e2.
+    let g = table-parts (nameAt version1 s) 3 1 513 s at e1 in
+    let f = field-ok (g .2) .small in
+    let z : xs ≡ ns = (let h = ensure-ok _ e2 .1 in cc) in
+    let l : length ns ≡ g .0 = ap length (sym z) ∙ g .5 in
+    let low = g .3 in
+    (omega arith, omega arith))
+
+pub type-limit : (names : ℕ) (s : List ℕ) (at : ℕ) (ts : List Ty) (p : ℕ) → typesAt version1 names s at ≡ ok ts p → length ts ≤ 256
+unfolding typesAt
+type-limit names s at ts p e =
+    let g = table-parts (typeAt names s) 4 1 257 s at e in
+    let f = field-ok (g .2) .small in
+    let l = g .5 in
+    omega arith
+
+-- the names' positions as they are lent
+pub names-lent : (s starts : List ℕ) {ns : List (List ℕ)} {n : ℕ} → Listed (nameOf s) s starts ns → length ns ≡ n → 0 < n → n ≤ length starts
+    → (0 < length (take n starts)) × Within s (take n starts) (length (take n starts))
+names-lent s starts {ns} {n} l e pos le =
+    let k : length (take n starts) ≡ n = length-take-le n starts le in
+    (omega arith, λ i lt. let h : i < n = omega arith in
+    subst (λ x. x < length s) (sym (getD-take n starts i 0 h)) (l .within i (omega arith)))

@@ -15,7 +15,7 @@ use Rattle.fields.proofs.Inverse.{bound, ensure-ok}
 use Rattle.fields.proofs.Numbers.{field-ok}
 use Rattle.fields.proofs.Tables.{table-parts}
 use Rattle.tables.specs.Limits.{Limits}
-use Rattle.tables.specs.Ty.{Ty, ofLimit, typeAt, typesAt}
+use Rattle.tables.specs.Ty.{Ty, ofLimit, partsAt, typeAt, typesAt}
 use Rattle.lookup.specs.Ty.{typeNo, Lower}
 
 -- one more type, whose inner type is before it
@@ -39,7 +39,7 @@ lower-more xs x low h t =
 
 -- a type that is read after those of ts
 read-lower : (names : ℕ) (s : List ℕ) (ts : List Ty) (at : ℕ) (x : Ty) (q : ℕ) → typeAt names s ts at ≡ ok x q → 3 ≤ x .kind → x .of < length ts
-unfolding typeAt
+unfolding typeAt partsAt
 read-lower names s ts at x q e l =
     bound e (λ kind p e1 e2.
     bound (ensure-ok _ e2 .1) (λ of p2 f1 f2.

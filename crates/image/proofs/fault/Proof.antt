@@ -1,3 +1,5 @@
+use Rattle.image.specs.Layout.{faultIn}
+use mathlib.Core.Path.{_≡_, sym, ap}
 use borrow.Author.Needs.{needs}
 use Rattle.image.proofs.fault.Statement.{statement}
 use Rattle.image.proofs.fault.Tie as tie
@@ -14,11 +16,13 @@ enum-known-n c = search needs
 
 -- src/lib.rt:120:1
 returns : tie.Need-returns
-returns c = ?
+unfolding faultIn
+returns c = sym (ap faultIn (c .enum-told .given .1))
 
 -- src/lib.rt:120:1
 returns-2 : tie.Need-returns-2
-returns-2 c = ?
+unfolding faultIn
+returns-2 c = sym (ap faultIn (c .before .n .given .1))
 
 pub fault-spec : {M : Type 1} → statement M
 fault-spec = tie.close (tie.spec enum-told enum-known-n returns returns-2)

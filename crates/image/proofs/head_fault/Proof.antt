@@ -1,3 +1,9 @@
+use mathlib.Core.Path.{_≡_, refl, sym, ap, _∙_, subst}
+use native.Mathlib.Omega.{arith}
+use denote.Ref.{now}
+use Rattle.fields.proofs.Answers.{number-ok, number-wrong, read-ok, read-fault, table-ok, table-wrong}
+use borrow.Author.Tests.{eq-eqb, ne-eqb, le-leb, lt-leb}
+use Rattle.image.specs.Layout.{headFault}
 use borrow.Author.Needs.{needs}
 use Rattle.image.proofs.head_fault.Statement.{statement}
 use Rattle.image.proofs.head_fault.Tie as tie
@@ -8,11 +14,13 @@ use Rattle.fields.proofs.peek.Reads as peek-reads
 
 -- src/lib.rt:47:9
 returns : tie.Need-returns
-returns c = ?
+unfolding headFault
+returns c = simp (lt-leb _ _ (c .if1 .taken))
 
 -- src/lib.rt:50:9
 returns-2 : tie.Need-returns-2
-returns-2 c = ?
+unfolding headFault
+returns-2 c = simp (le-leb _ _ (c .before .if1 .left), lt-leb _ _ (c .if2 .taken))
 
 -- src/lib.rt:52:8
 four-at-requires : tie.Need-four-at-requires
@@ -24,7 +32,8 @@ add-if3 c = search needs
 
 -- src/lib.rt:53:9
 returns-3 : tie.Need-returns-3
-returns-3 c = ?
+unfolding headFault
+returns-3 c = simp (le-leb _ _ (c .before .before .before .if1 .left), le-leb _ _ (c .before .before .if2 .left), ← c .before .four-at .ensures .0, ne-eqb _ _ (c .if3 .taken))
 
 -- src/lib.rt:55:8
 peek-requires : tie.Need-peek-requires
@@ -32,11 +41,13 @@ peek-requires c κs = search needs
 
 -- src/lib.rt:56:9
 returns-4 : tie.Need-returns-4
-returns-4 c = ?
+unfolding headFault
+returns-4 c = simp (le-leb _ _ (c .before .before .before .before .before .if1 .left), le-leb _ _ (c .before .before .before .before .if2 .left), ← c .before .before .before .four-at .ensures .0, eq-eqb _ _ (c .before .before .if3 .left), ← c .before .peek .ensures .0, ne-eqb _ _ (c .if4 .taken))
 
 -- src/lib.rt:43:1
 returns-5 : tie.Need-returns-5
-returns-5 c = ?
+unfolding headFault
+returns-5 c = simp (le-leb _ _ (c .before .before .before .before .before .if1 .left), le-leb _ _ (c .before .before .before .before .if2 .left), ← c .before .before .before .four-at .ensures .0, eq-eqb _ _ (c .before .before .if3 .left), ← c .before .peek .ensures .0, eq-eqb _ _ (c .if4 .left))
 
 pub head-fault-spec : {M : Type 1} → statement M
 head-fault-spec =

@@ -1,3 +1,8 @@
+use mathlib.Core.Path.{_≡_, refl, sym, ap, _∙_, subst}
+use native.Mathlib.Omega.{arith}
+use denote.Ref.{now}
+use Rattle.fields.proofs.Answers.{number-ok, number-wrong, read-ok, read-fault, table-ok, table-wrong}
+use Rattle.image.proofs.Whole.{wrong-is, fault-is, rest-structs, rest-globals, rest-entry, rest-body, rest-read, globals-stand}
 use borrow.Author.Needs.{needs}
 use Rattle.image.proofs.read_rest.Statement.{statement}
 use Rattle.image.proofs.read_rest.Tie as tie
@@ -37,7 +42,7 @@ same-length c = search needs
 
 -- src/lib.rt:92:9
 returns : tie.Need-returns
-returns c = ?
+returns c = λ ts ef. rest-structs _ (now (c .before .before .before .before .before .before .before .before .before .before .before .before .args .names)) _ ts ef _ _ (table-wrong (c .before .before .before .before .before .before .read-structs .ensures .0) (c .before .before .enum-told .given .1)) (c .no-rest .ensures ∙ wrong-is (c .before .wrong .ensures) (c .before .before .enum-told .given .1))
 
 -- src/lib.rt:94:9
 read-globals-requires : tie.Need-read-globals-requires
@@ -65,7 +70,7 @@ same-length-2 c = search needs
 
 -- src/lib.rt:96:9
 returns-2 : tie.Need-returns-2
-returns-2 c = ?
+returns-2 c = λ ts ef. rest-globals _ (now (c .before .before .before .before .before .before .before .before .before .before .before .before .before .before .before .before .args .names)) _ ts ef _ _ (table-ok (c .before .before .before .before .before .before .before .before .before .before .read-structs .ensures .0) (c .before .before .before .before .before .before .struct-table .given .1) .1) (table-wrong (c .before .before .before .before .read-globals .ensures) (c .before .before .enum-told2 .given .1)) (c .no-rest2 .ensures ∙ wrong-is (c .before .wrong2 .ensures) (c .before .before .enum-told2 .given .1))
 
 -- src/lib.rt:98:9
 read-entry-requires : tie.Need-read-entry-requires
@@ -93,7 +98,7 @@ same-length-3 c = search needs
 
 -- src/lib.rt:100:9
 returns-3 : tie.Need-returns-3
-returns-3 c = ?
+returns-3 c = λ ts ef. rest-entry _ (now (c .before .before .before .before .before .before .before .before .before .before .before .before .before .before .before .before .before .before .before .before .args .names)) _ ts ef _ _ (table-ok (c .before .before .before .before .before .before .before .before .before .before .before .before .before .before .read-structs .ensures .0) (c .before .before .before .before .before .before .before .before .before .before .struct-table .given .1) .1) (table-ok (c .before .before .before .before .before .before .before .before .read-globals .ensures) (c .before .before .before .before .before .before .global-table .given .1) .1) (read-fault (c .before .before .before .before .read-entry .ensures) (c .before .before .enum-told3 .given .1)) (c .no-rest3 .ensures ∙ fault-is (c .before .fault .ensures) (c .before .before .enum-told3 .given .1))
 
 -- src/lib.rt:103:9
 read-body-requires : tie.Need-read-body-requires
@@ -120,11 +125,11 @@ same-length-4 c = search needs
 
 -- src/lib.rt:105:9
 returns-4 : tie.Need-returns-4
-returns-4 c = ?
+returns-4 c = λ ts ef. rest-body _ (now (c .before .before .before .before .before .before .before .before .before .before .before .before .before .before .before .before .before .before .before .before .before .before .before .before .args .names)) _ ts ef _ _ (table-ok (c .before .before .before .before .before .before .before .before .before .before .before .before .before .before .before .before .before .before .read-structs .ensures .0) (c .before .before .before .before .before .before .before .before .before .before .before .before .before .before .struct-table .given .1) .1) (table-ok (c .before .before .before .before .before .before .before .before .before .before .before .before .read-globals .ensures) (c .before .before .before .before .before .before .before .before .before .before .global-table .given .1) .1) (read-ok (c .before .before .before .before .before .before .before .before .read-entry .ensures) (c .before .before .before .before .before .before .entry .given .1) .1) (read-fault (c .before .before .before .before .read-body .ensures) (c .before .before .enum-told5 .given .1)) (c .no-rest4 .ensures ∙ fault-is (c .before .fault2 .ensures) (c .before .before .enum-told5 .given .1))
 
 -- src/lib.rt:107:45
 add-t19 : tie.Need-add-t19
-add-t19 c = ?
+add-t19 c = let g = table-ok (c .before .before .before .before .before .before .before .before .before .before .read-globals .ensures) (c .before .before .before .before .before .before .before .before .global-table .given .1) in let f = globals-stand _ _ _ _ _ (g .1) .fit in omega arith
 
 -- src/lib.rt:85:1
 same-length-5 : tie.Need-same-length-5
@@ -132,7 +137,9 @@ same-length-5 c = search needs
 
 -- src/lib.rt:85:1
 returns-5 : tie.Need-returns-5
-returns-5 c = ?
+returns-5 c = λ ts ef. let ss = table-ok (c .before .before .before .before .before .before .before .before .before .before .before .before .before .before .before .before .read-structs .ensures .0) (c .before .before .before .before .before .before .before .before .before .before .before .before .struct-table .given .1) in
+    let gs = table-ok (c .before .before .before .before .before .before .before .before .before .before .read-globals .ensures) (c .before .before .before .before .before .before .before .before .global-table .given .1) in
+    rest-read _ (now (c .before .before .before .before .before .before .before .before .before .before .before .before .before .before .before .before .before .before .before .before .before .before .args .names)) _ ts ef _ _ (ss .1) (gs .1) (read-ok (c .before .before .before .before .before .before .read-entry .ensures) (c .before .before .before .before .entry .given .1) .1) (read-ok (c .before .before .read-body .ensures) (c .enum-told4 .given .1) .1) (ss .2) (gs .2) refl (c .before .before .before .before .before .before .before .before .before .before .before .before .before .before .before .before .read-structs .ensures .1 (ss .0) _ (ss .1))
 
 pub read-rest-spec : {M : Type 1} → statement M
 read-rest-spec =

@@ -1,3 +1,5 @@
+use Rattle.image.specs.Layout.{wrongOf}
+use mathlib.Core.Path.{_≡_, sym, ap}
 use borrow.Author.Needs.{needs}
 use Rattle.image.proofs.wrong.Statement.{statement}
 use Rattle.image.proofs.wrong.Tie as tie
@@ -14,11 +16,13 @@ enum-known-n c = search needs
 
 -- src/lib.rt:111:1
 returns : tie.Need-returns
-returns c = ?
+unfolding wrongOf
+returns c = sym (ap wrongOf (c .enum-told .given .1))
 
 -- src/lib.rt:111:1
 returns-2 : tie.Need-returns-2
-returns-2 c = ?
+unfolding wrongOf
+returns-2 c = sym (ap wrongOf (c .before .n .given .1))
 
 pub wrong-spec : {M : Type 1} → statement M
 wrong-spec = tie.close (tie.spec enum-told enum-known-n returns returns-2)
