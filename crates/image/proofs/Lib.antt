@@ -1,3 +1,4 @@
 -- What the proofs of several functions and crates use.
 pub mod Numbered
 pub mod Whole
+pub mod RoundTrip

@@ -1,0 +1,127 @@
+-- Writing what was read gives the bytes again, and reading what was written gives the image again.
+-- Assumes nothing.
+use mathlib.Core.Path.{_≡_, refl, sym, ap, _∙_, subst}
+use mathlib.Core.List.{List, [], _∷_, _++_, append-nil}
+use mathlib.Core.Bool.{Bool, true, false, _&&_}
+use Prim.Native.Nat.{ℕ, _+_, _-_, _≤_, _<_}
+use native.Mathlib.Omega.{arith}
+use borrow.Author.Tests.{eqb-true, leb-true, eq-eqb, le-leb}
+use lib.ListN.{length, getD, drop, length-append, length-drop}
+use lib.Seq.{drop-length}
+use lib.Dec.{leb, eqb}
+use Rattle.fields.specs.Parsed.{Parsed, ok, fault, bind, ensure}
+use Rattle.fields.specs.Number.{four}
+use Rattle.fields.specs.Bytes.{fourBytes, Bytes, Part}
+use Rattle.fields.proofs.Inverse.{ensure-ok, bound}
+use Rattle.fields.proofs.Tests.{and-true}
+use Rattle.tables.specs.Limits.{Limits}
+use Rattle.tables.specs.Name.{namesAt}
+use Rattle.tables.specs.Ty.{typesAt}
+use Rattle.tables.specs.Signature.{structsAt, globalsAt, entryAt}
+use Rattle.tables.specs.Tables.{Tables}
+use Rattle.body.specs.Stmt.{Block, blockAt}
+use Rattle.encoding.specs.Tables.{encodeTables, encodeEntry}
+use Rattle.encoding.specs.Body.{encodeBlock}
+use Rattle.encoding.specs.Written.{Written}
+use Rattle.encoding.specs.Valid.{ValidScope}
+use Rattle.encoding.proofs.Parts.{byte-at, then, upto, from, being, four-at, split, here, four-here, goes, passes}
+use Rattle.encoding.proofs.TablesWritten.{tables-written, entry-written}
+use Rattle.encoding.proofs.TablesReadBack.{tables-read-back, entry-read-back}
+use Rattle.encoding.proofs.TablesValid.{names-valid, types-valid, structs-valid, globals-valid, entry-valid}
+use Rattle.encoding.proofs.BodyWritten.{block-written}
+use Rattle.encoding.proofs.BodyReadBack.{block-read-back}
+use Rattle.encoding.proofs.BodyValid.{block-valid}
+use Rattle.image.specs.Image.{Image, Decoded, accepted, refused, scopeIn, lengthOk, bodyAt, restAt, imageAt, outcome, decode, encodeParts, encode}
+use Rattle.image.specs.Valid.{ValidImage}
+
+-- the parts of an image that was read, and where each ends
+pub record Parted (L : Limits) (s : List ℕ) (i : Image) : Type 0 where
+  pub long : 5 ≤ length s
+  pub short : length s ≤ L .size
+  pub counted : four s 0 + 4 ≡ length s
+  pub version : getD s 4 0 ≡ L .version
+  pub p : ℕ
+  pub q : ℕ
+  pub r : ℕ
+  pub u : ℕ
+  pub v : ℕ
+  pub names : namesAt L s 5 ≡ ok (i .tables .names) p
+  pub types : typesAt L (length (i .tables .names)) s p ≡ ok (i .tables .types) q
+  pub structs : structsAt L (i .tables .names) s q ≡ ok (i .tables .structs) r
+  pub globals : globalsAt L (length (i .tables .names)) s r ≡ ok (i .tables .globals) u
+  pub entry : entryAt L (length (i .tables .names)) (length (i .tables .types)) s u ≡ ok (i .entry) v
+  pub body : blockAt (scopeIn L (i .tables .names) (i .tables .types)) s (L .blockDepth) v ≡ ok (i .body) (length s)
+
+image-parted : (L : Limits) (s : List ℕ) (i : Image) (n : ℕ) → imageAt L s ≡ ok i n → Parted L s i
+unfolding imageAt restAt bodyAt
+image-parted L s i n e =
+    let g = ensure-ok _ e in
+    let h = ensure-ok _ (g .1) in
+    let l = and-true (leb 5 (length s)) (leb (length s) (L .size) && eqb (four s 0 + 4) (length s)) (g .0) in
+    let m = and-true (leb (length s) (L .size)) (eqb (four s 0 + 4) (length s)) (l .1) in
+    bound (h .1) (λ ns p e1 e2. bound e2 (λ ts q e3 e4. bound e4 (λ ss r e5 e6. bound e6 (λ gs u e7 e8. bound e8 (λ y v e9 e10. bound e10 (λ b w e11 e12.
+    bound e11 (λ c x e13 e14.
+    let k = ensure-ok _ e14 in
+    let k1 = k .1 in
+    let z : record { tables = record { names = ns; types = ts; structs = ss; globals = gs }; entry = y; body = b } ≡ i = cc in
+    let cb : c ≡ b = cc in
+    let lx : x ≡ length s = eqb-true _ _ (k .0) in
+    subst (Parted L s) z (record {
+      long = leb-true _ _ (l .0);
+      short = leb-true _ _ (m .0);
+      counted = eqb-true _ _ (m .1);
+      version = eqb-true _ _ (h .0);
+      p = p; q = q; r = r; u = u; v = v;
+      names = e1;
+      types = e3;
+      structs = e5;
+      globals = e7;
+      entry = e9;
+      body = e13 ∙ ap (λ a. ok a x) cb ∙ ap (ok b) lx;
+    }))))))))
+
+decode-ok : (x : Parsed Image) (i : Image) → outcome x ≡ accepted i → (n : ℕ) × (x ≡ ok i n)
+unfolding outcome
+decode-ok (ok j p) i e = (p, let z : j ≡ i = cc in ap (λ y. ok y p) z)
+decode-ok (fault n) i e = let z : _≡_ {A = ℕ} 0 1 = cc in absurd (omega arith)
+
+pub parted : (L : Limits) (s : List ℕ) (i : Image) → decode L s ≡ accepted i → Parted L s i
+unfolding decode
+parted L s i e = let g = decode-ok (imageAt L s) i e in image-parted L s i (g .0) (g .1)
+
+-- bytes that stand from the first to the last are all there are
+whole-list : (s a : List ℕ) → Written s 0 a (length s) → a ≡ s
+whole-list s a w =
+    let e : drop 0 s ≡ a ++ drop (length s) s = w .part .is in
+    sym (e ∙ ap (λ x. a ++ x) (drop-length s) ∙ append-nil a)
+
+-- writing what was read
+pub image-written : (L : Limits) (s : List ℕ) → Bytes s → (i : Image) → decode L s ≡ accepted i → encode L i ≡ s
+unfolding encode
+image-written L s small i e =
+    let g = parted L s i e in
+    let len = g .long in
+    let head = four-at s small 0 (omega arith) in
+    let version = being (ap (λ x. x ∷ []) (g .version)) (byte-at s 4 (omega arith)) in
+    let tables = tables-written s small L (i .tables) 5 (g .p) (g .q) (g .r) (g .u) (g .names) (g .types) (g .structs) (g .globals) in
+    let entry = entry-written s small L _ _ (g .u) (i .entry) (g .v) (g .entry) in
+    let body = block-written s small _ (L .blockDepth) (g .v) (i .body) (length s) (g .body) in
+    let parts : Written s 4 (encodeParts L i) (length s) = then version (then tables (then entry body)) in
+    let count : length (encodeParts L i) ≡ four s 0 = (let a = parts .end in let b = g .counted in omega arith) in
+    whole-list s _ (then (being (ap fourBytes (sym count)) head) parts)
+
+-- what was read is valid
+pub image-valid : (L : Limits) (s : List ℕ) → Bytes s → (i : Image) → decode L s ≡ accepted i → ValidImage L i
+image-valid L s small i e =
+    let g = parted L s i e in
+    record {
+      tables = record {
+        names = names-valid s small L 5 _ _ (g .names);
+        types = types-valid s L _ _ _ _ (g .types);
+        structs = structs-valid s L _ _ _ _ (g .structs);
+        globals = globals-valid s L _ _ _ _ (g .globals);
+      };
+      entry = entry-valid s L _ _ _ _ _ (g .entry);
+      body = block-valid _ s small (L .blockDepth) _ _ _ (g .body);
+      size = subst (λ x. length x ≤ L .size) (sym (image-written L s small i e)) (g .short);
+    }
