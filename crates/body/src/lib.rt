@@ -219,12 +219,13 @@ fn read_end(s: &[u8], flags: &[u8], env: Env, tag: usize, first: usize, at: usiz
 fn read_expr(s: &[u8], flags: &[u8], env: Env, left: usize, at: usize) -> Read
     ensures { λ r. ⌜ r ≡ readOf (exprAt (scopeOf env (now (flags .entry))) (now (s .entry)) left at) ⌝ }
 {
-    if left == 0 {
-        return Read::Fault(9);
-    }
-    match read_head(s, env, at) {
-        Start::Bad(f) => Read::Fault(f),
-        Start::Tag(tag, first) => read_children(s, flags, env, left - 1, tag, first),
+    if 0 < left {
+        match read_head(s, env, at) {
+            Start::Bad(f) => Read::Fault(f),
+            Start::Tag(tag, first) => read_children(s, flags, env, left - 1, tag, first),
+        }
+    } else {
+        Read::Fault(9)
     }
 }
 
@@ -343,10 +344,11 @@ fn read_values(s: &[u8], flags: &[u8], env: Env, tag: usize, p: usize) -> Start
 pub fn read_block(s: &[u8], flags: &[u8], env: Env, left: usize, at: usize) -> Read
     ensures { λ r. ⌜ r ≡ readOf (blockAt (scopeOf env (now (flags .entry))) (now (s .entry)) left at) ⌝ }
 {
+    let bytes = room(s, at);
     if left == 0 {
         return Read::Fault(9);
     }
-    if room(s, at) < 6 {
+    if bytes < 6 {
         return Read::Fault(8);
     }
     let n = two_at(s, at + 4);
