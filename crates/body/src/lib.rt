@@ -137,6 +137,7 @@ fn read_head(s: &[u8], env: Env, at: usize) -> Start
     }
 }
 
+// The node at a position; Other where none stands.
 pub fn node_at(s: &[u8], at: usize) -> Node
     ensures { λ r. ⌜ r ≡ nodeAt (now (s .entry)) at ⌝ }
 {
@@ -431,6 +432,7 @@ fn peek_four(s: &[u8], at: usize) -> usize
     peek_two(s, at) * 65536 + peek_two(s, at + 2)
 }
 
+// The head of the statement at a position; Other where none stands.
 pub fn stmt_at(s: &[u8], at: usize) -> StmtNode
     ensures { λ r. ⌜ r ≡ stmtNodeAt (now (s .entry)) at ⌝ }
 {

@@ -1,10 +1,9 @@
 use borrow.Author.Needs.{needs}
-use mathlib.Core.Path.{_≡_}
 use native.Mathlib.Omega.{arith}
 use native.Mathlib.Nat.{le-refl}
-use Prim.Native.Nat.{_≤_, _+_, _*_, _-_}
+use Prim.Native.Nat.{_+_, _*_, _-_}
 use Rattle.body.specs.Expr.{argWidth, fixedCount, countWidth, lastWidth}
-use Rattle.body.proofs.Skipping.{Steps, steps, own, children-walk, children-end, list-walk, list-end, Going, going-start, first-walk, going-next, going-done}
+use Rattle.body.proofs.Skipping.{steps, own, children-walk, children-end, list-walk, list-end, Going, going-start, first-walk, going-next, going-done}
 use Prim.Native.Nat.{ℕ, _<_}
 use borrow.Fn.Kinds.{In}
 use borrow.Fn.PlainCycle.{Measures, is, falls, and}

@@ -2,7 +2,7 @@ use denote.Ref.{now}
 use lib.Dec.{eqb}
 use lib.ListN.{getD}
 use native.Mathlib.Omega.{arith}
-use mathlib.Core.Path.{_≡_, ap, _∙_}
+use mathlib.Core.Path.{ap, _∙_}
 use Rattle.body.proofs.Walking.{no-field, field, no-ident, ident}
 use borrow.Author.Needs.{needs}
 use Rattle.body.proofs.generic_receiver.Statement.{statement}

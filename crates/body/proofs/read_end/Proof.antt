@@ -1,6 +1,6 @@
 use denote.Ref.{now}
 use lib.ListN.{getD}
-use mathlib.Core.Path.{_≡_, sym, ap, _∙_}
+use mathlib.Core.Path.{sym, ap, _∙_}
 use Rattle.fields.proofs.Answers.{number-ok, number-wrong}
 use Rattle.body.specs.Expr.{fixedCount, lastWidth}
 use Rattle.body.proofs.Reading.{name-stop, generic-stop, call-ends, node-ends}

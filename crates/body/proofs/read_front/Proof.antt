@@ -1,4 +1,4 @@
-use mathlib.Core.Path.{_≡_, sym, ap, _∙_}
+use mathlib.Core.Path.{sym, ap, _∙_}
 use Rattle.body.specs.Answer.{frontOf}
 use Rattle.body.proofs.BodyReading.{head-small, head-ok, head-bad, front-head-bad, front-values}
 use borrow.Author.Needs.{needs}

@@ -2,7 +2,7 @@ use borrow.Author.Needs.{needs}
 use lib.ListN.{length}
 use native.Mathlib.Omega.{arith}
 use Prim.Native.Nat.{_-_}
-use mathlib.Core.Path.{_≡_, refl}
+use mathlib.Core.Path.{refl}
 use Rattle.body.proofs.Walking.{Looks, no-unary, with-operator, again, unary}
 use Rattle.body.proofs.strip_noop_unary.Statement.{statement}
 use Rattle.body.proofs.strip_noop_unary.Tie as tie
