@@ -1,6 +1,6 @@
 -- The steps of reading statements and blocks, as the code takes them.
 -- Assumes nothing.
-use mathlib.Core.Path.{_≡_, refl, sym, ap, _∙_}
+use mathlib.Core.Path.{_≡_, refl}
 use mathlib.Core.List.{List, [], _∷_}
 use Prim.Native.Nat.{ℕ, zero, suc, _+_, _-_, _≤_, _<_}
 use native.Mathlib.Omega.{arith}
@@ -10,15 +10,14 @@ use Rattle.fields.specs.Parsed.{Parsed, ok, fault, bind, ensure}
 use Rattle.fields.specs.Number.{two, four, fieldAt}
 use Rattle.fields.specs.Table.{manyOf}
 use Rattle.fields.specs.Answer.{readOf, numberOf}
-use Rattle.fields.specs.declared.Read.{Read}
-use Rattle.fields.specs.declared.Read.the-variants.{Next, Fault}
+use Rattle.fields.specs.declared.Read.the-variants.{Fault}
 use Rattle.fields.specs.declared.Number.{Number}
-use Rattle.fields.specs.declared.Number.the-variants.{Is, Wrong}
+use Rattle.fields.specs.declared.Number.the-variants.{Is}
 use Rattle.fields.proofs.Inverse.{ensure-ok, bound}
 use Rattle.fields.proofs.Answers.{number-ok, mapped}
-use Rattle.fields.proofs.Numbers.{Field, field-ok}
+use Rattle.fields.proofs.Numbers.{field-ok}
 use Rattle.body.specs.Expr.{Exprs, Scope, exprsAt}
-use Rattle.body.specs.Stmt.{StmtHead, Front, Stmt, Block, valueFlag, valueCount, typeWidth, blockCount, elseFlag, stmtHeadAt, valuesAt, frontAt, backAt, stmtAt, blockAt, stmtsAt}
+use Rattle.body.specs.Stmt.{StmtHead, Front, Block, valueFlag, valueCount, typeWidth, blockCount, elseFlag, stmtHeadAt, valuesAt, frontAt, backAt, stmtAt, blockAt, stmtsAt}
 use Rattle.body.specs.Answer.{stmtStartOf, frontOf}
 use Rattle.body.specs.declared.Start.{Start}
 use Rattle.body.specs.declared.Start.the-variants.{Tag, Bad}

@@ -1,16 +1,15 @@
 -- The steps of reading an expression, as the code takes them.
 -- Assumes nothing.
-use mathlib.Core.Path.{_≡_, refl, sym, ap, _∙_}
+use mathlib.Core.Path.{_≡_}
 use mathlib.Core.List.{List}
-use mathlib.Core.Bool.{Bool, true, false}
-use Prim.Native.Nat.{ℕ, zero, suc, _+_, _-_, _≤_, _<_}
+use mathlib.Core.Bool.{true, false}
+use Prim.Native.Nat.{ℕ, zero, suc, _-_, _≤_, _<_}
 use native.Mathlib.Omega.{arith}
 use borrow.Author.Tests.{eq-eqb, ne-eqb}
-use lib.ListN.{length, getD}
+use lib.ListN.{getD}
 use Rattle.fields.specs.Parsed.{Parsed, ok, fault, bind, ensure}
 use Rattle.fields.specs.Number.{fieldAt}
 use Rattle.fields.specs.Answer.{readOf}
-use Rattle.fields.specs.declared.Read.{Read}
 use Rattle.fields.specs.declared.Read.the-variants.{Next, Fault}
 use Rattle.body.specs.Expr.{Head, Expr, Exprs, Scope, fixedCount, countWidth, lastWidth, exprsBy, genericCallee, headAt, endAt, restAt, exprAt}
 use Rattle.body.specs.Answer.{startOf}
@@ -30,19 +29,19 @@ start-bad {x = ok h q} e f = cc
 start-bad {x = fault n} e f = cc
 
 module _ (t : Scope) (s : List ℕ) where
-  pub deep : (d at : ℕ) → d ≡ 0 → Fault 9 ≡ readOf (exprAt t s d at)
+  pub deep : (d at : ℕ) → d ≤ 0 → Fault 9 ≡ readOf (exprAt t s d at)
   unfolding exprAt readOf
-  deep d at e = rw e
+  deep d at le = let e : d ≡ 0 = omega arith in rw e
 
-  pub bad-head : (d at : ℕ) {n : ℕ} → (d ≡ 0 → ⊥) → headAt (t .names) (t .types) s at ≡ fault n → Fault n ≡ readOf (exprAt t s d at)
+  pub bad-head : (d at : ℕ) {n : ℕ} → 0 < d → headAt (t .names) (t .types) s at ≡ fault n → Fault n ≡ readOf (exprAt t s d at)
   unfolding exprAt readOf bind
-  bad-head zero at f e = absurd (f refl)
-  bad-head (suc d) at f e = rw e
+  bad-head zero at lt e = absurd (omega arith)
+  bad-head (suc d) at lt e = rw e
 
-  pub good-head : (d at : ℕ) {h : Head} {p : ℕ} → (d ≡ 0 → ⊥) → headAt (t .names) (t .types) s at ≡ ok h p → exprAt t s d at ≡ restAt (exprAt t s (d - 1)) t s h p
+  pub good-head : (d at : ℕ) {h : Head} {p : ℕ} → 0 < d → headAt (t .names) (t .types) s at ≡ ok h p → exprAt t s d at ≡ restAt (exprAt t s (d - 1)) t s h p
   unfolding exprAt bind
-  good-head zero at f e = absurd (f refl)
-  good-head (suc d) at f e = let g : suc d - 1 ≡ d = omega arith in rw (g, e)
+  good-head zero at lt e = absurd (omega arith)
+  good-head (suc d) at lt e = let g : suc d - 1 ≡ d = omega arith in rw (g, e)
 
 pub tag-small : (names types : ℕ) (s : List ℕ) (at : ℕ) {k p : ℕ} {r : Start} → r ≡ startOf (headAt names types s at) → r ≡ Tag k p → k < 16
 tag-small names types s at e f = let g = start-ok e f in let l = head-stands _ _ _ _ _ _ (g .1) .5 in omega (arith, g .2, l)

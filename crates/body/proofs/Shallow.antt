@@ -1,11 +1,11 @@
 -- An expression that was read with depth d left is no deeper than d, so a walk over it may begin.
 -- Assumes nothing.
-use mathlib.Core.Path.{_≡_, refl, sym, ap, _∙_, subst}
+use mathlib.Core.Path.{_≡_, subst}
 use mathlib.Core.List.{List}
-use Prim.Native.Nat.{ℕ, zero, suc, max, _+_, _≤_}
+use Prim.Native.Nat.{ℕ, zero, suc, _≤_}
 use native.Mathlib.Omega.{arith}
 use lib.ListN.{getD}
-use Rattle.fields.specs.Parsed.{Parsed, ok, fault}
+use Rattle.fields.specs.Parsed.{Parsed, ok}
 use Rattle.fields.specs.Table.{manyOf}
 use Rattle.fields.proofs.Inverse.{bound, ensure-ok, impossible}
 use Rattle.body.specs.Expr.{Head, Expr, Exprs, Scope, node, none, more, lastWidth, named, exprsBy, endAt, restAt, exprAt, exprsAt}

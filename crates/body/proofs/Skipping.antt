@@ -3,15 +3,15 @@
 use mathlib.Core.Path.{_≡_, refl, sym, ap, _∙_, subst}
 use mathlib.Core.List.{List}
 use mathlib.Core.Bool.{cond}
-use mathlib.Core.Logic.{_⊎_, inl, inr, ⊎-elim}
-use Prim.Native.Nat.{ℕ, zero, suc, max, _+_, _-_, _*_, _≤_, _<_}
+use mathlib.Core.Logic.{_⊎_, ⊎-elim}
+use Prim.Native.Nat.{ℕ, _+_, _-_, _≤_, _<_}
 use native.Mathlib.Omega.{arith}
 use native.Mathlib.Nat.{le-refl}
 use lib.ListN.{length, getD}
 use lib.Dec.{eqb}
 use Rattle.fields.specs.Number.{two, numberIn}
-use Rattle.body.specs.Expr.{Head, Expr, Exprs, node, none, more, argWidth, fixedCount, countWidth, lastWidth}
-use Rattle.body.specs.Stands.{Stands, StandAll, HeadStands, count}
+use Rattle.body.specs.Expr.{Expr, Exprs, node, none, more, argWidth, fixedCount, countWidth, lastWidth}
+use Rattle.body.specs.Stands.{Stands, StandAll, count}
 use Rattle.body.specs.Depth.{depth, depthAll, Walkable, WalkableAll}
 use Rattle.body.proofs.Standing.{none-or-two, end-all}
 

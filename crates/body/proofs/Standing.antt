@@ -1,22 +1,22 @@
 -- An expression that was read stands in the bytes.
 -- Assumes nothing.
-use mathlib.Core.Path.{_≡_, refl, sym, ap, _∙_, subst, subst₂}
+use mathlib.Core.Path.{_≡_, refl, ap, _∙_, subst, subst₂}
 use mathlib.Core.List.{List}
 use mathlib.Core.Bool.{Bool, true, false, _||_}
 use mathlib.Core.Logic.{_⊎_, inl, inr, ⊎-elim}
-use Prim.Native.Nat.{ℕ, zero, suc, _+_, _-_, _*_, _≤_, _<_}
+use Prim.Native.Nat.{ℕ, zero, suc, _+_, _-_, _≤_, _<_}
 use native.Mathlib.Omega.{arith}
 use borrow.Author.Tests.{leb-true, ltb-true}
 use lib.ListN.{length, getD}
 use lib.Dec.{T, eqb, eqb→eq, eqb·suc-zero}
-use Rattle.fields.specs.Parsed.{Parsed, ok, fault, bind, ensure}
+use Rattle.fields.specs.Parsed.{Parsed, ok}
 use Rattle.fields.specs.Number.{two, four, numberIn, fieldAt}
 use Rattle.fields.specs.Table.{manyOf}
 use Rattle.fields.proofs.Inverse.{bind-ok, bound, ensure-ok, impossible}
-use Rattle.fields.proofs.Numbers.{Field, field-ok, field-end}
+use Rattle.fields.proofs.Numbers.{field-ok, field-end}
 use Rattle.fields.proofs.Rules.{at}
 use Rattle.body.specs.Expr.{Head, Expr, Exprs, Scope, node, none, more, argWidth, fixedCount, countWidth, lastWidth, exprsBy, named, headAt, endAt, restAt, exprAt, exprsAt}
-use Rattle.body.specs.Stands.{Stands, StandAll, HeadStands, count}
+use Rattle.body.specs.Stands.{Stands, StandAll, count}
 
 module _ (f : ℕ → Parsed Expr) (s : List ℕ) (each : (at : ℕ) (e : Expr) (next : ℕ) → f at ≡ ok e next → Stands e s at next) where
   pub many-stands : (n at : ℕ) (es : Exprs) (next : ℕ) → exprsBy f n at ≡ ok es next → StandAll es s at next × (count es ≡ n)

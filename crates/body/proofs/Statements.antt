@@ -8,15 +8,15 @@ use native.Mathlib.Omega.{arith}
 use borrow.Author.Tests.{leb-true, ltb-true}
 use lib.ListN.{length, getD}
 use lib.Dec.{eqb, ltb, T, ltb→lt, eqb·suc-zero}
-use Rattle.fields.specs.Parsed.{Parsed, ok, fault, bind, ensure}
-use Rattle.fields.specs.Number.{two, four, numberIn, fieldAt}
+use Rattle.fields.specs.Parsed.{Parsed, ok, fault}
+use Rattle.fields.specs.Number.{two, four, fieldAt}
 use Rattle.fields.specs.Table.{manyOf}
 use Rattle.fields.proofs.Tests.{and-true}
 use Rattle.fields.proofs.Inverse.{impossible, bound, ensure-ok}
-use Rattle.fields.proofs.Numbers.{Field, field-ok, field-end}
+use Rattle.fields.proofs.Numbers.{field-ok, field-end}
 use Rattle.fields.proofs.Rules.{at}
 use Rattle.body.specs.Expr.{Expr, Exprs, Scope, none, more, exprAt, exprsAt}
-use Rattle.body.specs.Stmt.{Code, Tree, Block, StmtHead, Front, Stmt, done, exprStmt, variable, assign, return, bareReturn, block, ifElse, ifThen, while, jump, headBytes, valueFlag, valueCount, typeWidth, blockCount, elseFlag, bindsOk, stmtHeadAt, valuesAt, frontAt, backAt, stmtAt, firstValue, firstBlock, beforeReturn, beforeIf, beforeOf, before, stmtsBy, blockAt, stmtsAt}
+use Rattle.body.specs.Stmt.{Code, Tree, Block, StmtHead, Stmt, done, exprStmt, variable, assign, return, bareReturn, block, ifElse, ifThen, while, jump, headBytes, valueFlag, valueCount, typeWidth, blockCount, elseFlag, bindsOk, stmtHeadAt, valuesAt, frontAt, backAt, stmtAt, firstValue, firstBlock, beforeReturn, beforeIf, beforeOf, before, stmtsBy, blockAt, stmtsAt}
 use Rattle.body.proofs.Standing.{stand-all, end-all, order-all}
 
 -- so many of a kind, as many as the count says

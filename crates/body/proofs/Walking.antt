@@ -3,8 +3,8 @@
 use mathlib.Core.Path.{_≡_, refl, sym, ap, _∙_, subst}
 use mathlib.Core.List.{List, [], _∷_}
 use mathlib.Core.Bool.{Bool, true, false, not, _&&_}
-use mathlib.Core.Logic.{_⊎_, inl, inr, ⊎-elim}
-use Prim.Native.Nat.{ℕ, zero, suc, _+_, _-_, _*_, _≤_, _<_}
+use mathlib.Core.Logic.{_⊎_, ⊎-elim}
+use Prim.Native.Nat.{ℕ, _+_, _-_, _≤_, _<_}
 use native.Mathlib.Omega.{arith}
 use lib.ListN.{length, getD, replicate}
 use lib.Dec.{T, eqb, eqb→eq}
@@ -12,7 +12,7 @@ use borrow.Author.Tests.{eq-eqb, ne-eqb, eqb-true}
 use types.Run.{OneOf, miss}
 use mir.Val.{hasKey}
 use denote.Enum.Declared.{tagOf}
-use Rattle.fields.specs.Number.{two, four, numberIn}
+use Rattle.fields.specs.Number.{two, numberIn}
 use Rattle.fields.proofs.Tests.{split, less, and-true}
 use Rattle.fields.proofs.Numbers.{past-end}
 use Rattle.fields.proofs.Rules.{at}
@@ -20,7 +20,7 @@ use Rattle.body.specs.Expr.{Head, Expr, Exprs, node, none, more, argWidt
 use Rattle.body.specs.Stands.{Stands, StandAll, HeadStands, Placed, count}
 use Rattle.body.specs.Node.{nodeOf, nodeAt, kindOf}
 use Rattle.body.specs.declared.Node.{Node}
-use Rattle.body.specs.declared.Node.the-variants.{Ident, Unary, FieldAccess, Other}
+use Rattle.body.specs.declared.Node.the-variants.{Ident, Unary, FieldAccess}
 use Rattle.body.proofs.Node.{the-type}
 
 -- the tag of the node of a tag

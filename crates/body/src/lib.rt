@@ -137,6 +137,7 @@ fn read_head(s: &[u8], env: Env, at: usize) -> Start
     }
 }
 
+// The node at a position; Other where none stands.
 pub fn node_at(s: &[u8], at: usize) -> Node
     ensures { λ r. ⌜ r ≡ nodeAt (now (s .entry)) at ⌝ }
 {
@@ -219,12 +220,13 @@ fn read_end(s: &[u8], flags: &[u8], env: Env, tag: usize, first: usize, at: usiz
 fn read_expr(s: &[u8], flags: &[u8], env: Env, left: usize, at: usize) -> Read
     ensures { λ r. ⌜ r ≡ readOf (exprAt (scopeOf env (now (flags .entry))) (now (s .entry)) left at) ⌝ }
 {
-    if left == 0 {
-        return Read::Fault(9);
-    }
-    match read_head(s, env, at) {
-        Start::Bad(f) => Read::Fault(f),
-        Start::Tag(tag, first) => read_children(s, flags, env, left - 1, tag, first),
+    if 0 < left {
+        match read_head(s, env, at) {
+            Start::Bad(f) => Read::Fault(f),
+            Start::Tag(tag, first) => read_children(s, flags, env, left - 1, tag, first),
+        }
+    } else {
+        Read::Fault(9)
     }
 }
 
@@ -343,10 +345,11 @@ fn read_values(s: &[u8], flags: &[u8], env: Env, tag: usize, p: usize) -> Start
 pub fn read_block(s: &[u8], flags: &[u8], env: Env, left: usize, at: usize) -> Read
     ensures { λ r. ⌜ r ≡ readOf (blockAt (scopeOf env (now (flags .entry))) (now (s .entry)) left at) ⌝ }
 {
+    let bytes = room(s, at);
     if left == 0 {
         return Read::Fault(9);
     }
-    if room(s, at) < 6 {
+    if bytes < 6 {
         return Read::Fault(8);
     }
     let n = two_at(s, at + 4);
@@ -429,6 +432,7 @@ fn peek_four(s: &[u8], at: usize) -> usize
     peek_two(s, at) * 65536 + peek_two(s, at + 2)
 }
 
+// The head of the statement at a position; Other where none stands.
 pub fn stmt_at(s: &[u8], at: usize) -> StmtNode
     ensures { λ r. ⌜ r ≡ stmtNodeAt (now (s .entry)) at ⌝ }
 {

@@ -103,102 +103,79 @@ read-stmt-claims t = (read-front-reads.Asked, read-front-reads.Learnt, read-back
 abbrev read-stmts-claims : ℕ → read-stmts-lts.Claims
 read-stmts-claims t = (read-stmt-below t, read-stmt.Post)
 
--- src/lib.rt:385:22
 read-back-array-read-wide : (t : ℕ) → read-back-lts.Need-array-read-wide (read-back-claims t) (read-back-at t) read-back.Post
 read-back-array-read-wide t c = search needs
 
--- src/lib.rt:385:9
 read-back-wide-requires : (t : ℕ) → read-back-lts.Need-wide-requires (read-back-claims t) (read-back-at t) read-back.Post
 read-back-wide-requires t c κs = search needs
 
--- src/lib.rt:386:11
 read-back-read-blocks-requires : (t : ℕ) → read-back-lts.Need-read-blocks-requires (read-back-claims t) (read-back-at t) read-back.Post
 read-back-read-blocks-requires t c κs = (omega arith, tt)
 
--- src/lib.rt:387:21
 read-back-enum-known-f : (t : ℕ) → read-back-lts.Need-enum-known-f (read-back-claims t) (read-back-at t) read-back.Post
 read-back-enum-known-f t c = search needs
 
--- src/lib.rt:388:20
 read-back-enum-known-q : (t : ℕ) → read-back-lts.Need-enum-known-q (read-back-claims t) (read-back-at t) read-back.Post
 read-back-enum-known-q t c = search needs
 
--- src/lib.rt:389:29
 read-back-array-read-wide-2 : (t : ℕ) → read-back-lts.Need-array-read-wide-2 (read-back-claims t) (read-back-at t) read-back.Post
 read-back-array-read-wide-2 t c = search needs
 
--- src/lib.rt:389:17
 read-back-wide-requires-2 : (t : ℕ) → read-back-lts.Need-wide-requires-2 (read-back-claims t) (read-back-at t) read-back.Post
 read-back-wide-requires-2 t c κs = search needs
 
--- src/lib.rt:390:19
 read-back-field-requires : (t : ℕ) → read-back-lts.Need-field-requires (read-back-claims t) (read-back-at t) read-back.Post
 read-back-field-requires t c κs = search needs
 
--- src/lib.rt:391:31
 read-back-enum-known-f-2 : (t : ℕ) → read-back-lts.Need-enum-known-f-2 (read-back-claims t) (read-back-at t) read-back.Post
 read-back-enum-known-f-2 t c = search needs
 
--- src/lib.rt:392:28
 read-back-enum-known-n : (t : ℕ) → read-back-lts.Need-enum-known-n (read-back-claims t) (read-back-at t) read-back.Post
 read-back-enum-known-n t c = search needs
 
--- src/lib.rt:392:37
 read-back-read-blocks-requires-2 : (t : ℕ) → read-back-lts.Need-read-blocks-requires-2 (read-back-claims t) (read-back-at t) read-back.Post
 read-back-read-blocks-requires-2 t c κs = (omega arith, tt)
 
--- src/lib.rt:381:1
 read-back-returns : (t : ℕ) → read-back-lts.Need-returns (read-back-claims t) (read-back-at t) read-back.Post
 unfolding blockCount
 read-back-returns t c = λ h e. blocks-stop _ _ h _ (c .before .before .before .before .wide .ensures .0 ∙ ap (λ x. getD blockCount x 0) (sym e)) (read-fault (c .before .before .before .read-blocks .ensures) (c .before .f .given .1))
 
--- src/lib.rt:381:1
 read-back-returns-2 : (t : ℕ) → read-back-lts.Need-returns-2 (read-back-claims t) (read-back-at t) read-back.Post
 unfolding blockCount elseFlag
 read-back-returns-2 t c = λ h e. else-stop _ _ h _ (c .before .before .before .before .before .before .before .before .before .wide .ensures .0 ∙ ap (λ x. getD blockCount x 0) (sym e)) (read-ok (c .before .before .before .before .before .before .before .before .read-blocks .ensures) (c .before .before .before .before .before .before .q .given .1) .1) (c .before .before .before .before .wide2 .ensures .0 ∙ ap (λ x. getD elseFlag x 0) (sym e))
     (number-wrong (c .before .before .before .field .ensures) (c .before .f2 .given .1))
 
--- src/lib.rt:381:1
 read-back-returns-3 : (t : ℕ) → read-back-lts.Need-returns-3 (read-back-claims t) (read-back-at t) read-back.Post
 unfolding blockCount elseFlag
 read-back-returns-3 t c = λ h e. c .read-blocks2 .ensures ∙ sym (back-done _ _ h _ (c .before .before .before .before .before .before .before .before .before .before .wide .ensures .0 ∙ ap (λ x. getD blockCount x 0) (sym e)) (read-ok (c .before .before .before .before .before .before .before .before .before .read-blocks .ensures) (c .before .before .before .before .before .before .before .q .given .1) .1) (c .before .before .before .before .before .wide2 .ensures .0 ∙ ap (λ x. getD elseFlag x 0) (sym e))
     (number-ok (c .before .before .before .before .field .ensures) (c .before .before .n .given .1)))
 
--- src/lib.rt:341:9
-read-block-returns : (t : ℕ) → read-block-lts.Need-returns (read-block-claims t) (read-block-at t) read-block.Post
-read-block-returns t c = block-deep _ _ _ _ (c .if1 .taken)
-
--- src/lib.rt:343:8
 read-block-room-requires : (t : ℕ) → read-block-lts.Need-room-requires (read-block-claims t) (read-block-at t) read-block.Post
 read-block-room-requires t c κs = search needs
 
--- src/lib.rt:344:9
-read-block-returns-2 : (t : ℕ) → read-block-lts.Need-returns-2 (read-block-claims t) (read-block-at t) read-block.Post
-read-block-returns-2 t c = block-short _ _ _ _ (c .before .before .if1 .left) (c .before .room .ensures) (c .if2 .taken)
+read-block-returns : (t : ℕ) → read-block-lts.Need-returns (read-block-claims t) (read-block-at t) read-block.Post
+read-block-returns t c = block-deep _ _ _ _ (c .if1 .taken)
 
--- src/lib.rt:346:23
+read-block-returns-2 : (t : ℕ) → read-block-lts.Need-returns-2 (read-block-claims t) (read-block-at t) read-block.Post
+read-block-returns-2 t c = block-short _ _ _ _ (c .before .if1 .left) (c .before .before .room .ensures) (c .if2 .taken)
+
 read-block-add-two-at : (t : ℕ) → read-block-lts.Need-add-two-at (read-block-claims t) (read-block-at t) read-block.Post
 read-block-add-two-at t c = search needs
 
--- src/lib.rt:346:9
 read-block-two-at-requires : (t : ℕ) → read-block-lts.Need-two-at-requires (read-block-claims t) (read-block-at t) read-block.Post
 read-block-two-at-requires t c κs = search needs
 
--- src/lib.rt:347:31
 read-block-sub-read-stmts : (t : ℕ) → read-block-lts.Need-sub-read-stmts (read-block-claims t) (read-block-at t) read-block.Post
 read-block-sub-read-stmts t c = search needs
 
--- src/lib.rt:347:44
 read-block-add-read-stmts : (t : ℕ) → read-block-lts.Need-add-read-stmts (read-block-claims t) (read-block-at t) read-block.Post
 read-block-add-read-stmts t c = search needs
 
--- src/lib.rt:347:5
 read-block-read-stmts-requires : (t : ℕ) → read-block-lts.Need-read-stmts-requires (read-block-claims t) (read-block-at t) read-block.Post
 read-block-read-stmts-requires t c κs = (omega arith, tt)
 
--- src/lib.rt:337:1
 read-block-returns-3 : (t : ℕ) → read-block-lts.Need-returns-3 (read-block-claims t) (read-block-at t) read-block.Post
-read-block-returns-3 t c = c .read-stmts .ensures ∙ sym (block-stmts _ _ _ _ (c .before .before .before .before .if1 .left) (c .before .before .before .room .ensures) (c .before .before .if2 .left) (c .before .two-at .ensures .0))
+read-block-returns-3 t c = c .read-stmts .ensures ∙ sym (block-stmts _ _ _ _ (c .before .before .before .if1 .left) (c .before .before .before .before .room .ensures) (c .before .before .if2 .left) (c .before .two-at .ensures .0))
 
 abbrev read-blocks-Inv-loop : read-blocks-lts.InvT-loop
 read-blocks-Inv-loop s flags env left n at i₀ p₀ i p = (i ≤ n) × (readOf (blocksAt (scopeOf env flags) s left n at) ≡ readOf (blocksAt (scopeOf env flags) s left i p))
@@ -206,63 +183,48 @@ read-blocks-Inv-loop s flags env left n at i₀ p₀ i p = (i ≤ n) × (readOf 
 abbrev read-blocks-μ-loop : read-blocks-lts.MeasureT-loop
 read-blocks-μ-loop s flags env left n at i₀ p₀ i p = i
 
--- src/lib.rt:404:5
 read-blocks-loop-holds : (t : ℕ) → read-blocks-lts.Need-loop-holds (read-blocks-claims t) (read-blocks-at t) read-blocks.Post read-blocks-Inv-loop read-blocks-μ-loop
 read-blocks-loop-holds t c = (omega arith, refl)
 
--- src/lib.rt:405:15
 read-blocks-read-block-requires : (t : ℕ) → read-blocks-lts.Need-read-block-requires (read-blocks-claims t) (read-blocks-at t) read-blocks.Post read-blocks-Inv-loop read-blocks-μ-loop
 read-blocks-read-block-requires t c κs = (omega arith, tt)
 
--- src/lib.rt:406:25
 read-blocks-enum-known-f : (t : ℕ) → read-blocks-lts.Need-enum-known-f (read-blocks-claims t) (read-blocks-at t) read-blocks.Post read-blocks-Inv-loop read-blocks-μ-loop
 read-blocks-enum-known-f t c = search needs
 
--- src/lib.rt:407:17
 read-blocks-returns : (t : ℕ) → read-blocks-lts.Need-returns (read-blocks-claims t) (read-blocks-at t) read-blocks.Post read-blocks-Inv-loop read-blocks-μ-loop
 read-blocks-returns t c = sym (c .before .before .before .before .before .loop .inv .1 ∙ of-stop _ _ _ _ (c .before .before .before .before .loop-test .taken) (read-fault (c .before .before .before .read-block .ensures) (c .before .f .given .1)))
 
--- src/lib.rt:409:24
 read-blocks-enum-known-q : (t : ℕ) → read-blocks-lts.Need-enum-known-q (read-blocks-claims t) (read-blocks-at t) read-blocks.Post read-blocks-Inv-loop read-blocks-μ-loop
 read-blocks-enum-known-q t c = search needs
 
--- src/lib.rt:411:17
 read-blocks-sub-i : (t : ℕ) → read-blocks-lts.Need-sub-i (read-blocks-claims t) (read-blocks-at t) read-blocks.Post read-blocks-Inv-loop read-blocks-μ-loop
 read-blocks-sub-i t c = search needs
 
--- src/lib.rt:404:5
 read-blocks-loop-less : (t : ℕ) → read-blocks-lts.Need-loop-less (read-blocks-claims t) (read-blocks-at t) read-blocks.Post read-blocks-Inv-loop read-blocks-μ-loop
 read-blocks-loop-less t c = search needs
 
--- src/lib.rt:404:5
 read-blocks-loop-again : (t : ℕ) → read-blocks-lts.Need-loop-again (read-blocks-claims t) (read-blocks-at t) read-blocks.Post read-blocks-Inv-loop read-blocks-μ-loop
 read-blocks-loop-again t c = (omega arith, c .before .before .before .before .before .loop .inv .1 ∙ of-next _ _ _ _ (c .before .before .before .before .loop-test .taken) (read-ok (c .before .before .before .read-block .ensures) (c .before .q .given .1) .1))
 
--- src/lib.rt:399:1
 read-blocks-returns-2 : (t : ℕ) → read-blocks-lts.Need-returns-2 (read-blocks-claims t) (read-blocks-at t) read-blocks.Post read-blocks-Inv-loop read-blocks-μ-loop
 read-blocks-returns-2 t c = of-none _ _ _ _ (c .loop-test .left) ∙ sym (c .before .loop .inv .1)
 
--- src/lib.rt:374:11
 read-stmt-read-front-requires : (t : ℕ) → read-stmt-lts.Need-read-front-requires (read-stmt-claims t) (read-stmt-at t) read-stmt.Post
 read-stmt-read-front-requires t c κs = search needs
 
--- src/lib.rt:375:20
 read-stmt-enum-known-f : (t : ℕ) → read-stmt-lts.Need-enum-known-f (read-stmt-claims t) (read-stmt-at t) read-stmt.Post
 read-stmt-enum-known-f t c = search needs
 
--- src/lib.rt:376:20
 read-stmt-enum-known-tag : (t : ℕ) → read-stmt-lts.Need-enum-known-tag (read-stmt-claims t) (read-stmt-at t) read-stmt.Post
 read-stmt-enum-known-tag t c = search needs
 
--- src/lib.rt:376:31
 read-stmt-read-back-requires : (t : ℕ) → read-stmt-lts.Need-read-back-requires (read-stmt-claims t) (read-stmt-at t) read-stmt.Post
 read-stmt-read-back-requires t c κs = (omega arith, front-small _ _ _ (c .before .before .before .read-front .ensures) (c .before .tag .given .1))
 
--- src/lib.rt:371:1
 read-stmt-returns : (t : ℕ) → read-stmt-lts.Need-returns (read-stmt-claims t) (read-stmt-at t) read-stmt.Post
 read-stmt-returns t c = stmt-stop _ _ _ _ (front-bad (c .before .before .before .read-front .ensures) (c .before .f .given .1))
 
--- src/lib.rt:371:1
 read-stmt-returns-2 : (t : ℕ) → read-stmt-lts.Need-returns-2 (read-stmt-claims t) (read-stmt-at t) read-stmt.Post
 read-stmt-returns-2 t c = let g = front-ok (c .before .before .before .before .read-front .ensures) (c .before .before .tag .given .1) in
     c .read-back .ensures (g .0) (g .2) ∙ sym (ap readOf (stmt-back _ _ _ _ (g .1)))
@@ -273,39 +235,30 @@ read-stmts-Inv-loop s flags env left n at i₀ p₀ i p = (i ≤ n) × (readOf (
 abbrev read-stmts-μ-loop : read-stmts-lts.MeasureT-loop
 read-stmts-μ-loop s flags env left n at i₀ p₀ i p = i
 
--- src/lib.rt:356:5
 read-stmts-loop-holds : (t : ℕ) → read-stmts-lts.Need-loop-holds (read-stmts-claims t) (read-stmts-at t) read-stmts.Post read-stmts-Inv-loop read-stmts-μ-loop
 read-stmts-loop-holds t c = (omega arith, refl)
 
--- src/lib.rt:357:15
 read-stmts-read-stmt-requires : (t : ℕ) → read-stmts-lts.Need-read-stmt-requires (read-stmts-claims t) (read-stmts-at t) read-stmts.Post read-stmts-Inv-loop read-stmts-μ-loop
 read-stmts-read-stmt-requires t c κs = (omega arith, tt)
 
--- src/lib.rt:358:25
 read-stmts-enum-known-f : (t : ℕ) → read-stmts-lts.Need-enum-known-f (read-stmts-claims t) (read-stmts-at t) read-stmts.Post read-stmts-Inv-loop read-stmts-μ-loop
 read-stmts-enum-known-f t c = search needs
 
--- src/lib.rt:359:17
 read-stmts-returns : (t : ℕ) → read-stmts-lts.Need-returns (read-stmts-claims t) (read-stmts-at t) read-stmts.Post read-stmts-Inv-loop read-stmts-μ-loop
 read-stmts-returns t c = sym (c .before .before .before .before .before .loop .inv .1 ∙ of-stop _ _ _ _ (c .before .before .before .before .loop-test .taken) (read-fault (c .before .before .before .read-stmt .ensures) (c .before .f .given .1)))
 
--- src/lib.rt:361:24
 read-stmts-enum-known-q : (t : ℕ) → read-stmts-lts.Need-enum-known-q (read-stmts-claims t) (read-stmts-at t) read-stmts.Post read-stmts-Inv-loop read-stmts-μ-loop
 read-stmts-enum-known-q t c = search needs
 
--- src/lib.rt:363:17
 read-stmts-sub-i : (t : ℕ) → read-stmts-lts.Need-sub-i (read-stmts-claims t) (read-stmts-at t) read-stmts.Post read-stmts-Inv-loop read-stmts-μ-loop
 read-stmts-sub-i t c = search needs
 
--- src/lib.rt:356:5
 read-stmts-loop-less : (t : ℕ) → read-stmts-lts.Need-loop-less (read-stmts-claims t) (read-stmts-at t) read-stmts.Post read-stmts-Inv-loop read-stmts-μ-loop
 read-stmts-loop-less t c = search needs
 
--- src/lib.rt:356:5
 read-stmts-loop-again : (t : ℕ) → read-stmts-lts.Need-loop-again (read-stmts-claims t) (read-stmts-at t) read-stmts.Post read-stmts-Inv-loop read-stmts-μ-loop
 read-stmts-loop-again t c = (omega arith, c .before .before .before .before .before .loop .inv .1 ∙ of-next _ _ _ _ (c .before .before .before .before .loop-test .taken) (read-ok (c .before .before .before .read-stmt .ensures) (c .before .q .given .1) .1))
 
--- src/lib.rt:351:1
 read-stmts-returns-2 : (t : ℕ) → read-stmts-lts.Need-returns-2 (read-stmts-claims t) (read-stmts-at t) read-stmts.Post read-stmts-Inv-loop read-stmts-μ-loop
 read-stmts-returns-2 t c = of-none _ _ _ _ (c .loop-test .left) ∙ sym (c .before .loop .inv .1)
 
@@ -327,8 +280,8 @@ pub +read-back+read-block+read-blocks+read-stmt+read-stmts-spec : {M : Type 1} �
     (read-back-returns-2 t)
     (read-back-returns-3 t))
     (λ t. read-block-lts.spec (read-block-claims t) (read-block-at t) read-block.Post
-    (read-block-returns t)
     (read-block-room-requires t)
+    (read-block-returns t)
     (read-block-returns-2 t)
     (read-block-add-two-at t)
     (read-block-two-at-requires t)

@@ -74,80 +74,62 @@ read-expr-claims t = (read-head-reads.Asked, read-head-reads.Learnt, read-childr
 abbrev read-exprs-claims : ℕ → read-exprs-lts.Claims
 read-exprs-claims t = (read-expr-below t, read-expr.Post)
 
--- src/lib.rt:230:22
 read-children-array-read-wide : (t : ℕ) → read-children-lts.Need-array-read-wide (read-children-claims t) (read-children-at t) read-children.Post
 read-children-array-read-wide t c = search needs
 
--- src/lib.rt:230:9
 read-children-wide-requires : (t : ℕ) → read-children-lts.Need-wide-requires (read-children-claims t) (read-children-at t) read-children.Post
 read-children-wide-requires t c κs = search needs
 
--- src/lib.rt:231:11
 read-children-read-exprs-requires : (t : ℕ) → read-children-lts.Need-read-exprs-requires (read-children-claims t) (read-children-at t) read-children.Post
 read-children-read-exprs-requires t c κs = (omega arith, tt)
 
--- src/lib.rt:232:21
 read-children-enum-known-f : (t : ℕ) → read-children-lts.Need-enum-known-f (read-children-claims t) (read-children-at t) read-children.Post
 read-children-enum-known-f t c = search needs
 
--- src/lib.rt:233:20
 read-children-enum-known-p : (t : ℕ) → read-children-lts.Need-enum-known-p (read-children-claims t) (read-children-at t) read-children.Post
 read-children-enum-known-p t c = search needs
 
--- src/lib.rt:234:30
 read-children-array-read-wide-2 : (t : ℕ) → read-children-lts.Need-array-read-wide-2 (read-children-claims t) (read-children-at t) read-children.Post
 read-children-array-read-wide-2 t c = search needs
 
--- src/lib.rt:234:17
 read-children-wide-requires-2 : (t : ℕ) → read-children-lts.Need-wide-requires-2 (read-children-claims t) (read-children-at t) read-children.Post
 read-children-wide-requires-2 t c κs = search needs
 
--- src/lib.rt:235:19
 read-children-field-requires : (t : ℕ) → read-children-lts.Need-field-requires (read-children-claims t) (read-children-at t) read-children.Post
 read-children-field-requires t c κs = search needs
 
--- src/lib.rt:236:31
 read-children-enum-known-f-2 : (t : ℕ) → read-children-lts.Need-enum-known-f-2 (read-children-claims t) (read-children-at t) read-children.Post
 read-children-enum-known-f-2 t c = search needs
 
--- src/lib.rt:237:28
 read-children-enum-known-n : (t : ℕ) → read-children-lts.Need-enum-known-n (read-children-claims t) (read-children-at t) read-children.Post
 read-children-enum-known-n t c = search needs
 
--- src/lib.rt:237:43
 read-children-read-exprs-requires-2 : (t : ℕ) → read-children-lts.Need-read-exprs-requires-2 (read-children-claims t) (read-children-at t) read-children.Post
 read-children-read-exprs-requires-2 t c κs = (omega arith, tt)
 
--- src/lib.rt:238:33
 read-children-enum-known-f-3 : (t : ℕ) → read-children-lts.Need-enum-known-f-3 (read-children-claims t) (read-children-at t) read-children.Post
 read-children-enum-known-f-3 t c = search needs
 
--- src/lib.rt:239:32
 read-children-enum-known-u : (t : ℕ) → read-children-lts.Need-enum-known-u (read-children-claims t) (read-children-at t) read-children.Post
 read-children-enum-known-u t c = search needs
 
--- src/lib.rt:239:38
 read-children-read-end-requires : (t : ℕ) → read-children-lts.Need-read-end-requires (read-children-claims t) (read-children-at t) read-children.Post
 read-children-read-end-requires t c κs = search needs
 
--- src/lib.rt:226:1
 read-children-returns : (t : ℕ) → read-children-lts.Need-returns (read-children-claims t) (read-children-at t) read-children.Post
 unfolding fixedCount
 read-children-returns t c = λ h e. children-stop _ _ _ h _ (c .before .before .before .before .wide .ensures .0 ∙ ap (λ x. getD fixedCount x 0) (sym e)) (read-fault (c .before .before .before .read-exprs .ensures) (c .before .f .given .1))
 
--- src/lib.rt:226:1
 read-children-returns-2 : (t : ℕ) → read-children-lts.Need-returns-2 (read-children-claims t) (read-children-at t) read-children.Post
 unfolding fixedCount countWidth
 read-children-returns-2 t c = λ h e. count-stop _ _ _ h _ (c .before .before .before .before .before .before .before .before .before .wide .ensures .0 ∙ ap (λ x. getD fixedCount x 0) (sym e)) (read-ok (c .before .before .before .before .before .before .before .before .read-exprs .ensures) (c .before .before .before .before .before .before .p .given .1) .1) (c .before .before .before .before .wide2 .ensures .0 ∙ ap (λ x. getD countWidth x 0) (sym e))
     (number-wrong (c .before .before .before .field .ensures) (c .before .f2 .given .1))
 
--- src/lib.rt:226:1
 read-children-returns-3 : (t : ℕ) → read-children-lts.Need-returns-3 (read-children-claims t) (read-children-at t) read-children.Post
 unfolding fixedCount countWidth
 read-children-returns-3 t c = λ h e. items-stop _ _ _ h _ (c .before .before .before .before .before .before .before .before .before .before .before .before .before .wide .ensures .0 ∙ ap (λ x. getD fixedCount x 0) (sym e)) (read-ok (c .before .before .before .before .before .before .before .before .before .before .before .before .read-exprs .ensures) (c .before .before .before .before .before .before .before .before .before .before .p .given .1) .1) (c .before .before .before .before .before .before .before .before .wide2 .ensures .0 ∙ ap (λ x. getD countWidth x 0) (sym e))
     (number-ok (c .before .before .before .before .before .before .before .field .ensures) (c .before .before .before .before .before .n .given .1)) (read-fault (c .before .before .before .read-exprs2 .ensures) (c .before .f3 .given .1))
 
--- src/lib.rt:226:1
 read-children-returns-4 : (t : ℕ) → read-children-lts.Need-returns-4 (read-children-claims t) (read-children-at t) read-children.Post
 unfolding fixedCount countWidth
 read-children-returns-4 t c = λ h e.
@@ -157,38 +139,30 @@ read-children-returns-4 t c = λ h e.
     c .read-end .ensures h (ks .0) (xs .0) _ e (st .1 ∙ c .before .before .before .before .before .before .before .before .before .before .before .before .before .before .wide .ensures .0) (st .0)
     ∙ sym (ap readOf (to-end _ _ _ h _ (c .before .before .before .before .before .before .before .before .before .before .before .before .before .before .wide .ensures .0 ∙ ap (λ x. getD fixedCount x 0) (sym e)) (ks .1) (c .before .before .before .before .before .before .before .before .before .wide2 .ensures .0 ∙ ap (λ x. getD countWidth x 0) (sym e)) (number-ok (c .before .before .before .before .before .before .before .before .field .ensures) (c .before .before .before .before .before .before .n .given .1)) (xs .1)))
 
--- src/lib.rt:217:9
-read-expr-returns : (t : ℕ) → read-expr-lts.Need-returns (read-expr-claims t) (read-expr-at t) read-expr.Post
-read-expr-returns t c = deep _ _ _ _ (c .if1 .taken)
-
--- src/lib.rt:219:11
 read-expr-read-head-requires : (t : ℕ) → read-expr-lts.Need-read-head-requires (read-expr-claims t) (read-expr-at t) read-expr.Post
 read-expr-read-head-requires t c κs = search needs
 
--- src/lib.rt:220:20
 read-expr-enum-known-f : (t : ℕ) → read-expr-lts.Need-enum-known-f (read-expr-claims t) (read-expr-at t) read-expr.Post
 read-expr-enum-known-f t c = search needs
 
--- src/lib.rt:221:20
 read-expr-enum-known-tag : (t : ℕ) → read-expr-lts.Need-enum-known-tag (read-expr-claims t) (read-expr-at t) read-expr.Post
 read-expr-enum-known-tag t c = search needs
 
--- src/lib.rt:221:64
 read-expr-sub-read-children : (t : ℕ) → read-expr-lts.Need-sub-read-children (read-expr-claims t) (read-expr-at t) read-expr.Post
 read-expr-sub-read-children t c = search needs
 
--- src/lib.rt:221:35
 read-expr-read-children-requires : (t : ℕ) → read-expr-lts.Need-read-children-requires (read-expr-claims t) (read-expr-at t) read-expr.Post
 read-expr-read-children-requires t c κs = (omega arith, tag-small _ _ _ _ (c .before .before .before .read-head .ensures) (c .before .tag .given .1))
 
--- src/lib.rt:213:1
-read-expr-returns-2 : (t : ℕ) → read-expr-lts.Need-returns-2 (read-expr-claims t) (read-expr-at t) read-expr.Post
-read-expr-returns-2 t c = bad-head _ _ _ _ (c .before .before .before .before .if1 .left) (start-bad (c .before .before .before .read-head .ensures) (c .before .f .given .1))
+read-expr-returns : (t : ℕ) → read-expr-lts.Need-returns (read-expr-claims t) (read-expr-at t) read-expr.Post
+read-expr-returns t c = bad-head _ _ _ _ (c .before .before .before .before .if1 .taken) (start-bad (c .before .before .before .read-head .ensures) (c .before .f .given .1))
 
--- src/lib.rt:213:1
+read-expr-returns-2 : (t : ℕ) → read-expr-lts.Need-returns-2 (read-expr-claims t) (read-expr-at t) read-expr.Post
+read-expr-returns-2 t c = let g = start-ok (c .before .before .before .before .read-head .ensures) (c .before .before .tag .given .1) in
+    c .read-children .ensures (g .0) (g .2) ∙ sym (ap readOf (good-head _ _ _ _ (c .before .before .before .before .before .if1 .taken) (g .1)))
+
 read-expr-returns-3 : (t : ℕ) → read-expr-lts.Need-returns-3 (read-expr-claims t) (read-expr-at t) read-expr.Post
-read-expr-returns-3 t c = let g = start-ok (c .before .before .before .before .read-head .ensures) (c .before .before .tag .given .1) in
-    c .read-children .ensures (g .0) (g .2) ∙ sym (ap readOf (good-head _ _ _ _ (c .before .before .before .before .before .if1 .left) (g .1)))
+read-expr-returns-3 t c = deep _ _ _ _ (c .if1 .left)
 
 abbrev read-exprs-Inv-loop : read-exprs-lts.InvT-loop
 read-exprs-Inv-loop s flags env left n at i₀ p₀ i p = (i ≤ n) × (readOf (exprsAt (scopeOf env flags) s left n at) ≡ readOf (exprsAt (scopeOf env flags) s left i p))
@@ -196,39 +170,30 @@ read-exprs-Inv-loop s flags env left n at i₀ p₀ i p = (i ≤ n) × (readOf (
 abbrev read-exprs-μ-loop : read-exprs-lts.MeasureT-loop
 read-exprs-μ-loop s flags env left n at i₀ p₀ i p = i
 
--- src/lib.rt:252:5
 read-exprs-loop-holds : (t : ℕ) → read-exprs-lts.Need-loop-holds (read-exprs-claims t) (read-exprs-at t) read-exprs.Post read-exprs-Inv-loop read-exprs-μ-loop
 read-exprs-loop-holds t c = (omega arith, refl)
 
--- src/lib.rt:253:15
 read-exprs-read-expr-requires : (t : ℕ) → read-exprs-lts.Need-read-expr-requires (read-exprs-claims t) (read-exprs-at t) read-exprs.Post read-exprs-Inv-loop read-exprs-μ-loop
 read-exprs-read-expr-requires t c κs = (omega arith, tt)
 
--- src/lib.rt:254:25
 read-exprs-enum-known-f : (t : ℕ) → read-exprs-lts.Need-enum-known-f (read-exprs-claims t) (read-exprs-at t) read-exprs.Post read-exprs-Inv-loop read-exprs-μ-loop
 read-exprs-enum-known-f t c = search needs
 
--- src/lib.rt:255:17
 read-exprs-returns : (t : ℕ) → read-exprs-lts.Need-returns (read-exprs-claims t) (read-exprs-at t) read-exprs.Post read-exprs-Inv-loop read-exprs-μ-loop
 read-exprs-returns t c = sym (c .before .before .before .before .before .loop .inv .1 ∙ of-stop _ _ _ _ (c .before .before .before .before .loop-test .taken) (read-fault (c .before .before .before .read-expr .ensures) (c .before .f .given .1)))
 
--- src/lib.rt:257:24
 read-exprs-enum-known-q : (t : ℕ) → read-exprs-lts.Need-enum-known-q (read-exprs-claims t) (read-exprs-at t) read-exprs.Post read-exprs-Inv-loop read-exprs-μ-loop
 read-exprs-enum-known-q t c = search needs
 
--- src/lib.rt:259:17
 read-exprs-sub-i : (t : ℕ) → read-exprs-lts.Need-sub-i (read-exprs-claims t) (read-exprs-at t) read-exprs.Post read-exprs-Inv-loop read-exprs-μ-loop
 read-exprs-sub-i t c = search needs
 
--- src/lib.rt:252:5
 read-exprs-loop-less : (t : ℕ) → read-exprs-lts.Need-loop-less (read-exprs-claims t) (read-exprs-at t) read-exprs.Post read-exprs-Inv-loop read-exprs-μ-loop
 read-exprs-loop-less t c = search needs
 
--- src/lib.rt:252:5
 read-exprs-loop-again : (t : ℕ) → read-exprs-lts.Need-loop-again (read-exprs-claims t) (read-exprs-at t) read-exprs.Post read-exprs-Inv-loop read-exprs-μ-loop
 read-exprs-loop-again t c = (omega arith, c .before .before .before .before .before .loop .inv .1 ∙ of-next _ _ _ _ (c .before .before .before .before .loop-test .taken) (read-ok (c .before .before .before .read-expr .ensures) (c .before .q .given .1) .1))
 
--- src/lib.rt:247:1
 read-exprs-returns-2 : (t : ℕ) → read-exprs-lts.Need-returns-2 (read-exprs-claims t) (read-exprs-at t) read-exprs.Post read-exprs-Inv-loop read-exprs-μ-loop
 read-exprs-returns-2 t c = of-none _ _ _ _ (c .loop-test .left) ∙ sym (c .before .loop .inv .1)
 
@@ -254,12 +219,12 @@ pub +read-children+read-expr+read-exprs-spec : {M : Type 1} → statement M
     (read-children-returns-3 t)
     (read-children-returns-4 t))
     (λ t. read-expr-lts.spec (read-expr-claims t) (read-expr-at t) read-expr.Post
-    (read-expr-returns t)
     (read-expr-read-head-requires t)
     (read-expr-enum-known-f t)
     (read-expr-enum-known-tag t)
     (read-expr-sub-read-children t)
     (read-expr-read-children-requires t)
+    (read-expr-returns t)
     (read-expr-returns-2 t)
     (read-expr-returns-3 t))
     λ t. read-exprs-lts.spec (read-exprs-claims t) (read-exprs-at t) read-exprs.Post

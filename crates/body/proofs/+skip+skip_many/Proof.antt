@@ -1,10 +1,9 @@
 use borrow.Author.Needs.{needs}
-use mathlib.Core.Path.{_≡_}
 use native.Mathlib.Omega.{arith}
 use native.Mathlib.Nat.{le-refl}
-use Prim.Native.Nat.{_≤_, _+_, _*_, _-_}
+use Prim.Native.Nat.{_+_, _*_, _-_}
 use Rattle.body.specs.Expr.{argWidth, fixedCount, countWidth, lastWidth}
-use Rattle.body.proofs.Skipping.{Steps, steps, own, children-walk, children-end, list-walk, list-end, Going, going-start, first-walk, going-next, going-done}
+use Rattle.body.proofs.Skipping.{steps, own, children-walk, children-end, list-walk, list-end, Going, going-start, first-walk, going-next, going-done}
 use Prim.Native.Nat.{ℕ, _<_}
 use borrow.Fn.Kinds.{In}
 use borrow.Fn.PlainCycle.{Measures, is, falls, and}
@@ -45,88 +44,69 @@ skip-claims t = (peek-reads.Asked, peek-reads.Learnt, wide-reads.Asked, wide-rea
 abbrev skip-many-claims : ℕ → skip-many-lts.Claims
 skip-many-claims t = (skip-below t, skip.Post)
 
--- src/lib.rt:462:9
 skip-peek-requires : (t : ℕ) → skip-lts.Need-peek-requires (skip-claims t) (skip-at t) skip.Post
 skip-peek-requires t c κs = search needs
 
--- src/lib.rt:463:26
 skip-sub-skip-many : (t : ℕ) → skip-lts.Need-sub-skip-many (skip-claims t) (skip-at t) skip.Post
 skip-sub-skip-many t c = let g = own (c .peek .ensures .0) (c .before .before .pre .1) in g .positive
 
--- src/lib.rt:463:41
 skip-array-read-wide : (t : ℕ) → skip-lts.Need-array-read-wide (skip-claims t) (skip-at t) skip.Post
 skip-array-read-wide t c = let g = own (c .peek .ensures .0) (c .before .before .pre .1) in g .tag16
 
--- src/lib.rt:463:36
 skip-wide-requires : (t : ℕ) → skip-lts.Need-wide-requires (skip-claims t) (skip-at t) skip.Post
 skip-wide-requires t c κs = search needs
 
--- src/lib.rt:463:60
 skip-add-skip-many : (t : ℕ) → skip-lts.Need-add-skip-many (skip-claims t) (skip-at t) skip.Post
 unfolding argWidth fixedCount
 skip-add-skip-many t c = let g = own (c .before .peek .ensures .0) (c .before .before .before .pre .1) in let r = g .room in omega arith
 
--- src/lib.rt:463:74
 skip-array-read-wide-2 : (t : ℕ) → skip-lts.Need-array-read-wide-2 (skip-claims t) (skip-at t) skip.Post
 skip-array-read-wide-2 t c = let g = own (c .before .peek .ensures .0) (c .before .before .before .pre .1) in g .tag16
 
--- src/lib.rt:463:69
 skip-wide-requires-2 : (t : ℕ) → skip-lts.Need-wide-requires-2 (skip-claims t) (skip-at t) skip.Post
 skip-wide-requires-2 t c κs = search needs
 
--- src/lib.rt:463:60
 skip-add-skip-many-2 : (t : ℕ) → skip-lts.Need-add-skip-many-2 (skip-claims t) (skip-at t) skip.Post
 unfolding argWidth fixedCount
 skip-add-skip-many-2 t c = let g = own (c .before .before .peek .ensures .0) (c .before .before .before .before .pre .1) in let r = g .room in let b = c .wide2 .ensures .0 in omega arith
 
--- src/lib.rt:463:9
 skip-skip-many-requires : (t : ℕ) → skip-lts.Need-skip-many-requires (skip-claims t) (skip-at t) skip.Post
 unfolding argWidth fixedCount
 skip-skip-many-requires t c κs = let g = own (c .before .before .peek .ensures .0) (c .before .before .before .before .pre .1) in let pos = g .positive in (omega arith, children-walk _ _ g (c .before .wide .ensures .0) (c .wide2 .ensures .0))
 
--- src/lib.rt:464:22
 skip-array-read-wide-3 : (t : ℕ) → skip-lts.Need-array-read-wide-3 (skip-claims t) (skip-at t) skip.Post
 skip-array-read-wide-3 t c = let g = own (c .before .before .before .peek .ensures .0) (c .before .before .before .before .before .pre .1) in g .tag16
 
--- src/lib.rt:464:9
 skip-wide-requires-3 : (t : ℕ) → skip-lts.Need-wide-requires-3 (skip-claims t) (skip-at t) skip.Post
 skip-wide-requires-3 t c κs = search needs
 
--- src/lib.rt:465:26
 skip-sub-skip-many-2 : (t : ℕ) → skip-lts.Need-sub-skip-many-2 (skip-claims t) (skip-at t) skip.Post
 skip-sub-skip-many-2 t c = let g = own (c .before .before .before .before .peek .ensures .0) (c .before .before .before .before .before .before .pre .1) in g .positive
 
--- src/lib.rt:465:36
 skip-items-at-requires : (t : ℕ) → skip-lts.Need-items-at-requires (skip-claims t) (skip-at t) skip.Post
 unfolding argWidth fixedCount
 skip-items-at-requires t c κs = let g = own (c .before .before .before .before .peek .ensures .0) (c .before .before .before .before .before .before .pre .1) in let eq = children-end _ _ _ g (c .before .before .before .wide .ensures .0) (c .before .before .wide2 .ensures .0) (c .before .skip-many .ensures) g in let l = g .q-in in omega arith
 
--- src/lib.rt:465:59
 skip-add-skip-many-3 : (t : ℕ) → skip-lts.Need-add-skip-many-3 (skip-claims t) (skip-at t) skip.Post
 unfolding argWidth fixedCount countWidth
 skip-add-skip-many-3 t c = let g = own (c .before .before .before .before .before .peek .ensures .0) (c .before .before .before .before .before .before .before .pre .1) in let eq = children-end _ _ _ g (c .before .before .before .before .wide .ensures .0) (c .before .before .before .wide2 .ensures .0) (c .before .before .skip-many .ensures) g in let l = g .narrow in let m = g .q-in in let k = c .before .wide3 .ensures .0 in omega arith
 
--- src/lib.rt:465:9
 skip-skip-many-requires-2 : (t : ℕ) → skip-lts.Need-skip-many-requires-2 (skip-claims t) (skip-at t) skip.Post
 unfolding argWidth fixedCount countWidth
 skip-skip-many-requires-2 t c κs = let g = own (c .before .before .before .before .before .peek .ensures .0) (c .before .before .before .before .before .before .before .pre .1) in let eq = children-end _ _ _ g (c .before .before .before .before .wide .ensures .0) (c .before .before .before .wide2 .ensures .0) (c .before .before .skip-many .ensures) g in let pos = g .positive in (omega arith, list-walk _ _ _ g eq (c .before .wide3 .ensures .0) (c .items-at .ensures))
 
--- src/lib.rt:466:14
 skip-array-read-wide-4 : (t : ℕ) → skip-lts.Need-array-read-wide-4 (skip-claims t) (skip-at t) skip.Post
 skip-array-read-wide-4 t c = let g = own (c .before .before .before .before .before .before .peek .ensures .0) (c .before .before .before .before .before .before .before .before .pre .1) in g .tag16
 
--- src/lib.rt:466:9
 skip-wide-requires-4 : (t : ℕ) → skip-lts.Need-wide-requires-4 (skip-claims t) (skip-at t) skip.Post
 skip-wide-requires-4 t c κs = search needs
 
--- src/lib.rt:466:5
 skip-add-result : (t : ℕ) → skip-lts.Need-add-result (skip-claims t) (skip-at t) skip.Post
 unfolding argWidth fixedCount countWidth lastWidth
 skip-add-result t c = let g = own (c .before .before .before .before .before .before .before .peek .ensures .0) (c .before .before .before .before .before .before .before .before .before .pre .1) in let eq = children-end _ _ _ g (c .before .before .before .before .before .before .wide .ensures .0) (c .before .before .before .before .before .wide2 .ensures .0) (c .before .before .before .before .skip-many .ensures) g in
     let eu = list-end _ _ _ _ g eq (c .before .before .before .wide3 .ensures .0) (c .before .before .items-at .ensures) (c .before .skip-many2 .ensures) in
     let e = g .end in let l = g .next-in in let a = c .wide4 .ensures .0 in omega arith
 
--- src/lib.rt:458:1
 skip-returns : (t : ℕ) → skip-lts.Need-returns (skip-claims t) (skip-at t) skip.Post
 unfolding argWidth fixedCount countWidth lastWidth
 skip-returns t c = λ e next st.
@@ -141,27 +121,21 @@ skip-many-Inv-loop s left n at i₀ p₀ i p = Going s left n at i p
 abbrev skip-many-μ-loop : skip-many-lts.MeasureT-loop
 skip-many-μ-loop s left n at i₀ p₀ i p = i
 
--- src/lib.rt:476:5
 skip-many-loop-holds : (t : ℕ) → skip-many-lts.Need-loop-holds (skip-many-claims t) (skip-many-at t) skip-many.Post skip-many-Inv-loop skip-many-μ-loop
 skip-many-loop-holds t c = going-start _ _ _ _ (c .before .pre .1)
 
--- src/lib.rt:477:9
 skip-many-skip-requires : (t : ℕ) → skip-many-lts.Need-skip-requires (skip-many-claims t) (skip-many-at t) skip-many.Post skip-many-Inv-loop skip-many-μ-loop
 skip-many-skip-requires t c κs = (omega arith, first-walk (c .loop-test .taken) (c .before .loop .inv .here))
 
--- src/lib.rt:478:9
 skip-many-sub-i : (t : ℕ) → skip-many-lts.Need-sub-i (skip-many-claims t) (skip-many-at t) skip-many.Post skip-many-Inv-loop skip-many-μ-loop
 skip-many-sub-i t c = search needs
 
--- src/lib.rt:476:5
 skip-many-loop-less : (t : ℕ) → skip-many-lts.Need-loop-less (skip-many-claims t) (skip-many-at t) skip-many.Post skip-many-Inv-loop skip-many-μ-loop
 skip-many-loop-less t c = search needs
 
--- src/lib.rt:476:5
 skip-many-loop-again : (t : ℕ) → skip-many-lts.Need-loop-again (skip-many-claims t) (skip-many-at t) skip-many.Post skip-many-Inv-loop skip-many-μ-loop
 skip-many-loop-again t c = going-next (c .before .loop-test .taken) (c .before .before .loop .inv) (c .skip .ensures)
 
--- src/lib.rt:470:1
 skip-many-returns : (t : ℕ) → skip-many-lts.Need-returns (skip-many-claims t) (skip-many-at t) skip-many.Post skip-many-Inv-loop skip-many-μ-loop
 skip-many-returns t c = going-done (c .loop-test .left) (c .before .loop .inv)
 

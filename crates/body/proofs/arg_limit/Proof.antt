@@ -4,11 +4,9 @@ use Rattle.body.proofs.arg_limit.Tie as tie
 use Rattle.body.proofs.arg_limit.Reads as reads
 use Rattle.body.proofs.arg_limit.Lts as lts
 
--- src/lib.rt:90:1
 returns : tie.Need-returns
 returns c = simp (eq-eqb _ _ (c .if1 .taken))
 
--- src/lib.rt:90:1
 returns-2 : tie.Need-returns-2
 returns-2 c = simp (ne-eqb _ _ (c .if1 .left))
 

@@ -6,31 +6,24 @@ use Rattle.body.proofs.binds_ok.Reads as reads
 use Rattle.body.proofs.binds_ok.Lts as lts
 use Rattle.fields.proofs.peek_two.Reads as peek-two-reads
 
--- src/lib.rt:272:24
 add-peek-two : tie.Need-add-peek-two
 add-peek-two c = search needs
 
--- src/lib.rt:272:12
 peek-two-requires : tie.Need-peek-two-requires
 peek-two-requires c κs = search needs
 
--- src/lib.rt:273:32
 add-peek-two-2 : tie.Need-add-peek-two-2
 add-peek-two-2 c = search needs
 
--- src/lib.rt:273:20
 peek-two-requires-2 : tie.Need-peek-two-requires-2
 peek-two-requires-2 c κs = search needs
 
--- src/lib.rt:273:13
 returns : tie.Need-returns
 returns c = simp (eq-eqb _ _ (c .before .before .before .before .before .if1 .taken), ← c .before .before .before .before .peek-two .ensures .0, lt-ltb _ _ (c .before .before .if2 .taken), ← c .before .peek-two2 .ensures .0)
 
--- src/lib.rt:275:9
 returns-2 : tie.Need-returns-2
 returns-2 c = simp (eq-eqb _ _ (c .before .before .before .if1 .taken), ← c .before .before .peek-two .ensures .0, le-ltb _ _ (c .if2 .left))
 
--- src/lib.rt:267:1
 returns-3 : tie.Need-returns-3
 returns-3 c = simp (ne-eqb _ _ (c .if1 .left))
 

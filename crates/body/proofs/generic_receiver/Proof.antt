@@ -2,7 +2,7 @@ use denote.Ref.{now}
 use lib.Dec.{eqb}
 use lib.ListN.{getD}
 use native.Mathlib.Omega.{arith}
-use mathlib.Core.Path.{_≡_, ap, _∙_}
+use mathlib.Core.Path.{ap, _∙_}
 use Rattle.body.proofs.Walking.{no-field, field, no-ident, ident}
 use borrow.Author.Needs.{needs}
 use Rattle.body.proofs.generic_receiver.Statement.{statement}
@@ -14,52 +14,41 @@ use Rattle.body.proofs.strip_noop_unary.Reads as strip-noop-unary-reads
 use Rattle.fields.proofs.peek.Reads as peek-reads
 use Rattle.fields.proofs.peek_two.Reads as peek-two-reads
 
--- src/lib.rt:181:9
 strip-noop-unary-requires : tie.Need-strip-noop-unary-requires
 strip-noop-unary-requires c κs = search needs
 
--- src/lib.rt:182:37
 node-at-requires : tie.Need-node-at-requires
 node-at-requires c κs = search needs
 
--- src/lib.rt:182:27
 enum-known-target : tie.Need-enum-known-target
 enum-known-target c = search needs
 
--- src/lib.rt:183:9
 returns : tie.Need-returns
 returns c = no-field _ _ _ _ (c .before .before .strip-noop-unary .ensures) (c .before .node-at .ensures) (c .match .keys2)
 
--- src/lib.rt:185:9
 strip-noop-unary-requires-2 : tie.Need-strip-noop-unary-requires-2
 strip-noop-unary-requires-2 c κs = search needs
 
--- src/lib.rt:186:26
 node-at-requires-2 : tie.Need-node-at-requires-2
 node-at-requires-2 c κs = search needs
 
 enum-told : tie.Need-enum-told
 enum-told c = search needs
 
--- src/lib.rt:187:9
 returns-2 : tie.Need-returns-2
 returns-2 c = λ e next st.
     no-ident _ _ _ _ (c .before .before .before .before .before .before .before .strip-noop-unary .ensures) (c .before .before .before .before .before .before .node-at .ensures) (c .before .before .before .before .target .given .1) _ (c .before .before .strip-noop-unary2 .ensures) (c .before .node-at2 .ensures) e next st
     (c .match2 .keys2)
 
--- src/lib.rt:189:29
 add-peek-two : tie.Need-add-peek-two
 add-peek-two c = let f = field (now (c .before .before .before .before .before .before .before .before .before .before .before .args .flags)) _ _ _ (c .before .before .before .before .before .before .before .before .strip-noop-unary .ensures) (c .before .before .before .before .before .before .before .node-at .ensures) (c .before .before .before .before .before .target .given .1) in omega arith
 
--- src/lib.rt:189:17
 peek-two-requires : tie.Need-peek-two-requires
 peek-two-requires c κs = let f = field (now (c .before .before .before .before .before .before .before .before .before .before .before .args .flags)) _ _ _ (c .before .before .before .before .before .before .before .before .strip-noop-unary .ensures) (c .before .before .before .before .before .before .before .node-at .ensures) (c .before .before .before .before .before .target .given .1) in omega arith
 
--- src/lib.rt:189:5
 peek-requires : tie.Need-peek-requires
 peek-requires c κs = search needs
 
--- src/lib.rt:178:1
 returns-3 : tie.Need-returns-3
 returns-3 c = λ e next st.
     ap (λ x. eqb x 1) (c .peek .ensures .0 ∙ ap (λ x. getD (now (c .before .before .before .before .before .before .before .before .before .before .before .before .before .args .flags)) x 0) (c .before .peek-two .ensures .0))

@@ -6,15 +6,12 @@ use Rattle.body.proofs.items_at.Reads as reads
 use Rattle.body.proofs.items_at.Lts as lts
 use Rattle.fields.proofs.peek_two.Reads as peek-two-reads
 
--- src/lib.rt:454:21
 peek-two-requires : tie.Need-peek-two-requires
 peek-two-requires c κs = search needs
 
--- src/lib.rt:450:1
 returns : tie.Need-returns
 returns c = simp (eq-eqb _ _ (c .before .if1 .taken)) (c .peek-two .ensures .0)
 
--- src/lib.rt:450:1
 returns-2 : tie.Need-returns-2
 returns-2 c = simp (ne-eqb _ _ (c .if1 .left))
 

@@ -1,6 +1,6 @@
 use denote.Ref.{now}
 use lib.ListN.{getD}
-use mathlib.Core.Path.{_≡_, sym, ap, _∙_}
+use mathlib.Core.Path.{sym, ap, _∙_}
 use Rattle.fields.proofs.Answers.{number-ok, number-wrong}
 use Rattle.body.specs.Expr.{fixedCount, lastWidth}
 use Rattle.body.proofs.Reading.{name-stop, generic-stop, call-ends, node-ends}
@@ -14,50 +14,40 @@ use Rattle.body.proofs.generic_receiver.Reads as generic-receiver-reads
 use Rattle.fields.proofs.field.Reads as field-reads
 use Rattle.fields.proofs.wide.Reads as wide-reads
 
--- src/lib.rt:198:22
 array-read-wide : tie.Need-array-read-wide
 array-read-wide c = search needs
 
--- src/lib.rt:198:9
 wide-requires : tie.Need-wide-requires
 wide-requires c κs = search needs
 
--- src/lib.rt:199:11
 field-requires : tie.Need-field-requires
 field-requires c κs = search needs
 
--- src/lib.rt:200:23
 enum-known-f : tie.Need-enum-known-f
 enum-known-f c = search needs
 
--- src/lib.rt:201:23
 enum-known-next : tie.Need-enum-known-next
 enum-known-next c = search needs
 
--- src/lib.rt:203:20
 generic-receiver-requires : tie.Need-generic-receiver-requires
 generic-receiver-requires c κs = search needs
 
--- src/lib.rt:204:21
 returns : tie.Need-returns
 unfolding lastWidth fixedCount
 returns c = λ h ks xs q e ck sk.
     generic-stop _ _ h ks xs _ (c .before .before .before .before .before .before .before .wide .ensures .0 ∙ ap (λ x. getD lastWidth x 0) (sym e)) (number-ok (c .before .before .before .before .before .before .field .ensures) (c .before .before .before .before .next .given .1)) (e ∙ c .before .before .if1 .taken)
     (sym (callee _ (now (c .before .before .before .before .before .before .before .before .before .before .args .s)) ks (c .before .before .before .before .before .before .before .before .before .before .args .first) q (rw (c .before .before .if1 .taken) at ck) sk (c .before .generic-receiver .ensures)) ∙ c .if2 .taken)
 
--- src/lib.rt:193:1
 returns-2 : tie.Need-returns-2
 unfolding lastWidth
 returns-2 c = λ h ks xs q e ck sk. name-stop _ _ h ks xs _ (c .before .before .before .before .wide .ensures .0 ∙ ap (λ x. getD lastWidth x 0) (sym e)) (number-wrong (c .before .before .before .field .ensures) (c .before .f .given .1))
 
--- src/lib.rt:193:1
 returns-3 : tie.Need-returns-3
 unfolding lastWidth fixedCount
 returns-3 c = λ h ks xs q e ck sk.
     call-ends _ _ h ks xs _ (c .before .before .before .before .before .before .before .wide .ensures .0 ∙ ap (λ x. getD lastWidth x 0) (sym e)) (number-ok (c .before .before .before .before .before .before .field .ensures) (c .before .before .before .before .next .given .1)) (e ∙ c .before .before .if1 .taken)
     (sym (callee _ (now (c .before .before .before .before .before .before .before .before .before .before .args .s)) ks (c .before .before .before .before .before .before .before .before .before .before .args .first) q (rw (c .before .before .if1 .taken) at ck) sk (c .before .generic-receiver .ensures)) ∙ c .if2 .left)
 
--- src/lib.rt:193:1
 returns-4 : tie.Need-returns-4
 unfolding lastWidth
 returns-4 c = λ h ks xs q e ck sk. node-ends _ _ h ks xs _ (c .before .before .before .before .before .wide .ensures .0 ∙ ap (λ x. getD lastWidth x 0) (sym e)) (number-ok (c .before .before .before .before .field .ensures) (c .before .before .next .given .1)) (λ z. c .if1 .left (sym e ∙ z))

@@ -1,4 +1,4 @@
-use mathlib.Core.Path.{_≡_, sym, ap, _∙_}
+use mathlib.Core.Path.{sym, ap, _∙_}
 use Rattle.body.specs.Answer.{frontOf}
 use Rattle.body.proofs.BodyReading.{head-small, head-ok, head-bad, front-head-bad, front-values}
 use borrow.Author.Needs.{needs}
@@ -9,27 +9,21 @@ use Rattle.body.proofs.read_front.Lts as lts
 use Rattle.body.proofs.read_stmt_head.Reads as read-stmt-head-reads
 use Rattle.body.proofs.read_values.Reads as read-values-reads
 
--- src/lib.rt:306:11
 read-stmt-head-requires : tie.Need-read-stmt-head-requires
 read-stmt-head-requires c κs = search needs
 
--- src/lib.rt:307:20
 enum-known-f : tie.Need-enum-known-f
 enum-known-f c = search needs
 
--- src/lib.rt:308:20
 enum-known-tag : tie.Need-enum-known-tag
 enum-known-tag c = search needs
 
--- src/lib.rt:308:31
 read-values-requires : tie.Need-read-values-requires
 read-values-requires c κs = head-small _ _ _ _ (c .before .before .before .read-stmt-head .ensures) (c .before .tag .given .1)
 
--- src/lib.rt:303:1
 returns : tie.Need-returns
 returns c = front-head-bad _ _ _ (head-bad (c .before .before .before .read-stmt-head .ensures) (c .before .f .given .1))
 
--- src/lib.rt:303:1
 returns-2 : tie.Need-returns-2
 returns-2 c = let g = head-ok (c .before .before .before .before .read-stmt-head .ensures) (c .before .before .tag .given .1) in
     c .read-values .ensures (g .0) (g .2) ∙ sym (ap frontOf (front-values _ _ _ (g .1)))

@@ -1,7 +1,7 @@
 use denote.Ref.{now}
 use lib.ListN.{length}
 use mathlib.Core.Logic.{⊎-elim}
-use mathlib.Core.Path.{_≡_, _∙_}
+use mathlib.Core.Path.{_∙_}
 use native.Mathlib.Omega.{arith}
 use borrow.Author.Tests.{lt-ltb, le-ltb, le-leb, lt-leb}
 use Rattle.fields.specs.Parsed.{ensure}
@@ -19,51 +19,40 @@ use Rattle.fields.proofs.peek.Reads as peek-reads
 use Rattle.fields.proofs.room.Reads as room-reads
 use Rattle.fields.proofs.wide.Reads as wide-reads
 
--- src/lib.rt:284:9
 peek-requires : tie.Need-peek-requires
 peek-requires c κs = search needs
 
--- src/lib.rt:286:9
 returns : tie.Need-returns
 unfolding stmtHeadAt stmtStartOf headBytes ensure
 returns c = simp (← c .before .peek .ensures .0, le-ltb 0 (c .before .peek .result) (omega arith))
 
--- src/lib.rt:289:9
 returns-2 : tie.Need-returns-2
 unfolding stmtHeadAt stmtStartOf headBytes ensure
 returns-2 c = simp (← c .before .before .peek .ensures .0, lt-ltb 0 (c .before .before .peek .result) (omega arith), le-ltb (c .before .before .peek .result) 11 (omega arith))
 
--- src/lib.rt:291:21
 array-read-wide : tie.Need-array-read-wide
 array-read-wide c = search needs
 
--- src/lib.rt:291:9
 wide-requires : tie.Need-wide-requires
 wide-requires c κs = search needs
 
--- src/lib.rt:292:8
 room-requires : tie.Need-room-requires
 room-requires c κs = search needs
 
--- src/lib.rt:293:9
 returns-3 : tie.Need-returns-3
 unfolding stmtHeadAt stmtStartOf headBytes ensure
 returns-3 c = simp (← c .before .before .before .before .before .peek .ensures .0, lt-ltb 0 (c .before .before .before .before .before .peek .result) (omega arith), lt-ltb (c .before .before .before .before .before .peek .result) 11 (omega arith), ← c .before .before .wide .ensures .0, ← c .before .room .ensures, lt-leb _ _ (c .if3 .taken))
 
--- src/lib.rt:295:8
 binds-ok-requires : tie.Need-binds-ok-requires
 binds-ok-requires c κs = ⊎-elim (λ l. l) (λ l. let z = past-end (now (c .before .before .before .before .before .before .before .args .s)) (c .before .before .before .before .before .before .before .args .at) l in absurd (c .before .before .before .before .if1 .left (c .before .before .before .before .before .peek .ensures .0 ∙ z))) (less (c .before .before .before .before .before .before .before .args .at) (length (now (c .before .before .before .before .before .before .before .args .s))))
 
--- src/lib.rt:296:25
 add-t14 : tie.Need-add-t14
 add-t14 c = search needs
 
--- src/lib.rt:281:1
 returns-4 : tie.Need-returns-4
 unfolding stmtHeadAt stmtStartOf headBytes ensure
 returns-4 c = simp (← c .before .before .before .before .before .before .before .peek .ensures .0, lt-ltb 0 (c .before .before .before .before .before .before .before .peek .result) (omega arith), lt-ltb (c .before .before .before .before .before .before .before .peek .result) 11 (omega arith), ← c .before .before .before .before .wide .ensures .0, ← c .before .before .before .room .ensures, le-leb _ _ (c .before .before .if3 .left), ← c .before .binds-ok .ensures, c .if4 .taken)
 
--- src/lib.rt:281:1
 returns-5 : tie.Need-returns-5
 unfolding stmtHeadAt stmtStartOf headBytes ensure
 returns-5 c = simp (← c .before .before .before .before .before .before .before .peek .ensures .0, lt-ltb 0 (c .before .before .before .before .before .before .before .peek .result) (omega arith), lt-ltb (c .before .before .before .before .before .before .before .peek .result) 11 (omega arith), ← c .before .before .before .before .wide .ensures .0, ← c .before .before .before .room .ensures, le-leb _ _ (c .before .before .if3 .left), ← c .before .binds-ok .ensures, c .if4 .left)

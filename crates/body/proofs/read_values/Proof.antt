@@ -1,4 +1,4 @@
-use mathlib.Core.Path.{_≡_, sym, ap, _∙_}
+use mathlib.Core.Path.{sym, ap, _∙_}
 use native.Mathlib.Omega.{arith}
 use lib.ListN.{getD}
 use Rattle.fields.proofs.Answers.{number-ok, number-wrong, read-ok, read-fault}
@@ -14,88 +14,68 @@ use Rattle.body.proofs.read_exprs.Reads as read-exprs-reads
 use Rattle.fields.proofs.field.Reads as field-reads
 use Rattle.fields.proofs.wide.Reads as wide-reads
 
--- src/lib.rt:317:21
 array-read-wide : tie.Need-array-read-wide
 array-read-wide c = search needs
 
--- src/lib.rt:317:9
 wide-requires : tie.Need-wide-requires
 wide-requires c κs = search needs
 
--- src/lib.rt:318:11
 field-requires : tie.Need-field-requires
 field-requires c κs = search needs
 
--- src/lib.rt:319:23
 enum-known-f : tie.Need-enum-known-f
 enum-known-f c = search needs
 
--- src/lib.rt:320:20
 enum-known-n : tie.Need-enum-known-n
 enum-known-n c = search needs
 
--- src/lib.rt:321:30
 array-read-wide-2 : tie.Need-array-read-wide-2
 array-read-wide-2 c = search needs
 
--- src/lib.rt:321:17
 wide-requires-2 : tie.Need-wide-requires-2
 wide-requires-2 c κs = search needs
 
--- src/lib.rt:322:56
 add-read-exprs : tie.Need-add-read-exprs
 add-read-exprs c = let l = flag-small _ _ _ (c .before .before .before .before .field .ensures) (c .before .before .n .given .1) in omega arith
 
--- src/lib.rt:322:19
 read-exprs-requires : tie.Need-read-exprs-requires
 read-exprs-requires c κs = search needs
 
--- src/lib.rt:323:29
 enum-known-f-2 : tie.Need-enum-known-f-2
 enum-known-f-2 c = search needs
 
--- src/lib.rt:324:28
 enum-known-r : tie.Need-enum-known-r
 enum-known-r c = search needs
 
--- src/lib.rt:325:38
 array-read-wide-3 : tie.Need-array-read-wide-3
 array-read-wide-3 c = search needs
 
--- src/lib.rt:325:25
 wide-requires-3 : tie.Need-wide-requires-3
 wide-requires-3 c κs = search needs
 
--- src/lib.rt:326:27
 field-requires-2 : tie.Need-field-requires-2
 field-requires-2 c κs = search needs
 
--- src/lib.rt:327:39
 enum-known-f-3 : tie.Need-enum-known-f-3
 enum-known-f-3 c = search needs
 
--- src/lib.rt:328:39
 enum-known-u : tie.Need-enum-known-u
 enum-known-u c = search needs
 
--- src/lib.rt:313:1
 returns : tie.Need-returns
 unfolding valueFlag
 returns c = λ h e. flag-stop _ _ h _ (c .before .before .before .before .wide .ensures .0 ∙ ap (λ x. getD valueFlag x 0) (sym e)) (number-wrong (c .before .before .before .field .ensures) (c .before .f .given .1))
 
--- src/lib.rt:313:1
 returns-2 : tie.Need-returns-2
 unfolding valueFlag valueCount
 returns-2 c = λ h e. values-stop _ _ h _ (c .before .before .before .before .before .before .before .before .before .wide .ensures .0 ∙ ap (λ x. getD valueFlag x 0) (sym e)) (number-ok (c .before .before .before .before .before .before .before .before .field .ensures) (c .before .before .before .before .before .before .n .given .1)) (c .before .before .before .before .wide2 .ensures .0 ∙ ap (λ x. getD valueCount x 0) (sym e))
     (read-fault (c .before .before .before .read-exprs .ensures) (c .before .f2 .given .1))
 
--- src/lib.rt:313:1
 returns-3 : tie.Need-returns-3
 unfolding valueFlag valueCount typeWidth
 returns-3 c = λ h e. last-stop _ _ h _ (c .before .before .before .before .before .before .before .before .before .before .before .before .before .before .wide .ensures .0 ∙ ap (λ x. getD valueFlag x 0) (sym e)) (number-ok (c .before .before .before .before .before .before .before .before .before .before .before .before .before .field .ensures) (c .before .before .before .before .before .before .before .before .before .before .before .n .given .1)) (c .before .before .before .before .before .before .before .before .before .wide2 .ensures .0 ∙ ap (λ x. getD valueCount x 0) (sym e))
     (read-ok (c .before .before .before .before .before .before .before .before .read-exprs .ensures) (c .before .before .before .before .before .before .r .given .1) .1) (c .before .before .before .before .wide3 .ensures .0 ∙ ap (λ x. getD typeWidth x 0) (sym e)) (number-wrong (c .before .before .before .field2 .ensures) (c .before .f3 .given .1))
 
--- src/lib.rt:313:1
 returns-4 : tie.Need-returns-4
 unfolding valueFlag valueCount typeWidth
 returns-4 c = λ h e. ap (λ x. Tag x (c .before .u .given .0 .1 .0)) (sym e) ∙ front-done _ _ h _ (c .before .before .before .before .before .before .before .before .before .before .before .before .before .before .wide .ensures .0 ∙ ap (λ x. getD valueFlag x 0) (sym e)) (number-ok (c .before .before .before .before .before .before .before .before .before .before .before .before .before .field .ensures) (c .before .before .before .before .before .before .before .before .before .before .before .n .given .1)) (c .before .before .before .before .before .before .before .before .before .wide2 .ensures .0 ∙ ap (λ x. getD valueCount x 0) (sym e))

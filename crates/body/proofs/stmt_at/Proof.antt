@@ -1,5 +1,5 @@
 use denote.Ref.{now}
-use mathlib.Core.Path.{_≡_, refl}
+use mathlib.Core.Path.{refl}
 use borrow.Author.Tests.{ne-eqb}
 use Rattle.fields.proofs.Numbers.{past-end}
 use Rattle.body.specs.StmtNode.{stmtNodeOf}
@@ -12,138 +12,107 @@ use Rattle.body.proofs.peek_four.Reads as peek-four-reads
 use Rattle.fields.proofs.peek.Reads as peek-reads
 use Rattle.fields.proofs.peek_two.Reads as peek-two-reads
 
--- src/lib.rt:429:9
 peek-requires : tie.Need-peek-requires
 peek-requires c κs = search needs
 
--- src/lib.rt:431:9
 returns : tie.Need-returns
 unfolding stmtNodeOf
 returns c = rw (past-end (now (c .before .before .before .args .s)) (c .before .before .before .args .at) (c .if1 .taken)) refl
 
--- src/lib.rt:433:29
 add-peek-four : tie.Need-add-peek-four
 add-peek-four c = search needs
 
--- src/lib.rt:433:9
 peek-four-requires : tie.Need-peek-four-requires
 peek-four-requires c κs = search needs
 
--- src/lib.rt:435:30
 add-t8 : tie.Need-add-t8
 add-t8 c = search needs
 
--- src/lib.rt:436:37
 add-t9 : tie.Need-add-t9
 add-t9 c = search needs
 
--- src/lib.rt:437:35
 add-t10 : tie.Need-add-t10
 add-t10 c = search needs
 
--- src/lib.rt:438:46
 add-peek-two : tie.Need-add-peek-two
 add-peek-two c = search needs
 
--- src/lib.rt:438:34
 peek-two-requires : tie.Need-peek-two-requires
 peek-two-requires c κs = search needs
 
--- src/lib.rt:438:67
 add-peek-two-2 : tie.Need-add-peek-two-2
 add-peek-two-2 c = search needs
 
--- src/lib.rt:438:55
 peek-two-requires-2 : tie.Need-peek-two-requires-2
 peek-two-requires-2 c κs = search needs
 
--- src/lib.rt:438:76
 add-t15 : tie.Need-add-t15
 add-t15 c = search needs
 
--- src/lib.rt:439:48
 add-peek-two-3 : tie.Need-add-peek-two-3
 add-peek-two-3 c = search needs
 
--- src/lib.rt:439:36
 peek-two-requires-3 : tie.Need-peek-two-requires-3
 peek-two-requires-3 c κs = search needs
 
--- src/lib.rt:439:69
 add-peek-two-4 : tie.Need-add-peek-two-4
 add-peek-two-4 c = search needs
 
--- src/lib.rt:439:57
 peek-two-requires-4 : tie.Need-peek-two-requires-4
 peek-two-requires-4 c κs = search needs
 
--- src/lib.rt:439:78
 add-t20 : tie.Need-add-t20
 add-t20 c = search needs
 
--- src/lib.rt:440:37
 add-t21 : tie.Need-add-t21
 add-t21 c = search needs
 
--- src/lib.rt:441:37
 add-t22 : tie.Need-add-t22
 add-t22 c = search needs
 
--- src/lib.rt:442:36
 add-t23 : tie.Need-add-t23
 add-t23 c = search needs
 
--- src/lib.rt:426:1
 returns-2 : tie.Need-returns-2
 unfolding stmtNodeOf
 returns-2 c = simp (← c .before .before .before .peek .ensures .0, c .match .keys1)
 
--- src/lib.rt:426:1
 returns-3 : tie.Need-returns-3
 unfolding stmtNodeOf
 returns-3 c = simp (← c .before .before .before .peek .ensures .0, c .match .keys2, ← c .before .peek-four .ensures)
 
--- src/lib.rt:426:1
 returns-4 : tie.Need-returns-4
 unfolding stmtNodeOf
 returns-4 c = simp (← c .before .before .before .peek .ensures .0, c .match .keys3, ← c .before .peek-four .ensures)
 
--- src/lib.rt:426:1
 returns-5 : tie.Need-returns-5
 unfolding stmtNodeOf
 returns-5 c = simp (← c .before .before .before .before .before .peek .ensures .0, c .before .before .match .keys4, ← c .before .before .before .peek-four .ensures, ← c .before .peek-two .ensures .0, ← c .peek-two2 .ensures .0)
 
--- src/lib.rt:426:1
 returns-6 : tie.Need-returns-6
 unfolding stmtNodeOf
 returns-6 c = simp (← c .before .before .before .before .before .peek .ensures .0, c .before .before .match .keys5, ← c .before .before .before .peek-four .ensures, ← c .before .peek-two3 .ensures .0, ← c .peek-two4 .ensures .0)
 
--- src/lib.rt:426:1
 returns-7 : tie.Need-returns-7
 unfolding stmtNodeOf
 returns-7 c = simp (← c .before .before .before .peek .ensures .0, c .match .keys6, ← c .before .peek-four .ensures)
 
--- src/lib.rt:426:1
 returns-8 : tie.Need-returns-8
 unfolding stmtNodeOf
 returns-8 c = simp (← c .before .before .before .peek .ensures .0, c .match .keys7, ← c .before .peek-four .ensures)
 
--- src/lib.rt:426:1
 returns-9 : tie.Need-returns-9
 unfolding stmtNodeOf
 returns-9 c = simp (← c .before .before .before .peek .ensures .0, c .match .keys8, ← c .before .peek-four .ensures)
 
--- src/lib.rt:426:1
 returns-10 : tie.Need-returns-10
 unfolding stmtNodeOf
 returns-10 c = simp (← c .before .before .before .peek .ensures .0, c .match .keys9, ← c .before .peek-four .ensures)
 
--- src/lib.rt:426:1
 returns-11 : tie.Need-returns-11
 unfolding stmtNodeOf
 returns-11 c = simp (← c .before .before .before .peek .ensures .0, c .match .keys10, ← c .before .peek-four .ensures)
 
--- src/lib.rt:426:1
 returns-12 : tie.Need-returns-12
 unfolding stmtNodeOf
 returns-12 c = simp (← c .before .before .before .peek .ensures .0, ne-eqb _ _ (c .match .rest .0 .0 .0 .0 .0 .0 .0 .0 .0 .1), ne-eqb _ _ (c .match .rest .0 .0 .0 .0 .0 .0 .0 .0 .1), ne-eqb _ _ (c .match .rest .0 .0 .0 .0 .0 .0 .0 .1), ne-eqb _ _ (c .match .rest .0 .0 .0 .0 .0 .0 .1), ne-eqb _ _ (c .match .rest .0 .0 .0 .0 .0 .1), ne-eqb _ _ (c .match .rest .0 .0 .0 .0 .1), ne-eqb _ _ (c .match .rest .0 .0 .0 .1), ne-eqb _ _ (c .match .rest .0 .0 .1), ne-eqb _ _ (c .match .rest .0 .1), ne-eqb _ _ (c .match .rest .1))

@@ -2,7 +2,7 @@ use borrow.Author.Needs.{needs}
 use lib.ListN.{length}
 use native.Mathlib.Omega.{arith}
 use Prim.Native.Nat.{_-_}
-use mathlib.Core.Path.{_≡_, refl}
+use mathlib.Core.Path.{refl}
 use Rattle.body.proofs.Walking.{Looks, no-unary, with-operator, again, unary}
 use Rattle.body.proofs.strip_noop_unary.Statement.{statement}
 use Rattle.body.proofs.strip_noop_unary.Tie as tie
@@ -16,31 +16,24 @@ Inv-loop s at p₀ p = Looks s at p
 abbrev μ-loop : tie.MeasureT-loop
 μ-loop s at p₀ p = length s - p
 
--- src/lib.rt:166:5
 loop-holds : tie.Need-loop-holds Inv-loop μ-loop
 loop-holds c = λ e next g. (e, record { next = next; stands = g }, refl)
 
--- src/lib.rt:167:38
 node-at-requires : tie.Need-node-at-requires Inv-loop μ-loop
 node-at-requires c κs = search needs
 
--- src/lib.rt:167:25
 enum-known-op : tie.Need-enum-known-op Inv-loop μ-loop
 enum-known-op c = search needs
 
--- src/lib.rt:168:13
 returns : tie.Need-returns Inv-loop μ-loop
 returns c = no-unary _ _ _ (c .before .before .loop .inv) (c .before .node-at .ensures) (c .match .keys2)
 
--- src/lib.rt:171:13
 returns-2 : tie.Need-returns-2 Inv-loop μ-loop
 returns-2 c = with-operator _ _ _ (c .before .before .before .before .before .loop .inv) (c .before .before .before .before .node-at .ensures) (c .before .before .op .given .1) (c .if1 .taken)
 
--- src/lib.rt:166:5
 loop-less : tie.Need-loop-less Inv-loop μ-loop
 loop-less c = let u = unary _ _ (c .before .before .before .before .node-at .ensures) (c .before .before .op .given .1) in omega arith
 
--- src/lib.rt:166:5
 loop-again : tie.Need-loop-again Inv-loop μ-loop
 loop-again c = again _ _ _ (c .before .before .before .before .before .loop .inv) (c .before .before .before .before .node-at .ensures) (c .before .before .op .given .1) (c .if1 .left)
 

@@ -4,15 +4,12 @@ use Rattle.body.proofs.type_ok.Tie as tie
 use Rattle.body.proofs.type_ok.Reads as reads
 use Rattle.body.proofs.type_ok.Lts as lts
 
--- src/lib.rt:101:9
 returns : tie.Need-returns
 returns c = simp (le-ltb _ _ (c .if1 .taken))
 
--- src/lib.rt:104:9
 returns-2 : tie.Need-returns-2
 returns-2 c = simp (lt-ltb _ _ (c .before .if1 .left), eq-eqb _ _ (c .if2 .taken))
 
--- src/lib.rt:97:1
 returns-3 : tie.Need-returns-3
 returns-3 c = simp (lt-ltb _ _ (c .before .if1 .left), ne-eqb _ _ (c .if2 .left))
 
