@@ -122,6 +122,48 @@ image-valid L s small i e =
         globals = globals-valid s L _ _ _ _ (g .globals);
       };
       entry = entry-valid s L _ _ _ _ _ (g .entry);
-      body = block-valid _ s small (L .blockDepth) _ _ _ (g .body);
+      body = block-valid s small _ (L .blockDepth) _ _ _ (g .body);
       size = subst (λ x. length x ≤ L .size) (sym (image-written L s small i e)) (g .short);
     }
+
+-- reading what was written
+module _ (L : Limits) (i : Image) (valid : ValidImage L i) where
+  all-written : (s : List ℕ) → Written s 0 s (length s)
+  all-written s = record { part = record { is = sym (ap (λ x. s ++ x) (drop-length s) ∙ append-nil s) }; end = omega arith }
+
+  -- the length, the version and the parts stand in the bytes
+  module _ (s : List ℕ) (q : ℕ) (count : Written s 0 (fourBytes (length (encodeParts L i))) q) (rest : Written s q (encodeParts L i) (length s))
+      (fits : length s ≤ L .size) where
+    length-good : lengthOk L s ≡ true
+    length-good =
+        let a = four-here count in
+        let b = rest .end in
+        let c : four s 0 ≡ length (encodeParts L i) = a .0 in
+        let d : q ≡ 4 = a .2 in
+        let e : 5 ≤ length s = omega arith in
+        let f : four s 0 + 4 ≡ length s = omega arith in
+        rw (le-leb 5 (length s) e, le-leb (length s) (L .size) fits, eq-eqb (four s 0 + 4) (length s) f) refl
+
+    scope-valid : ValidScope (scopeIn L (i .tables .names) (i .tables .types))
+    scope-valid = record { names = valid .tables .names .some; types = valid .tables .types .some }
+
+    parts-read : imageAt L s ≡ ok i (length s)
+    unfolding imageAt restAt bodyAt
+    parts-read =
+        let d : q ≡ 4 = four-here count .2 in
+        let rest4 : Written s 4 (encodeParts L i) (length s) = from d rest in
+        split (L .version ∷ []) (encodeTables (i .tables) ++ (encodeEntry (i .entry) ++ encodeBlock (i .body))) rest4 (λ p a b.
+        split (encodeTables (i .tables)) (encodeEntry (i .entry) ++ encodeBlock (i .body)) b (λ u c e.
+        split (encodeEntry (i .entry)) (encodeBlock (i .body)) e (λ v f g.
+        let five : p ≡ 5 = a .end in
+        let t = tables-read-back s L (i .tables) 5 u (valid .tables) (from five c) in
+        passes 1 length-good (passes 2 (eq-eqb _ _ (here a))
+        (goes _ (t .3) (goes _ (t .4) (goes _ (t .5) (goes _ (t .6)
+        (goes _ (entry-read-back s L _ _ u (i .entry) v (valid .entry) f)
+        (goes _ (goes _ (block-read-back _ scope-valid s (L .blockDepth) v (i .body) (length s) (valid .body) g) (passes 10 (eq-eqb (length s) (length s) refl) refl)) refl))))))))))
+
+  pub image-read-back : decode L (encode L i) ≡ accepted i
+  unfolding decode encode outcome
+  image-read-back =
+      split (fourBytes (length (encodeParts L i))) (encodeParts L i) (all-written (encode L i)) (λ q a b.
+      ap outcome (parts-read (encode L i) q a b (valid .size)))
