@@ -2,3 +2,5 @@
 pub mod Numbered
 pub mod Whole
 pub mod RoundTrip
+pub mod Asking
+pub mod Example
