@@ -21,7 +21,7 @@ use Rattle.tables.specs.Name.{bytesAt, nameOf, sameBytes, nameAt, namesAt}
 use Rattle.tables.specs.Ty.{Ty, shapeWidth, partsAt, typeAt, typesAt}
 use Rattle.tables.specs.Signature.{Method, Struct, Global, Param, Entry, methodAt, structRestAt, structAt, structsAt, globalAt, globalsAt, paramAt, thisWidth, entryAt}
 use Rattle.encoding.specs.Valid.{Each, ValidName, ValidNames, ValidType, ValidTypes, ValidMethod, ValidStruct, ValidStructs, ValidGlobal, ValidGlobals, ValidParam, ValidEntry}
-use Rattle.encoding.proofs.TablesWritten.{bytes-length}
+use Rattle.tables.proofs.Names.{length-bytes}
 
 -- a number in no bytes is 0
 pub field-none : (f limit k : ℕ) (s : List ℕ) (p n q : ℕ) → fieldAt f limit k s p ≡ ok n q → k ≡ 0 → n ≡ 0
@@ -90,7 +90,7 @@ module _ (s : List ℕ) where
       let b = and-true (ltb 0 (getD s p 0)) _ (e1 .0) in
       let low : 0 < getD s p 0 = ltb-true _ _ (b .0) in
       let high : getD s p 0 ≤ L .nameBytes = leb-true _ _ (b .1) in
-      let l : length (bytesAt s (p + 1) (getD s p 0)) ≡ getD s p 0 = bytes-length s (p + 1) (getD s p 0) in
+      let l : length (bytesAt s (p + 1) (getD s p 0)) ≡ getD s p 0 = length-bytes s (p + 1) (getD s p 0) in
       subst (ValidName L ns) a
       record { some = omega arith; short = omega arith; bytes = bytes-small s small (getD s p 0) (p + 1); new = not-true _ (e3 .0) }
 

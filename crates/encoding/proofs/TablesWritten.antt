@@ -17,6 +17,7 @@ use Rattle.tables.specs.Limits.{Limits}
 use Rattle.tables.specs.Name.{bytesAt, nameOf, nameAt, namesAt}
 use Rattle.tables.specs.Ty.{Ty, ofWidth, shapeWidth, partsAt, typeAt, typesAt}
 use Rattle.tables.specs.Signature.{Method, Struct, Global, Param, Entry, methodAt, structRestAt, structAt, structsAt, globalAt, globalsAt, paramAt, thisWidth, entryAt}
+use Rattle.tables.proofs.Names.{length-bytes}
 use Rattle.encoding.specs.Written.{Written}
 use Rattle.encoding.specs.Tables.{encodeTable, encodeName, encodeType, encodeMethod, encodeStruct, encodeGlobal, encodeParam, encodeEntry, encodeTables}
 use Rattle.tables.specs.Tables.{Tables}
@@ -27,11 +28,6 @@ pub bytes-at : (s : List ℕ) (p n : ℕ) → p + n ≤ length s → Written s p
 unfolding bytesAt
 bytes-at s p zero le = upto (omega arith) nothing
 bytes-at s p (suc n) le = upto (omega arith) (then (byte-at s p (omega arith)) (bytes-at s (p + 1) n (omega arith)))
-
-pub bytes-length : (s : List ℕ) (p n : ℕ) → length (bytesAt s p n) ≡ n
-unfolding bytesAt
-bytes-length s p zero = refl
-bytes-length s p (suc n) = ap suc (bytes-length s (p + 1) n)
 
 -- the tables' widths
 pub of-width : (k : ℕ) → k < 5 → getD ofWidth k 0 ≤ 2
@@ -59,7 +55,7 @@ module _ (s : List ℕ) (small : Bytes s) where
       let a : bytesAt s (p + 1) (getD s p 0) ≡ n = cc in
       let b : p + (getD s p 0 + 1) ≡ q = cc in
       let l : getD s p 0 + 1 ≤ length s - p = leb-true _ _ (e2 .0) in
-      let c : getD s p 0 ≡ length n = sym (bytes-length s (p + 1) (getD s p 0)) ∙ ap length a in
+      let c : getD s p 0 ≡ length n = sym (length-bytes s (p + 1) (getD s p 0)) ∙ ap length a in
       upto b (being (subst₂ (λ x y. getD s p 0 ∷ bytesAt s (p + 1) (getD s p 0) ≡ x ∷ y) c a refl)
       (upto {q = p + 1 + getD s p 0} (omega arith) (then (byte-at s p (omega arith)) (bytes-at s (p + 1) (getD s p 0) (omega arith)))))
 

@@ -11,7 +11,7 @@ use Rattle.tables.specs.Name.{nameOf}
 use Rattle.tables.specs.Ty.{typeIn}
 use Rattle.tables.specs.Signature.{structIn}
 use Rattle.tables.specs.Answer.{Listed}
-use Rattle.lookup.specs.First.{Within}
+use Rattle.lookup.specs.First.{AllWithin}
 use Rattle.lookup.specs.Ty.{Lower}
 use Rattle.lookup.proofs.Lower.{types-lower}
 use Rattle.image.specs.Image.{Image, accepted, decode}
@@ -21,7 +21,7 @@ use Rattle.image.proofs.RoundTrip.{parted}
 
 -- the first n positions, as they are lent
 taken : {A : Type 0} (view : ℕ → A) (s starts : List ℕ) {xs : List A} {n : ℕ} → n ≡ length xs → Listed view s starts xs
-    → (map view (take n starts) ≡ xs) × Within s (take n starts)
+    → (map view (take n starts) ≡ xs) × AllWithin s (take n starts)
 taken view s starts {xs} {n} e l =
     (subst (λ k. map view (take k starts) ≡ xs) (sym e) (l .placed), λ k lt.
     let h = length-take n starts in
@@ -31,12 +31,12 @@ taken view s starts {xs} {n} e l =
 -- what `should_auto_delete`, `method_modifier`, `is_compiler_temp_name` and `is_move` require, and which tables they then ask
 pub record Asking (s : List ℕ) (i : Image) (l : Layout) : Type 0 where
   pub names : map (nameOf s) (take (l .«name_count») (l .names)) ≡ i .tables .names
-  pub namesWithin : Within s (take (l .«name_count») (l .names))
+  pub namesWithin : AllWithin s (take (l .«name_count») (l .names))
   pub types : map (typeIn s) (take (l .«type_count») (l .types)) ≡ i .tables .types
-  pub typesWithin : Within s (take (l .«type_count») (l .types))
+  pub typesWithin : AllWithin s (take (l .«type_count») (l .types))
   pub lower : Lower (map (typeIn s) (take (l .«type_count») (l .types)))
   pub structs : map (structIn s) (take (l .rest .«struct_count») (l .structs)) ≡ i .tables .structs
-  pub structsWithin : Within s (take (l .rest .«struct_count») (l .structs))
+  pub structsWithin : AllWithin s (take (l .rest .«struct_count») (l .structs))
 
 pub asking : (s : List ℕ) (i : Image) (l : Layout) → decode version1 s ≡ accepted i → Laid s i l → Asking s i l
 asking s i l e g =

@@ -33,6 +33,7 @@ use Rattle.encoding.proofs.BodyReadBack.{block-read-back}
 use Rattle.encoding.proofs.BodyValid.{block-valid}
 use Rattle.image.specs.Image.{Image, Decoded, accepted, refused, scopeIn, lengthOk, bodyAt, restAt, imageAt, outcome, decode, encodeParts, encode}
 use Rattle.image.specs.Valid.{ValidImage}
+use Rattle.image.proofs.Whole.{outcome-ok}
 
 -- the parts of an image that was read, and where each ends
 pub record Parted (L : Limits) (s : List ℕ) (i : Image) : Type 0 where
@@ -80,14 +81,9 @@ image-parted L s i n e =
       body = e13 ∙ ap (λ a. ok a x) cb ∙ ap (ok b) lx;
     }))))))))
 
-decode-ok : (x : Parsed Image) (i : Image) → outcome x ≡ accepted i → (n : ℕ) × (x ≡ ok i n)
-unfolding outcome
-decode-ok (ok j p) i e = (p, let z : j ≡ i = cc in ap (λ y. ok y p) z)
-decode-ok (fault n) i e = let z : _≡_ {A = ℕ} 0 1 = cc in absurd (omega arith)
-
 pub parted : (L : Limits) (s : List ℕ) (i : Image) → decode L s ≡ accepted i → Parted L s i
 unfolding decode
-parted L s i e = let g = decode-ok (imageAt L s) i e in image-parted L s i (g .0) (g .1)
+parted L s i e = let g = outcome-ok (imageAt L s) e in image-parted L s i (g .0) (g .1)
 
 -- bytes that stand from the first to the last are all there are
 whole-list : (s a : List ℕ) → Written s 0 a (length s) → a ≡ s

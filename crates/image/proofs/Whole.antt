@@ -208,7 +208,7 @@ unfolding outcome faultOf
 outcome-fault (ok i p) e lt = absurd (omega arith)
 outcome-fault (fault n) e lt = rw e refl
 
-outcome-ok : (x : Parsed Image) {i : Image} → outcome x ≡ accepted i → (p : ℕ) × (x ≡ ok i p)
+pub outcome-ok : (x : Parsed Image) {i : Image} → outcome x ≡ accepted i → (p : ℕ) × (x ≡ ok i p)
 unfolding outcome
 outcome-ok (ok j p) {i} e = (p, let z : j ≡ i = cc in ap (λ y. ok y p) z)
 outcome-ok (fault n) {i} e = let z : _≡_ {A = ℕ} 0 1 = cc in absurd (omega arith)

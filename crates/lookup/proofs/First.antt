@@ -13,7 +13,7 @@ use lib.Seq.{drop-cons, drop-length}
 use Rattle.fields.specs.Table.{entries}
 use Rattle.fields.proofs.Tests.{split, less}
 use Rattle.fields.proofs.Numbers.{past-end}
-use Rattle.lookup.specs.First.{firstFrom, andThen, Within}
+use Rattle.lookup.specs.First.{firstFrom, andThen, AllWithin}
 use Rattle.lookup.specs.Answer.{foundOf}
 use Rattle.lookup.specs.declared.Found.{Found}
 use Rattle.lookup.specs.declared.Found.the-variants.{At, Nothing}
@@ -110,7 +110,7 @@ viewed view (x ∷ xs) zero d lt = refl
 viewed view (x ∷ xs) (suc i) d lt = viewed view xs i d (omega arith)
 
 -- past the table a position counts as 0
-pub within : (s starts : List ℕ) → Within s starts → (n : ℕ) {at : ℕ} → at ≡ getD starts n 0 → at ≤ length s
+pub within : (s starts : List ℕ) → AllWithin s starts → (n : ℕ) {at : ℕ} → at ≡ getD starts n 0 → at ≤ length s
 within s starts h n e =
     ⊎-elim
     (λ lt. let g : getD starts n 0 < length s = h n lt in omega arith)

@@ -16,6 +16,7 @@ use Rattle.fields.proofs.Numbers.{field-ok}
 use Rattle.fields.proofs.Tables.{table-parts}
 use Rattle.tables.specs.Limits.{Limits}
 use Rattle.tables.specs.Ty.{Ty, ofLimit, partsAt, typeAt, typesAt}
+use Rattle.tables.proofs.Types.{lower}
 use Rattle.lookup.specs.Ty.{typeNo, Lower}
 
 -- one more type, whose inner type is before it
@@ -37,26 +38,11 @@ lower-more xs x low h t =
         let e = ap (λ y. y .kind) (List·getD-eq-default (xs ++ (x ∷ [])) (record { kind = 0; of = 0; shape = 0 }) {n = t} (omega arith)) in
         absurd (omega arith)
 
--- a type that is read after those of ts
-read-lower : (names : ℕ) (s : List ℕ) (ts : List Ty) (at : ℕ) (x : Ty) (q : ℕ) → typeAt names s ts at ≡ ok x q → 3 ≤ x .kind → x .of < length ts
-unfolding typeAt partsAt
-read-lower names s ts at x q e l =
-    bound e (λ kind p e1 e2.
-    bound (ensure-ok _ e2 .1) (λ of p2 f1 f2.
-    bound f2 (λ shape p3 h1 h2.
-    inner kind of shape p3 (field-ok f1 .small) h2)))
-  where
-    inner : (kind of shape r : ℕ) → of < ofLimit names (length ts) kind → _≡_ {A = Parsed Ty} (ok (record { kind = kind; of = of; shape = shape }) r) (ok x q) → x .of < length ts
-    inner kind of shape r lt h =
-        let a : kind ≡ x .kind = cc in
-        let b : of ≡ x .of = cc in
-        subst (λ y. y < length ts) b (rw (ne-eqb kind 0 (λ z. omega arith), le-ltb kind 3 (omega arith)) at lt)
-
 from-lower : (names : ℕ) (s : List ℕ) (xs : List Ty) (n at : ℕ) (us : List Ty) (q : ℕ) → Lower xs → tableFrom (typeAt names s) xs n at ≡ ok us q → Lower us
 unfolding tableFrom
 from-lower names s xs zero at us q low e = let a : xs ≡ us = cc in subst Lower a low
 from-lower names s xs (suc n) at us q low e =
-    bound e (λ x p e1 e2. from-lower names s (xs ++ (x ∷ [])) n p us q (lower-more xs x low (read-lower names s xs at x p e1)) e2)
+    bound e (λ x p e1 e2. from-lower names s (xs ++ (x ∷ [])) n p us q (lower-more xs x low (lower names s xs at x p e1)) e2)
 
 pub types-lower : (L : Limits) (names : ℕ) (s : List ℕ) (at : ℕ) {ts : List Ty} {p : ℕ} → typesAt L names s at ≡ ok ts p → Lower ts
 unfolding typesAt

@@ -1,12 +1,13 @@
 -- The first entry of a table that passes a test, by its number.
-use Prim.Native.Nat.{ℕ, _+_, _<_}
+use Prim.Native.Nat.{ℕ, _+_}
 use mathlib.Core.List.{List, [], _∷_}
 use mathlib.Core.Bool.{Bool, cond}
 use mathlib.Core.Option.{Option, none, some}
-use lib.ListN.{length, getD}
+use lib.ListN.{length}
 use lib.Dec.{eqb}
 use Rattle.fields.specs.Number.{two}
 use Rattle.fields.specs.Table.{entries}
+use Rattle.tables.specs.Answer.{Within}
 
 -- the number, counted from i, of the first entry that passes the test q
 unfoldable pub firstFrom : {A : Type 0} → (A → Bool) → ℕ → List A → Option ℕ
@@ -31,5 +32,5 @@ abbrev pub positions : ℕ → ℕ → ℕ → List ℕ
 positions w n at = entries (λ p. p) w n at
 
 -- the positions of a table's entries lie within the bytes
-abbrev pub Within : List ℕ → List ℕ → Type 0
-Within s starts = (k : ℕ) → k < length starts → getD starts k 0 < length s
+abbrev pub AllWithin : List ℕ → List ℕ → Type 0
+AllWithin s starts = Within s starts (length starts)

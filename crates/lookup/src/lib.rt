@@ -7,7 +7,7 @@ ghost use Rattle.fields.specs.Table.{entries};
 ghost use Rattle.tables.specs.Name.{nameOf, startsWith};
 ghost use Rattle.tables.specs.Ty.{typeIn};
 ghost use Rattle.tables.specs.Signature.{structIn, globalIn};
-ghost use Rattle.lookup.specs.First.{firstFrom, isNumber, positions, Within};
+ghost use Rattle.lookup.specs.First.{firstFrom, isNumber, positions, AllWithin};
 ghost use Rattle.lookup.specs.Ty.{Lower, structNamed, structShaped, structOfGeneric, structOf, shouldAutoDelete, classOf};
 ghost use Rattle.lookup.specs.Signature.{modifierIn, modifierOf, globalOf};
 ghost use Rattle.lookup.specs.Name.{isTemp, isMove};
@@ -29,7 +29,7 @@ fn is_number(s: &[u8], at: usize, x: usize) -> bool
 
 // The first of some positions with the number x so many bytes after it.
 fn first_at(s: &[u8], starts: &[usize], offset: usize, x: usize) -> Found
-    requires { ⌜ Within (now s) (now starts) × (offset < 16) ⌝ }
+    requires { ⌜ AllWithin (now s) (now starts) × (offset < 16) ⌝ }
     ensures { λ r. ⌜ r ≡ foundOf (firstFrom (λ at. isNumber (now (s .entry)) x (at + offset)) 0 (now (starts .entry))) ⌝ }
 {
     let mut i = 0;
@@ -61,7 +61,7 @@ fn first_spaced(s: &[u8], stride: usize, n: usize, first: usize, x: usize) -> Fo
 
 // The struct of a name.
 fn struct_named(s: &[u8], structs: &[usize], name: usize) -> Found
-    requires { ⌜ Within (now s) (now structs) ⌝ }
+    requires { ⌜ AllWithin (now s) (now structs) ⌝ }
     ensures { λ r. ⌜ r ≡ foundOf (structNamed name (map (structIn (now (s .entry))) (now (structs .entry)))) ⌝ }
 {
     first_at(s, structs, 0, name)
@@ -69,7 +69,7 @@ fn struct_named(s: &[u8], structs: &[usize], name: usize) -> Found
 
 // The first struct of a shape.
 fn struct_shaped(s: &[u8], structs: &[usize], shape: usize) -> Found
-    requires { ⌜ Within (now s) (now structs) ⌝ }
+    requires { ⌜ AllWithin (now s) (now structs) ⌝ }
     ensures { λ r. ⌜ r ≡ foundOf (structShaped shape (map (structIn (now (s .entry))) (now (structs .entry)))) ⌝ }
 {
     if shape == 0 {
@@ -81,7 +81,7 @@ fn struct_shaped(s: &[u8], structs: &[usize], shape: usize) -> Found
 
 // The struct of a generic type: that of its plain name, destructor or not, else the first of its shape.
 fn struct_of_generic(s: &[u8], structs: &[usize], name: usize, shape: usize) -> Found
-    requires { ⌜ Within (now s) (now structs) ⌝ }
+    requires { ⌜ AllWithin (now s) (now structs) ⌝ }
     ensures { λ r. ⌜ r ≡ foundOf (structOfGeneric name shape (map (structIn (now (s .entry))) (now (structs .entry)))) ⌝ }
 {
     match struct_named(s, structs, name) {
@@ -92,7 +92,7 @@ fn struct_of_generic(s: &[u8], structs: &[usize], name: usize, shape: usize) -> 
 
 // The struct that the destructor question asks. An inline array asks that of its inner type, a lower number.
 fn struct_of_type(s: &[u8], types: &[usize], structs: &[usize], ty: usize) -> Found
-    requires { ⌜ Within (now s) (now types) × Within (now s) (now structs) × Lower (map (typeIn (now s)) (now types)) ⌝ }
+    requires { ⌜ AllWithin (now s) (now types) × AllWithin (now s) (now structs) × Lower (map (typeIn (now s)) (now types)) ⌝ }
     ensures { λ r. ⌜ r ≡ foundOf (structOf (map (typeIn (now (s .entry))) (now (types .entry))) (map (structIn (now (s .entry))) (now (structs .entry))) ty) ⌝ }
 {
     if types.len() <= ty {
@@ -115,7 +115,7 @@ fn struct_of_type(s: &[u8], types: &[usize], structs: &[usize], ty: usize) -> Fo
 
 // Whether a local of the type is deleted at the end of its scope.
 pub fn should_auto_delete(s: &[u8], types: &[usize], structs: &[usize], ty: usize) -> bool
-    requires { ⌜ Within (now s) (now types) × Within (now s) (now structs) × Lower (map (typeIn (now s)) (now types)) ⌝ }
+    requires { ⌜ AllWithin (now s) (now types) × AllWithin (now s) (now structs) × Lower (map (typeIn (now s)) (now types)) ⌝ }
     ensures { λ r. ⌜ r ≡ shouldAutoDelete (map (typeIn (now (s .entry))) (now (types .entry))) (map (structIn (now (s .entry))) (now (structs .entry))) ty ⌝ }
 {
     match struct_of_type(s, types, structs, ty) {
@@ -126,7 +126,7 @@ pub fn should_auto_delete(s: &[u8], types: &[usize], structs: &[usize], ty: usiz
 
 // The name of a receiver's class: that of a named type, behind pointers.
 fn class_name_from_receiver_ty(s: &[u8], types: &[usize], ty: usize) -> Found
-    requires { ⌜ Within (now s) (now types) × Lower (map (typeIn (now s)) (now types)) ⌝ }
+    requires { ⌜ AllWithin (now s) (now types) × Lower (map (typeIn (now s)) (now types)) ⌝ }
     ensures { λ r. ⌜ r ≡ foundOf (classOf (map (typeIn (now (s .entry))) (now (types .entry))) ty) ⌝ }
 {
     if types.len() <= ty {
@@ -163,7 +163,7 @@ pub fn method_modifier(
     ty: usize,
     name: usize,
 ) -> Found
-    requires { ⌜ Within (now s) (now types) × Within (now s) (now structs) × Lower (map (typeIn (now s)) (now types)) ⌝ }
+    requires { ⌜ AllWithin (now s) (now types) × AllWithin (now s) (now structs) × Lower (map (typeIn (now s)) (now types)) ⌝ }
     ensures { λ r. ⌜ r ≡ foundOf (modifierOf (map (typeIn (now (s .entry))) (now (types .entry))) (map (structIn (now (s .entry))) (now (structs .entry))) ty name) ⌝ }
 {
     let Found::At(class) = class_name_from_receiver_ty(s, types, ty) else {
@@ -213,7 +213,7 @@ fn start_of(starts: &[usize], i: usize) -> usize
 
 // Whether the name of a number begins with `__tmp`.
 pub fn is_compiler_temp_name(s: &[u8], names: &[usize], n: usize) -> bool
-    requires { ⌜ Within (now s) (now names) ⌝ }
+    requires { ⌜ AllWithin (now s) (now names) ⌝ }
     ensures { λ r. ⌜ r ≡ isTemp (nameOf (now (s .entry)) (getD (now (names .entry)) n 0)) ⌝ }
 {
     begins_with(s, start_of(names, n), b"__tmp")
@@ -221,7 +221,7 @@ pub fn is_compiler_temp_name(s: &[u8], names: &[usize], n: usize) -> bool
 
 // Whether the name of a number is `std::move`.
 pub fn is_move(s: &[u8], names: &[usize], n: usize) -> bool
-    requires { ⌜ Within (now s) (now names) ⌝ }
+    requires { ⌜ AllWithin (now s) (now names) ⌝ }
     ensures { λ r. ⌜ r ≡ isMove (nameOf (now (s .entry)) (getD (now (names .entry)) n 0)) ⌝ }
 {
     let at = start_of(names, n);

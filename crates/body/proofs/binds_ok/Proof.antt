@@ -2,9 +2,6 @@ use borrow.Author.Tests.{lt-ltb, le-ltb, eq-eqb, ne-eqb}
 use borrow.Author.Needs.{needs}
 use Rattle.body.proofs.binds_ok.Statement.{statement}
 use Rattle.body.proofs.binds_ok.Tie as tie
-use Rattle.body.proofs.binds_ok.Reads as reads
-use Rattle.body.proofs.binds_ok.Lts as lts
-use Rattle.fields.proofs.peek_two.Reads as peek-two-reads
 
 add-peek-two : tie.Need-add-peek-two
 add-peek-two c = search needs

@@ -7,12 +7,6 @@ use Rattle.body.proofs.Walking.{no-field, field, no-ident, ident}
 use borrow.Author.Needs.{needs}
 use Rattle.body.proofs.generic_receiver.Statement.{statement}
 use Rattle.body.proofs.generic_receiver.Tie as tie
-use Rattle.body.proofs.generic_receiver.Reads as reads
-use Rattle.body.proofs.generic_receiver.Lts as lts
-use Rattle.body.proofs.node_at.Reads as node-at-reads
-use Rattle.body.proofs.strip_noop_unary.Reads as strip-noop-unary-reads
-use Rattle.fields.proofs.peek.Reads as peek-reads
-use Rattle.fields.proofs.peek_two.Reads as peek-two-reads
 
 strip-noop-unary-requires : tie.Need-strip-noop-unary-requires
 strip-noop-unary-requires c κs = search needs

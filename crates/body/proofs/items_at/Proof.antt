@@ -2,9 +2,6 @@ use borrow.Author.Tests.{eq-eqb, ne-eqb}
 use borrow.Author.Needs.{needs}
 use Rattle.body.proofs.items_at.Statement.{statement}
 use Rattle.body.proofs.items_at.Tie as tie
-use Rattle.body.proofs.items_at.Reads as reads
-use Rattle.body.proofs.items_at.Lts as lts
-use Rattle.fields.proofs.peek_two.Reads as peek-two-reads
 
 peek-two-requires : tie.Need-peek-two-requires
 peek-two-requires c κs = search needs

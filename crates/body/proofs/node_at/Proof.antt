@@ -6,10 +6,6 @@ use Rattle.body.specs.Node.{nodeOf}
 use borrow.Author.Needs.{needs}
 use Rattle.body.proofs.node_at.Statement.{statement}
 use Rattle.body.proofs.node_at.Tie as tie
-use Rattle.body.proofs.node_at.Reads as reads
-use Rattle.body.proofs.node_at.Lts as lts
-use Rattle.fields.proofs.peek.Reads as peek-reads
-use Rattle.fields.proofs.peek_two.Reads as peek-two-reads
 
 peek-requires : tie.Need-peek-requires
 peek-requires c κs = search needs

@@ -8,11 +8,6 @@ use Rattle.body.proofs.Walking.{callee}
 use borrow.Author.Needs.{needs}
 use Rattle.body.proofs.read_end.Statement.{statement}
 use Rattle.body.proofs.read_end.Tie as tie
-use Rattle.body.proofs.read_end.Reads as reads
-use Rattle.body.proofs.read_end.Lts as lts
-use Rattle.body.proofs.generic_receiver.Reads as generic-receiver-reads
-use Rattle.fields.proofs.field.Reads as field-reads
-use Rattle.fields.proofs.wide.Reads as wide-reads
 
 array-read-wide : tie.Need-array-read-wide
 array-read-wide c = search needs

@@ -4,10 +4,6 @@ use Rattle.body.proofs.BodyReading.{head-small, head-ok, head-bad, fron
 use borrow.Author.Needs.{needs}
 use Rattle.body.proofs.read_front.Statement.{statement}
 use Rattle.body.proofs.read_front.Tie as tie
-use Rattle.body.proofs.read_front.Reads as reads
-use Rattle.body.proofs.read_front.Lts as lts
-use Rattle.body.proofs.read_stmt_head.Reads as read-stmt-head-reads
-use Rattle.body.proofs.read_values.Reads as read-values-reads
 
 read-stmt-head-requires : tie.Need-read-stmt-head-requires
 read-stmt-head-requires c κs = search needs

@@ -7,14 +7,6 @@ use Rattle.body.specs.Answer.{startOf}
 use borrow.Author.Needs.{needs}
 use Rattle.body.proofs.read_head.Statement.{statement}
 use Rattle.body.proofs.read_head.Tie as tie
-use Rattle.body.proofs.read_head.Reads as reads
-use Rattle.body.proofs.read_head.Lts as lts
-use Rattle.body.proofs.arg_limit.Reads as arg-limit-reads
-use Rattle.body.proofs.type_ok.Reads as type-ok-reads
-use Rattle.fields.proofs.field.Reads as field-reads
-use Rattle.fields.proofs.room.Reads as room-reads
-use Rattle.fields.proofs.two_at.Reads as two-at-reads
-use Rattle.fields.proofs.wide.Reads as wide-reads
 
 room-requires : tie.Need-room-requires
 room-requires c κs = search needs

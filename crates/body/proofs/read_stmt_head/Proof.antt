@@ -12,12 +12,6 @@ use Rattle.body.specs.Answer.{stmtStartOf}
 use borrow.Author.Needs.{needs}
 use Rattle.body.proofs.read_stmt_head.Statement.{statement}
 use Rattle.body.proofs.read_stmt_head.Tie as tie
-use Rattle.body.proofs.read_stmt_head.Reads as reads
-use Rattle.body.proofs.read_stmt_head.Lts as lts
-use Rattle.body.proofs.binds_ok.Reads as binds-ok-reads
-use Rattle.fields.proofs.peek.Reads as peek-reads
-use Rattle.fields.proofs.room.Reads as room-reads
-use Rattle.fields.proofs.wide.Reads as wide-reads
 
 peek-requires : tie.Need-peek-requires
 peek-requires c κs = search needs

@@ -8,11 +8,6 @@ use Rattle.body.proofs.BodyReading.{flag-small, flag-stop, values-stop,
 use borrow.Author.Needs.{needs}
 use Rattle.body.proofs.read_values.Statement.{statement}
 use Rattle.body.proofs.read_values.Tie as tie
-use Rattle.body.proofs.read_values.Reads as reads
-use Rattle.body.proofs.read_values.Lts as lts
-use Rattle.body.proofs.read_exprs.Reads as read-exprs-reads
-use Rattle.fields.proofs.field.Reads as field-reads
-use Rattle.fields.proofs.wide.Reads as wide-reads
 
 array-read-wide : tie.Need-array-read-wide
 array-read-wide c = search needs

@@ -6,11 +6,6 @@ use Rattle.body.specs.StmtNode.{stmtNodeOf}
 use borrow.Author.Needs.{needs}
 use Rattle.body.proofs.stmt_at.Statement.{statement}
 use Rattle.body.proofs.stmt_at.Tie as tie
-use Rattle.body.proofs.stmt_at.Reads as reads
-use Rattle.body.proofs.stmt_at.Lts as lts
-use Rattle.body.proofs.peek_four.Reads as peek-four-reads
-use Rattle.fields.proofs.peek.Reads as peek-reads
-use Rattle.fields.proofs.peek_two.Reads as peek-two-reads
 
 peek-requires : tie.Need-peek-requires
 peek-requires c κs = search needs

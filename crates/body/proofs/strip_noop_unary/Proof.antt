@@ -6,9 +6,6 @@ use mathlib.Core.Path.{refl}
 use Rattle.body.proofs.Walking.{Looks, no-unary, with-operator, again, unary}
 use Rattle.body.proofs.strip_noop_unary.Statement.{statement}
 use Rattle.body.proofs.strip_noop_unary.Tie as tie
-use Rattle.body.proofs.strip_noop_unary.Reads as reads
-use Rattle.body.proofs.strip_noop_unary.Lts as lts
-use Rattle.body.proofs.node_at.Reads as node-at-reads
 
 abbrev Inv-loop : tie.InvT-loop
 Inv-loop s at p₀ p = Looks s at p

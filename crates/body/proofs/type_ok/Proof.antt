@@ -1,8 +1,6 @@
 use borrow.Author.Tests.{lt-ltb, le-ltb, eq-eqb, ne-eqb}
 use Rattle.body.proofs.type_ok.Statement.{statement}
 use Rattle.body.proofs.type_ok.Tie as tie
-use Rattle.body.proofs.type_ok.Reads as reads
-use Rattle.body.proofs.type_ok.Lts as lts
 
 returns : tie.Need-returns
 returns c = simp (le-ltb _ _ (c .if1 .taken))

@@ -3,32 +3,22 @@ use Rattle.fields.proofs.Answers.{is-number, wrong-number}
 use borrow.Author.Needs.{needs}
 use Rattle.fields.proofs.field.Statement.{statement}
 use Rattle.fields.proofs.field.Tie as tie
-use Rattle.fields.proofs.field.Reads as reads
-use Rattle.fields.proofs.field.Lts as lts
-use Rattle.fields.proofs.number_in.Reads as number-in-reads
-use Rattle.fields.proofs.room.Reads as room-reads
 
--- src/lib.rt:87:8
 room-requires : tie.Need-room-requires
 room-requires c κs = search needs
 
--- src/lib.rt:88:9
 returns : tie.Need-returns
 returns c = wrong-number (field-short _ _ _ _ _ (c .before .room .ensures) (c .if1 .taken))
 
--- src/lib.rt:90:9
 number-in-requires : tie.Need-number-in-requires
 number-in-requires c κs = search needs
 
--- src/lib.rt:92:23
 add-t10 : tie.Need-add-t10
 add-t10 c = search needs
 
--- src/lib.rt:84:1
 returns-2 : tie.Need-returns-2
 returns-2 c = is-number (field-good _ _ _ _ _ (c .before .before .before .room .ensures) (c .before .before .if1 .left) (c .before .number-in .ensures) (c .if2 .taken))
 
--- src/lib.rt:84:1
 returns-3 : tie.Need-returns-3
 returns-3 c = wrong-number (field-large _ _ _ _ _ (c .before .before .before .room .ensures) (c .before .before .if1 .left) (c .before .number-in .ensures) (c .if2 .left))
 

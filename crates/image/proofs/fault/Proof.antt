@@ -1,25 +1,19 @@
 use Rattle.image.specs.Layout.{faultIn}
-use mathlib.Core.Path.{_≡_, sym, ap}
+use mathlib.Core.Path.{sym, ap}
 use borrow.Author.Needs.{needs}
 use Rattle.image.proofs.fault.Statement.{statement}
 use Rattle.image.proofs.fault.Tie as tie
-use Rattle.image.proofs.fault.Reads as reads
-use Rattle.image.proofs.fault.Lts as lts
 
--- src/lib.rt:124:34
 enum-told : tie.Need-enum-told
 enum-told c = search needs
 
--- src/lib.rt:125:29
 enum-known-n : tie.Need-enum-known-n
 enum-known-n c = search needs
 
--- src/lib.rt:120:1
 returns : tie.Need-returns
 unfolding faultIn
 returns c = sym (ap faultIn (c .enum-told .given .1))
 
--- src/lib.rt:120:1
 returns-2 : tie.Need-returns-2
 unfolding faultIn
 returns-2 c = sym (ap faultIn (c .before .n .given .1))

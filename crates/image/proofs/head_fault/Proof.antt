@@ -1,50 +1,34 @@
-use mathlib.Core.Path.{_≡_, refl, sym, ap, _∙_, subst}
-use native.Mathlib.Omega.{arith}
-use denote.Ref.{now}
-use Rattle.fields.proofs.Answers.{number-ok, number-wrong, read-ok, read-fault, table-ok, table-wrong}
 use borrow.Author.Tests.{eq-eqb, ne-eqb, le-leb, lt-leb}
 use Rattle.image.specs.Layout.{headFault}
 use borrow.Author.Needs.{needs}
 use Rattle.image.proofs.head_fault.Statement.{statement}
 use Rattle.image.proofs.head_fault.Tie as tie
-use Rattle.image.proofs.head_fault.Reads as reads
-use Rattle.image.proofs.head_fault.Lts as lts
-use Rattle.fields.proofs.four_at.Reads as four-at-reads
-use Rattle.fields.proofs.peek.Reads as peek-reads
 
--- src/lib.rt:47:9
 returns : tie.Need-returns
 unfolding headFault
 returns c = simp (lt-leb _ _ (c .if1 .taken))
 
--- src/lib.rt:50:9
 returns-2 : tie.Need-returns-2
 unfolding headFault
 returns-2 c = simp (le-leb _ _ (c .before .if1 .left), lt-leb _ _ (c .if2 .taken))
 
--- src/lib.rt:52:8
 four-at-requires : tie.Need-four-at-requires
 four-at-requires c κs = search needs
 
--- src/lib.rt:52:8
 add-if3 : tie.Need-add-if3
 add-if3 c = search needs
 
--- src/lib.rt:53:9
 returns-3 : tie.Need-returns-3
 unfolding headFault
 returns-3 c = simp (le-leb _ _ (c .before .before .before .if1 .left), le-leb _ _ (c .before .before .if2 .left), ← c .before .four-at .ensures .0, ne-eqb _ _ (c .if3 .taken))
 
--- src/lib.rt:55:8
 peek-requires : tie.Need-peek-requires
 peek-requires c κs = search needs
 
--- src/lib.rt:56:9
 returns-4 : tie.Need-returns-4
 unfolding headFault
 returns-4 c = simp (le-leb _ _ (c .before .before .before .before .before .if1 .left), le-leb _ _ (c .before .before .before .before .if2 .left), ← c .before .before .before .four-at .ensures .0, eq-eqb _ _ (c .before .before .if3 .left), ← c .before .peek .ensures .0, ne-eqb _ _ (c .if4 .taken))
 
--- src/lib.rt:43:1
 returns-5 : tie.Need-returns-5
 unfolding headFault
 returns-5 c = simp (le-leb _ _ (c .before .before .before .before .before .if1 .left), le-leb _ _ (c .before .before .before .before .if2 .left), ← c .before .before .before .four-at .ensures .0, eq-eqb _ _ (c .before .before .if3 .left), ← c .before .peek .ensures .0, eq-eqb _ _ (c .if4 .left))

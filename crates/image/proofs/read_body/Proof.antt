@@ -1,36 +1,24 @@
-use mathlib.Core.Path.{_≡_, refl, sym, ap, _∙_, subst}
-use native.Mathlib.Omega.{arith}
-use denote.Ref.{now}
-use Rattle.fields.proofs.Answers.{number-ok, number-wrong, read-ok, read-fault, table-ok, table-wrong}
+use Rattle.fields.proofs.Answers.{read-ok, read-fault}
 use Rattle.image.proofs.Whole.{body-stop, body-done, body-left}
 use borrow.Author.Needs.{needs}
 use Rattle.image.proofs.read_body.Statement.{statement}
 use Rattle.image.proofs.read_body.Tie as tie
-use Rattle.image.proofs.read_body.Reads as reads
-use Rattle.image.proofs.read_body.Lts as lts
-use Rattle.body.proofs.read_block.Reads as read-block-reads
 
--- src/lib.rt:65:11
 read-block-requires : tie.Need-read-block-requires
 read-block-requires c κs = search needs
 
--- src/lib.rt:66:29
 enum-known-f : tie.Need-enum-known-f
 enum-known-f c = search needs
 
--- src/lib.rt:67:28
 enum-known-p : tie.Need-enum-known-p
 enum-known-p c = search needs
 
--- src/lib.rt:62:1
 returns : tie.Need-returns
 returns c = body-stop _ _ _ (read-fault (c .before .before .before .read-block .ensures) (c .before .f .given .1))
 
--- src/lib.rt:62:1
 returns-2 : tie.Need-returns-2
 returns-2 c = body-done _ _ _ (read-ok (c .before .before .before .before .read-block .ensures) (c .before .before .p .given .1) .1) (c .if1 .taken)
 
--- src/lib.rt:62:1
 returns-3 : tie.Need-returns-3
 returns-3 c = body-left _ _ _ (read-ok (c .before .before .before .before .read-block .ensures) (c .before .before .p .given .1) .1) (c .if1 .left)
 

@@ -1,25 +1,19 @@
 use Rattle.image.specs.Layout.{wrongOf}
-use mathlib.Core.Path.{_≡_, sym, ap}
+use mathlib.Core.Path.{sym, ap}
 use borrow.Author.Needs.{needs}
 use Rattle.image.proofs.wrong.Statement.{statement}
 use Rattle.image.proofs.wrong.Tie as tie
-use Rattle.image.proofs.wrong.Reads as reads
-use Rattle.image.proofs.wrong.Lts as lts
 
--- src/lib.rt:115:37
 enum-told : tie.Need-enum-told
 enum-told c = search needs
 
--- src/lib.rt:116:31
 enum-known-n : tie.Need-enum-known-n
 enum-known-n c = search needs
 
--- src/lib.rt:111:1
 returns : tie.Need-returns
 unfolding wrongOf
 returns c = sym (ap wrongOf (c .enum-told .given .1))
 
--- src/lib.rt:111:1
 returns-2 : tie.Need-returns-2
 unfolding wrongOf
 returns-2 c = sym (ap wrongOf (c .before .n .given .1))

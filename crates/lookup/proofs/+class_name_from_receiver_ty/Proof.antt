@@ -42,48 +42,38 @@ class-name-from-receiver-ty-below t =
 abbrev class-name-from-receiver-ty-claims : ℕ → class-name-from-receiver-ty-lts.Claims
 class-name-from-receiver-ty-claims t = (peek-reads.Asked, peek-reads.Learnt, peek-two-reads.Asked, peek-two-reads.Learnt, class-name-from-receiver-ty-below t, class-name-from-receiver-ty.Post)
 
--- src/lib.rt:133:9
 class-name-from-receiver-ty-returns : (t : ℕ) → class-name-from-receiver-ty-lts.Need-returns (class-name-from-receiver-ty-claims t) (class-name-from-receiver-ty-at t) class-name-from-receiver-ty.Post
 class-name-from-receiver-ty-returns t c = let a = c .before .before .before .args in
     missing (past-class (now (a .s)) (now (a .types)) (a .ty) (c .if1 .taken))
 
--- src/lib.rt:135:14
 class-name-from-receiver-ty-mul-at : (t : ℕ) → class-name-from-receiver-ty-lts.Need-mul-at (class-name-from-receiver-ty-claims t) (class-name-from-receiver-ty-at t) class-name-from-receiver-ty.Post
 class-name-from-receiver-ty-mul-at t c = search needs
 
--- src/lib.rt:135:14
 class-name-from-receiver-ty-shared-slice-read-at : (t : ℕ) → class-name-from-receiver-ty-lts.Need-shared-slice-read-at (class-name-from-receiver-ty-claims t) (class-name-from-receiver-ty-at t) class-name-from-receiver-ty.Post
 class-name-from-receiver-ty-shared-slice-read-at t c = search needs
 
--- src/lib.rt:136:9
 class-name-from-receiver-ty-peek-requires : (t : ℕ) → class-name-from-receiver-ty-lts.Need-peek-requires (class-name-from-receiver-ty-claims t) (class-name-from-receiver-ty-at t) class-name-from-receiver-ty.Post
 class-name-from-receiver-ty-peek-requires t c κs = search needs
 
--- src/lib.rt:137:34
 class-name-from-receiver-ty-add-peek-two : (t : ℕ) → class-name-from-receiver-ty-lts.Need-add-peek-two (class-name-from-receiver-ty-claims t) (class-name-from-receiver-ty-at t) class-name-from-receiver-ty.Post
 class-name-from-receiver-ty-add-peek-two t c = let lt : _<_ (c .before .before .before .before .before .args .ty) (length (now (c .before .before .before .before .before .args .types))) = c .before .before .if1 .left in let h = c .before .before .before .before .before .pre .1 .0 _ lt in omega arith
 
--- src/lib.rt:137:9
 class-name-from-receiver-ty-peek-two-requires : (t : ℕ) → class-name-from-receiver-ty-lts.Need-peek-two-requires (class-name-from-receiver-ty-claims t) (class-name-from-receiver-ty-at t) class-name-from-receiver-ty.Post
 class-name-from-receiver-ty-peek-two-requires t c κs = let lt : _<_ (c .before .before .before .before .before .args .ty) (length (now (c .before .before .before .before .before .args .types))) = c .before .before .if1 .left in let h = c .before .before .before .before .before .pre .1 .0 _ lt in omega arith
 
--- src/lib.rt:139:9
 class-name-from-receiver-ty-class-name-from-receiver-ty-requires : (t : ℕ) → class-name-from-receiver-ty-lts.Need-class-name-from-receiver-ty-requires (class-name-from-receiver-ty-claims t) (class-name-from-receiver-ty-at t) class-name-from-receiver-ty.Post
 unfolding ofWidth
 class-name-from-receiver-ty-class-name-from-receiver-ty-requires t c κs = let a = c .before .before .before .before .before .before .before .args in
     let o = inner-lower (now (a .s)) (now (a .types)) (a .ty) (c .before .before .before .before .if1 .left) (c .before .before .peek .ensures .0) (c .before .peek-two .ensures .0) (c .before .before .before .before .before .before .before .pre .1 .1) 4 (omega arith) (c .if2 .taken) refl in (omega arith, c .before .before .before .before .before .before .before .pre .1)
 
--- src/lib.rt:139:9
 class-name-from-receiver-ty-returns-2 : (t : ℕ) → class-name-from-receiver-ty-lts.Need-returns-2 (class-name-from-receiver-ty-claims t) (class-name-from-receiver-ty-at t) class-name-from-receiver-ty.Post
 class-name-from-receiver-ty-returns-2 t c = let a = c .before .before .before .before .before .before .before .before .args in
     c .class-name-from-receiver-ty .ensures ∙ ap foundOf (sym (pointer-of (now (a .s)) (now (a .types)) (a .ty) (c .before .before .before .before .before .if1 .left) (c .before .before .before .peek .ensures .0) (c .before .before .peek-two .ensures .0) (c .before .before .before .before .before .before .before .before .pre .1 .1) (c .before .if2 .taken)))
 
--- src/lib.rt:142:9
 class-name-from-receiver-ty-returns-3 : (t : ℕ) → class-name-from-receiver-ty-lts.Need-returns-3 (class-name-from-receiver-ty-claims t) (class-name-from-receiver-ty-at t) class-name-from-receiver-ty.Post
 class-name-from-receiver-ty-returns-3 t c = let a = c .before .before .before .before .before .before .before .before .args in
     found (class-of (now (a .s)) (now (a .types)) (a .ty) (c .before .before .before .before .before .if1 .left) (c .before .before .before .peek .ensures .0) (c .before .before .peek-two .ensures .0) (c .if3 .taken))
 
--- src/lib.rt:128:1
 class-name-from-receiver-ty-returns-4 : (t : ℕ) → class-name-from-receiver-ty-lts.Need-returns-4 (class-name-from-receiver-ty-claims t) (class-name-from-receiver-ty-at t) class-name-from-receiver-ty.Post
 class-name-from-receiver-ty-returns-4 t c = let a = c .before .before .before .before .before .before .before .before .args in
     missing (no-class-of (now (a .s)) (now (a .types)) (a .ty) (c .before .before .before .before .before .if1 .left) (c .before .before .before .peek .ensures .0) (c .before .before .peek-two .ensures .0) (c .before .if2 .left) (c .if3 .left))

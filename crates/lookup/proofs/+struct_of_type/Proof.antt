@@ -44,69 +44,54 @@ struct-of-type-below t =
 abbrev struct-of-type-claims : ℕ → struct-of-type-lts.Claims
 struct-of-type-claims t = (peek-reads.Asked, peek-reads.Learnt, peek-two-reads.Asked, peek-two-reads.Learnt, struct-of-type-below t, struct-of-type.Post, struct-named-reads.Asked, struct-named-reads.Learnt, struct-of-generic-reads.Asked, struct-of-generic-reads.Learnt)
 
--- src/lib.rt:99:9
 struct-of-type-returns : (t : ℕ) → struct-of-type-lts.Need-returns (struct-of-type-claims t) (struct-of-type-at t) struct-of-type.Post
 struct-of-type-returns t c = let a = c .before .before .before .before .args in
     missing (past-struct (now (a .s)) (now (a .types)) (a .ty) _ (c .if1 .taken))
 
--- src/lib.rt:101:14
 struct-of-type-mul-at : (t : ℕ) → struct-of-type-lts.Need-mul-at (struct-of-type-claims t) (struct-of-type-at t) struct-of-type.Post
 struct-of-type-mul-at t c = search needs
 
--- src/lib.rt:101:14
 struct-of-type-shared-slice-read-at : (t : ℕ) → struct-of-type-lts.Need-shared-slice-read-at (struct-of-type-claims t) (struct-of-type-at t) struct-of-type.Post
 struct-of-type-shared-slice-read-at t c = search needs
 
--- src/lib.rt:102:9
 struct-of-type-peek-requires : (t : ℕ) → struct-of-type-lts.Need-peek-requires (struct-of-type-claims t) (struct-of-type-at t) struct-of-type.Post
 struct-of-type-peek-requires t c κs = search needs
 
--- src/lib.rt:103:34
 struct-of-type-add-peek-two : (t : ℕ) → struct-of-type-lts.Need-add-peek-two (struct-of-type-claims t) (struct-of-type-at t) struct-of-type.Post
 struct-of-type-add-peek-two t c = let lt : _<_ (c .before .before .before .before .before .before .args .ty) (length (now (c .before .before .before .before .before .before .args .types))) = c .before .before .if1 .left in let h = c .before .before .before .before .before .before .pre .1 .0 _ lt in omega arith
 
--- src/lib.rt:103:9
 struct-of-type-peek-two-requires : (t : ℕ) → struct-of-type-lts.Need-peek-two-requires (struct-of-type-claims t) (struct-of-type-at t) struct-of-type.Post
 struct-of-type-peek-two-requires t c κs = let lt : _<_ (c .before .before .before .before .before .before .args .ty) (length (now (c .before .before .before .before .before .before .args .types))) = c .before .before .if1 .left in let h = c .before .before .before .before .before .before .pre .1 .0 _ lt in omega arith
 
--- src/lib.rt:105:9
 struct-of-type-struct-of-type-requires : (t : ℕ) → struct-of-type-lts.Need-struct-of-type-requires (struct-of-type-claims t) (struct-of-type-at t) struct-of-type.Post
 unfolding ofWidth
 struct-of-type-struct-of-type-requires t c κs = let a = c .before .before .before .before .before .before .before .before .args in
     let o = inner-lower (now (a .s)) (now (a .types)) (a .ty) (c .before .before .before .before .if1 .left) (c .before .before .peek .ensures .0) (c .before .peek-two .ensures .0) (c .before .before .before .before .before .before .before .before .pre .1 .2) 3 (omega arith) (c .if2 .taken) refl in (omega arith, c .before .before .before .before .before .before .before .before .pre .1)
 
--- src/lib.rt:105:9
 struct-of-type-returns-2 : (t : ℕ) → struct-of-type-lts.Need-returns-2 (struct-of-type-claims t) (struct-of-type-at t) struct-of-type.Post
 struct-of-type-returns-2 t c = let a = c .before .before .before .before .before .before .before .before .before .args in
     c .struct-of-type .ensures ∙ ap foundOf (sym (array-of (now (a .s)) (now (a .types)) (a .ty) (c .before .before .before .before .before .if1 .left) (c .before .before .before .peek .ensures .0) (c .before .before .peek-two .ensures .0) (c .before .before .before .before .before .before .before .before .before .pre .1 .2) _ (c .before .if2 .taken)))
 
--- src/lib.rt:108:9
 struct-of-type-struct-named-requires : (t : ℕ) → struct-of-type-lts.Need-struct-named-requires (struct-of-type-claims t) (struct-of-type-at t) struct-of-type.Post
 struct-of-type-struct-named-requires t c κs = c .before .before .before .before .before .before .before .before .before .pre .1 .1
 
--- src/lib.rt:108:9
 struct-of-type-returns-3 : (t : ℕ) → struct-of-type-lts.Need-returns-3 (struct-of-type-claims t) (struct-of-type-at t) struct-of-type.Post
 struct-of-type-returns-3 t c = let a = c .before .before .before .before .before .before .before .before .before .before .args in
     c .struct-named .ensures ∙ ap foundOf (sym (named-of (now (a .s)) (now (a .types)) (a .ty) (c .before .before .before .before .before .before .if1 .left) (c .before .before .before .before .peek .ensures .0) (c .before .before .before .peek-two .ensures .0) _ (c .before .if3 .taken)))
 
--- src/lib.rt:111:70
 struct-of-type-add-peek-two-2 : (t : ℕ) → struct-of-type-lts.Need-add-peek-two-2 (struct-of-type-claims t) (struct-of-type-at t) struct-of-type.Post
 struct-of-type-add-peek-two-2 t c = let lt : _<_ (c .before .before .before .before .before .before .before .before .before .before .args .ty) (length (now (c .before .before .before .before .before .before .before .before .before .before .args .types))) = c .before .before .before .before .before .before .if1 .left in let h = c .before .before .before .before .before .before .before .before .before .before .pre .1 .0 _ lt in omega arith
 
--- src/lib.rt:111:50
 struct-of-type-peek-two-requires-2 : (t : ℕ) → struct-of-type-lts.Need-peek-two-requires-2 (struct-of-type-claims t) (struct-of-type-at t) struct-of-type.Post
 struct-of-type-peek-two-requires-2 t c κs = let lt : _<_ (c .before .before .before .before .before .before .before .before .before .before .args .ty) (length (now (c .before .before .before .before .before .before .before .before .before .before .args .types))) = c .before .before .before .before .before .before .if1 .left in let h = c .before .before .before .before .before .before .before .before .before .before .pre .1 .0 _ lt in omega arith
 
--- src/lib.rt:111:9
 struct-of-type-struct-of-generic-requires : (t : ℕ) → struct-of-type-lts.Need-struct-of-generic-requires (struct-of-type-claims t) (struct-of-type-at t) struct-of-type.Post
 struct-of-type-struct-of-generic-requires t c κs = c .before .before .before .before .before .before .before .before .before .before .before .pre .1 .1
 
--- src/lib.rt:111:9
 struct-of-type-returns-4 : (t : ℕ) → struct-of-type-lts.Need-returns-4 (struct-of-type-claims t) (struct-of-type-at t) struct-of-type.Post
 struct-of-type-returns-4 t c = let a = c .before .before .before .before .before .before .before .before .before .before .before .before .args in
     c .struct-of-generic .ensures ∙ ap foundOf (sym (generic-of (now (a .s)) (now (a .types)) (a .ty) (c .before .before .before .before .before .before .before .before .if1 .left) (c .before .before .before .before .before .before .peek .ensures .0) (c .before .before .before .before .before .peek-two .ensures .0) _ (c .before .before .if4 .taken) (c .before .peek-two2 .ensures .0)))
 
--- src/lib.rt:94:1
 struct-of-type-returns-5 : (t : ℕ) → struct-of-type-lts.Need-returns-5 (struct-of-type-claims t) (struct-of-type-at t) struct-of-type.Post
 struct-of-type-returns-5 t c = let a = c .before .before .before .before .before .before .before .before .before .before .args in
     missing (other-of (now (a .s)) (now (a .types)) (a .ty) (c .before .before .before .before .before .before .if1 .left) (c .before .before .before .before .peek .ensures .0) (c .before .before .before .peek-two .ensures .0) _ (c .before .before .if2 .left) (c .before .if3 .left) (c .if4 .left))

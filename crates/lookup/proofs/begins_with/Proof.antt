@@ -10,10 +10,6 @@ use Rattle.lookup.proofs.First.{rest-starts, no-starts}
 use Rattle.lookup.proofs.Name.{rest-bytes, starts-differ, starts-next, starts-none, name-short, name-start}
 use Rattle.lookup.proofs.begins_with.Statement.{statement}
 use Rattle.lookup.proofs.begins_with.Tie as tie
-use Rattle.lookup.proofs.begins_with.Reads as reads
-use Rattle.lookup.proofs.begins_with.Lts as lts
-use Rattle.fields.proofs.peek.Reads as peek-reads
-use Rattle.fields.proofs.wide.Reads as wide-reads
 
 abbrev Inv-loop : tie.InvT-loop
 Inv-loop s at word i₀ i = (i ≤ length word) × (startsWith word (nameOf s at) ≡ startsWith (drop i word) (bytesAt s (at + 1 + i) (getD s at 0 - i)))
@@ -21,56 +17,43 @@ Inv-loop s at word i₀ i = (i ≤ length word) × (startsWith word (nameOf s at
 abbrev μ-loop : tie.MeasureT-loop
 μ-loop s at word i₀ i = length word - i
 
--- src/lib.rt:186:8
 peek-requires : tie.Need-peek-requires Inv-loop μ-loop
 peek-requires c κs = search needs
 
--- src/lib.rt:187:9
 returns : tie.Need-returns Inv-loop μ-loop
 returns c = name-short _ _ _ (c .before .peek .ensures .0) (c .if1 .taken)
 
--- src/lib.rt:190:5
 loop-holds : tie.Need-loop-holds Inv-loop μ-loop
 loop-holds c = let a = c .before .before .before .before .args in
     (omega arith, name-start (now (a .s)) (now (a .word)) (a .at) refl)
 
--- src/lib.rt:191:28
 add-peek : tie.Need-add-peek Inv-loop μ-loop
 add-peek c = let h = c .before .before .before .peek .ensures .1 in omega arith
 
--- src/lib.rt:191:28
 add-peek-2 : tie.Need-add-peek-2 Inv-loop μ-loop
 add-peek-2 c = let h = c .before .before .before .peek .ensures .1 in omega arith
 
--- src/lib.rt:191:12
 peek-requires-2 : tie.Need-peek-requires-2 Inv-loop μ-loop
 peek-requires-2 c κs = search needs
 
--- src/lib.rt:191:56
 shared-slice-read-wide : tie.Need-shared-slice-read-wide Inv-loop μ-loop
 shared-slice-read-wide c = search needs
 
--- src/lib.rt:191:43
 wide-requires : tie.Need-wide-requires Inv-loop μ-loop
 wide-requires c κs = search needs
 
--- src/lib.rt:192:13
 returns-2 : tie.Need-returns-2 Inv-loop μ-loop
 returns-2 c = sym (c .before .before .before .before .before .loop .inv .1 ∙ starts-differ (rest-starts _ (c .before .before .before .before .before .loop .i) (c .before .before .before .before .loop-test .taken)) (rest-bytes _ _ _ (c .before .before .before .before .before .loop .i) (let h = c .before .before .before .before .before .before .before .peek .ensures .0 in omega arith)) (λ e. c .if2 .taken (c .before .before .before .peek2 .ensures .0 ∙ sym e ∙ sym (c .before .wide .ensures .0))))
 
--- src/lib.rt:194:9
 add-i : tie.Need-add-i Inv-loop μ-loop
 add-i c = omega arith
 
--- src/lib.rt:190:5
 loop-less : tie.Need-loop-less Inv-loop μ-loop
 loop-less c = omega arith
 
--- src/lib.rt:190:5
 loop-again : tie.Need-loop-again Inv-loop μ-loop
 loop-again c = (omega arith, c .before .before .before .before .before .loop .inv .1 ∙ starts-next (rest-starts _ (c .before .before .before .before .before .loop .i) (c .before .before .before .before .loop-test .taken)) (rest-bytes _ _ _ (c .before .before .before .before .before .loop .i) (let h = c .before .before .before .before .before .before .before .peek .ensures .0 in omega arith)) (sym (c .before .wide .ensures .0) ∙ sym (c .if2 .left) ∙ c .before .before .before .peek2 .ensures .0))
 
--- src/lib.rt:182:1
 returns-3 : tie.Need-returns-3 Inv-loop μ-loop
 returns-3 c = sym (c .before .loop .inv .1 ∙ starts-none _ (no-starts _ _ (c .before .loop .inv .0) (c .loop-test .left)))
 

@@ -8,9 +8,6 @@ use Rattle.lookup.specs.First.{firstFrom, isNumber, positions}
 use Rattle.lookup.proofs.First.{found, missing, first-none, first-here, first-next, rest-entries, no-entries, step}
 use Rattle.lookup.proofs.first_spaced.Statement.{statement}
 use Rattle.lookup.proofs.first_spaced.Tie as tie
-use Rattle.lookup.proofs.first_spaced.Reads as reads
-use Rattle.lookup.proofs.first_spaced.Lts as lts
-use Rattle.lookup.proofs.is_number.Reads as is-number-reads
 
 abbrev Inv-loop : tie.InvT-loop
 Inv-loop s stride n first x i₀ p₀ i p = (i ≤ n) × (p + stride * (n - i) ≡ first + stride * n) × (firstFrom (isNumber s x) 0 (positions stride n first) ≡ firstFrom (isNumber s x) i (positions stride (n - i) p))
@@ -18,37 +15,29 @@ Inv-loop s stride n first x i₀ p₀ i p = (i ≤ n) × (p + stride * (n - i) �
 abbrev μ-loop : tie.MeasureT-loop
 μ-loop s stride n first x i₀ p₀ i p = n - i
 
--- src/lib.rt:52:5
 loop-holds : tie.Need-loop-holds Inv-loop μ-loop
 loop-holds c = let e : c .before .args .n ≡ c .before .args .n - 0 = omega arith in
     (omega arith, ap (λ k. c .before .args .first + c .before .args .stride * k) (sym e), ap (λ k. firstFrom (isNumber (now (c .before .args .s)) (c .before .args .x)) 0 (positions (c .before .args .stride) k (c .before .args .first))) e)
 
--- src/lib.rt:53:12
 is-number-requires : tie.Need-is-number-requires Inv-loop μ-loop
 is-number-requires c κs = let h = c .before .loop .inv .1 in omega arith
 
--- src/lib.rt:54:13
 returns : tie.Need-returns Inv-loop μ-loop
 returns c = found (c .before .before .before .loop .inv .2 ∙ first-here _ _ (rest-entries _ _ _ _ _ (c .before .before .loop-test .taken)) (sym (c .before .is-number .ensures) ∙ c .if1 .taken))
 
--- src/lib.rt:56:9
 add-p : tie.Need-add-p Inv-loop μ-loop
 add-p c = let h = c .before .before .before .loop .inv .1 in let g = step (c .before .before .before .before .before .args .stride) (c .before .before .before .before .before .args .n) (c .before .before .before .loop .i) (c .before .before .loop-test .taken) in omega arith
 
--- src/lib.rt:57:9
 add-i : tie.Need-add-i Inv-loop μ-loop
 add-i c = omega arith
 
--- src/lib.rt:52:5
 loop-less : tie.Need-loop-less Inv-loop μ-loop
 loop-less c = omega arith
 
--- src/lib.rt:52:5
 loop-again : tie.Need-loop-again Inv-loop μ-loop
 loop-again c = let h = c .before .before .before .loop .inv .1 in let g = step (c .before .before .before .before .before .args .stride) (c .before .before .before .before .before .args .n) (c .before .before .before .loop .i) (c .before .before .loop-test .taken) in
     (omega arith, omega arith, c .before .before .before .loop .inv .2 ∙ first-next _ _ (rest-entries _ _ _ _ _ (c .before .before .loop-test .taken)) (sym (c .before .is-number .ensures) ∙ c .if1 .left))
 
--- src/lib.rt:46:1
 returns-2 : tie.Need-returns-2 Inv-loop μ-loop
 returns-2 c = missing (c .before .loop .inv .2 ∙ first-none _ _ (no-entries _ _ _ _ _ (c .loop-test .left)))
 

@@ -7,44 +7,31 @@ use Rattle.lookup.proofs.Signature.{span-found, span-missing, found-bel
 use borrow.Author.Needs.{needs}
 use Rattle.lookup.proofs.global_span.Statement.{statement}
 use Rattle.lookup.proofs.global_span.Tie as tie
-use Rattle.lookup.proofs.global_span.Reads as reads
-use Rattle.lookup.proofs.global_span.Lts as lts
-use Rattle.fields.proofs.four_at.Reads as four-at-reads
-use Rattle.lookup.proofs.first_spaced.Reads as first-spaced-reads
 
--- src/lib.rt:175:11
 first-spaced-requires : tie.Need-first-spaced-requires
 first-spaced-requires c κs = search needs
 
--- src/lib.rt:176:19
 enum-known-i : tie.Need-enum-known-i
 enum-known-i c = search needs
 
--- src/lib.rt:176:62
 mul-four-at : tie.Need-mul-four-at
 mul-four-at c = let lt : _<_ (c .before .i .given .0 .0) (c .before .before .before .before .before .args .count) = found-below (now (c .before .before .before .before .before .args .s)) _ _ _ _ (was-found (c .before .before .before .first-spaced .ensures) (c .before .i .given .1)) in omega arith
 
--- src/lib.rt:176:54
 add-four-at : tie.Need-add-four-at
 add-four-at c = let lt : _<_ (c .before .i .given .0 .0) (c .before .before .before .before .before .args .count) = found-below (now (c .before .before .before .before .before .args .s)) _ _ _ _ (was-found (c .before .before .before .first-spaced .ensures) (c .before .i .given .1)) in omega arith
 
--- src/lib.rt:176:54
 add-four-at-2 : tie.Need-add-four-at-2
 add-four-at-2 c = let lt : _<_ (c .before .i .given .0 .0) (c .before .before .before .before .before .args .count) = found-below (now (c .before .before .before .before .before .args .s)) _ _ _ _ (was-found (c .before .before .before .first-spaced .ensures) (c .before .i .given .1)) in omega arith
 
--- src/lib.rt:176:35
 four-at-requires : tie.Need-four-at-requires
 four-at-requires c κs = let lt : _<_ (c .before .i .given .0 .0) (c .before .before .before .before .before .args .count) = found-below (now (c .before .before .before .before .before .args .s)) _ _ _ _ (was-found (c .before .before .before .first-spaced .ensures) (c .before .i .given .1)) in omega arith
 
--- src/lib.rt:177:27
 enum-told : tie.Need-enum-told
 enum-told c = search needs
 
--- src/lib.rt:171:1
 returns : tie.Need-returns
 returns c = found (span-found (now (c .before .before .before .before .before .before .args .s)) _ _ _ (was-found (c .before .before .before .before .first-spaced .ensures) (c .before .before .i .given .1)) (c .four-at .ensures .0))
 
--- src/lib.rt:171:1
 returns-2 : tie.Need-returns-2
 returns-2 c = missing (span-missing (now (c .before .before .before .before .args .s)) _ _ _ (was-missing (c .before .before .first-spaced .ensures) (c .enum-told .given .1)))
 

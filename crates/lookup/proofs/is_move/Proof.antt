@@ -8,34 +8,23 @@ use Rattle.lookup.proofs.Name.{name-is, name-not}
 use borrow.Author.Needs.{needs}
 use Rattle.lookup.proofs.is_move.Statement.{statement}
 use Rattle.lookup.proofs.is_move.Tie as tie
-use Rattle.lookup.proofs.is_move.Reads as reads
-use Rattle.lookup.proofs.is_move.Lts as lts
-use Rattle.fields.proofs.peek.Reads as peek-reads
-use Rattle.lookup.proofs.begins_with.Reads as begins-with-reads
-use Rattle.lookup.proofs.start_of.Reads as start-of-reads
 
--- src/lib.rt:219:9
 start-of-requires : tie.Need-start-of-requires
 start-of-requires c κs = search needs
 
--- src/lib.rt:220:8
 peek-requires : tie.Need-peek-requires
 peek-requires c κs = search needs
 
--- src/lib.rt:221:28
 slice-aggregate-begins-with : tie.Need-slice-aggregate-begins-with
 slice-aggregate-begins-with c = search needs
 
--- src/lib.rt:221:9
 begins-with-requires : tie.Need-begins-with-requires
 begins-with-requires c κs = let a = c .before .before .before .before .before .before .args in
     within (now (a .s)) (now (a .names)) (c .before .before .before .before .before .before .pre) (a .n) (c .before .before .before .start-of .ensures)
 
--- src/lib.rt:215:1
 returns : tie.Need-returns
 returns c = c .begins-with .ensures ∙ name-is _ moveName _ (c .before .before .before .peek .ensures .0) (c .before .before .if1 .taken) ∙ ap (λ p. isMove (nameOf (now (c .before .before .before .before .before .before .before .args .s)) p)) (c .before .before .before .before .start-of .ensures)
 
--- src/lib.rt:215:1
 returns-2 : tie.Need-returns-2
 returns-2 c = name-not _ moveName _ (c .before .peek .ensures .0) (c .if1 .left) ∙ ap (λ p. isMove (nameOf (now (c .before .before .before .before .before .args .s)) p)) (c .before .before .start-of .ensures)
 

@@ -12,62 +12,44 @@ use Rattle.lookup.proofs.Signature.{modifier-found, modifier-missing, f
 use borrow.Author.Needs.{needs}
 use Rattle.lookup.proofs.modifier_in.Statement.{statement}
 use Rattle.lookup.proofs.modifier_in.Tie as tie
-use Rattle.lookup.proofs.modifier_in.Reads as reads
-use Rattle.lookup.proofs.modifier_in.Lts as lts
-use Rattle.fields.proofs.peek.Reads as peek-reads
-use Rattle.fields.proofs.peek_two.Reads as peek-two-reads
-use Rattle.lookup.proofs.first_spaced.Reads as first-spaced-reads
 
--- src/lib.rt:150:50
 add-peek-two : tie.Need-add-peek-two
 add-peek-two c = search needs
 
--- src/lib.rt:150:30
 peek-two-requires : tie.Need-peek-two-requires
 peek-two-requires c κs = search needs
 
--- src/lib.rt:150:59
 add-first-spaced : tie.Need-add-first-spaced
 add-first-spaced c = search needs
 
--- src/lib.rt:150:11
 first-spaced-requires : tie.Need-first-spaced-requires
 first-spaced-requires c κs = let n = c .peek-two .ensures .1 in omega arith
 
--- src/lib.rt:151:19
 enum-known-i : tie.Need-enum-known-i
 enum-known-i c = search needs
 
--- src/lib.rt:151:51
 add-peek : tie.Need-add-peek
 add-peek c = let lt : _<_ (c .before .i .given .0 .0) (c .before .before .before .before .peek-two .result) = found-below (now (c .before .before .before .before .before .before .args .s)) _ _ _ _ (was-found (c .before .before .before .first-spaced .ensures) (c .before .i .given .1)) in let n = c .before .before .before .before .peek-two .ensures .1 in omega arith
 
--- src/lib.rt:151:60
 mul-peek : tie.Need-mul-peek
 mul-peek c = let lt : _<_ (c .before .i .given .0 .0) (c .before .before .before .before .peek-two .result) = found-below (now (c .before .before .before .before .before .before .args .s)) _ _ _ _ (was-found (c .before .before .before .first-spaced .ensures) (c .before .i .given .1)) in let n = c .before .before .before .before .peek-two .ensures .1 in omega arith
 
--- src/lib.rt:151:51
 add-peek-2 : tie.Need-add-peek-2
 add-peek-2 c = let lt : _<_ (c .before .i .given .0 .0) (c .before .before .before .before .peek-two .result) = found-below (now (c .before .before .before .before .before .before .args .s)) _ _ _ _ (was-found (c .before .before .before .first-spaced .ensures) (c .before .i .given .1)) in let n = c .before .before .before .before .peek-two .ensures .1 in omega arith
 
--- src/lib.rt:151:51
 add-peek-3 : tie.Need-add-peek-3
 add-peek-3 c = let lt : _<_ (c .before .i .given .0 .0) (c .before .before .before .before .peek-two .result) = found-below (now (c .before .before .before .before .before .before .args .s)) _ _ _ _ (was-found (c .before .before .before .first-spaced .ensures) (c .before .i .given .1)) in let n = c .before .before .before .before .peek-two .ensures .1 in omega arith
 
--- src/lib.rt:151:35
 peek-requires : tie.Need-peek-requires
 peek-requires c κs = search needs
 
--- src/lib.rt:152:27
 enum-told : tie.Need-enum-told
 enum-told c = search needs
 
--- src/lib.rt:146:1
 returns : tie.Need-returns
 returns c = found (modifier-found (now (c .before .before .before .before .before .before .before .args .s)) _ _ _ (was-found (c .before .before .before .before .first-spaced .ensures) (c .before .before .i .given .1)) (c .peek .ensures .0))
     ∙ ap (λ n. foundOf (modifierIn (entries (methodIn (now (c .before .before .before .before .before .before .before .args .s))) 3 n (c .before .before .before .before .before .before .before .args .at + 7)) (c .before .before .before .before .before .before .before .args .name))) (c .before .before .before .before .before .peek-two .ensures .0)
 
--- src/lib.rt:146:1
 returns-2 : tie.Need-returns-2
 returns-2 c = missing (modifier-missing (now (c .before .before .before .before .before .args .s)) _ _ _ (was-missing (c .before .before .first-spaced .ensures) (c .enum-told .given .1)))
     ∙ ap (λ n. foundOf (modifierIn (entries (methodIn (now (c .before .before .before .before .before .args .s))) 3 n (c .before .before .before .before .before .args .at + 7)) (c .before .before .before .before .before .args .name))) (c .before .before .before .peek-two .ensures .0)

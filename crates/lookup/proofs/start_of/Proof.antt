@@ -5,22 +5,16 @@ use denote.Ref.{now}
 use borrow.Author.Needs.{needs}
 use Rattle.lookup.proofs.start_of.Statement.{statement}
 use Rattle.lookup.proofs.start_of.Tie as tie
-use Rattle.lookup.proofs.start_of.Reads as reads
-use Rattle.lookup.proofs.start_of.Lts as lts
 
--- src/lib.rt:203:27
 mul-result : tie.Need-mul-result
 mul-result c = search needs
 
--- src/lib.rt:203:27
 shared-slice-read-result : tie.Need-shared-slice-read-result
 shared-slice-read-result c = search needs
 
--- src/lib.rt:200:1
 returns : tie.Need-returns
 returns c = search needs
 
--- src/lib.rt:200:1
 returns-2 : tie.Need-returns-2
 returns-2 c = sym (past-end (now (c .before .args .starts)) (c .before .args .i) (c .if1 .left))
 

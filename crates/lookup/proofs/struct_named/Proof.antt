@@ -6,15 +6,10 @@ use Rattle.lookup.proofs.Ty.{by-name}
 use borrow.Author.Needs.{needs}
 use Rattle.lookup.proofs.struct_named.Statement.{statement}
 use Rattle.lookup.proofs.struct_named.Tie as tie
-use Rattle.lookup.proofs.struct_named.Reads as reads
-use Rattle.lookup.proofs.struct_named.Lts as lts
-use Rattle.lookup.proofs.first_at.Reads as first-at-reads
 
--- src/lib.rt:67:5
 first-at-requires : tie.Need-first-at-requires
 first-at-requires c κs = search needs
 
--- src/lib.rt:63:1
 returns : tie.Need-returns
 returns c = let a = c .before .before .before .args in
     c .first-at .ensures ∙ ap foundOf (sym (by-name (now (a .s)) (now (a .structs)) (a .name)))

@@ -6,32 +6,22 @@ use Rattle.lookup.proofs.Ty.{generic-named, generic-shaped}
 use borrow.Author.Needs.{needs}
 use Rattle.lookup.proofs.struct_of_generic.Statement.{statement}
 use Rattle.lookup.proofs.struct_of_generic.Tie as tie
-use Rattle.lookup.proofs.struct_of_generic.Reads as reads
-use Rattle.lookup.proofs.struct_of_generic.Lts as lts
-use Rattle.lookup.proofs.struct_named.Reads as struct-named-reads
-use Rattle.lookup.proofs.struct_shaped.Reads as struct-shaped-reads
 
--- src/lib.rt:87:11
 struct-named-requires : tie.Need-struct-named-requires
 struct-named-requires c κs = search needs
 
--- src/lib.rt:88:19
 enum-known-i : tie.Need-enum-known-i
 enum-known-i c = search needs
 
--- src/lib.rt:89:27
 enum-told : tie.Need-enum-told
 enum-told c = search needs
 
--- src/lib.rt:89:27
 struct-shaped-requires : tie.Need-struct-shaped-requires
 struct-shaped-requires c κs = search needs
 
--- src/lib.rt:83:1
 returns : tie.Need-returns
 returns c = found (generic-named _ _ _ (was-found (c .before .before .before .struct-named .ensures) (c .before .i .given .1)))
 
--- src/lib.rt:83:1
 returns-2 : tie.Need-returns-2
 returns-2 c = c .struct-shaped .ensures ∙ ap foundOf (sym (generic-shaped _ _ _ (was-missing (c .before .before .before .struct-named .ensures) (c .before .enum-told .given .1))))
 

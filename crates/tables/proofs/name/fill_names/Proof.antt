@@ -1,10 +1,9 @@
-use Prim.Native.Nat.{ℕ, zero, suc, _+_, _-_, _*_, _≤_, _<_}
-use mathlib.Core.Path.{_≡_, refl, sym, ap, _∙_, subst}
+use Prim.Native.Nat.{ℕ, _-_}
+use mathlib.Core.Path.{_≡_, refl, sym, ap, _∙_}
 use native.Mathlib.Omega.{arith}
 use borrow.Author.Needs.{needs}
-use lib.ListN.{length, getD, take, length-set}
+use lib.ListN.{length, length-set}
 use denote.Ref.{now}
-use mathlib.Core.Bool.{true, false}
 use mathlib.Core.List.{List}
 use Rattle.tables.specs.Limits.{version1}
 use Rattle.tables.specs.Name.{nameAt, nameOf, sameBytes}
@@ -13,10 +12,6 @@ use Rattle.tables.proofs.Placing.{Placing, placing-start, placing-stop,
 use Rattle.tables.proofs.Names.{name-none, name-stands, name-new, name-twice}
 use Rattle.tables.proofs.name.fill_names.Statement.{statement}
 use Rattle.tables.proofs.name.fill_names.Tie as tie
-use Rattle.tables.proofs.name.fill_names.Reads as reads
-use Rattle.tables.proofs.name.fill_names.Lts as lts
-use Rattle.tables.proofs.name.name_length.Reads as name-length-reads
-use Rattle.tables.proofs.name.repeated_name.Reads as repeated-name-reads
 
 abbrev Inv-loop : tie.InvT-loop
 Inv-loop s starts₀ n at i₀ p₀ starts i p = ((ns : List (List ℕ)) × Placing (nameAt version1 s) (nameOf s) s n at starts i p ns) × (length starts ≡ length starts₀)
@@ -24,68 +19,52 @@ Inv-loop s starts₀ n at i₀ p₀ starts i p = ((ns : List (List ℕ)) × Plac
 abbrev μ-loop : tie.MeasureT-loop
 μ-loop s starts₀ n at i₀ p₀ starts i p = n - i
 
--- src/name.rt:98:5
 loop-holds : tie.Need-loop-holds Inv-loop μ-loop
 loop-holds c = ((_, placing-start _ _ _ _ _ _ (c .before .before .pre)), refl)
 
--- src/name.rt:99:13
 name-length-requires : tie.Need-name-length-requires Inv-loop μ-loop
 name-length-requires c κs = search needs
 
--- src/name.rt:101:13
 same-length : tie.Need-same-length Inv-loop μ-loop
 same-length c = c .before .before .before .loop .inv .1
 
--- src/name.rt:101:13
 returns : tie.Need-returns Inv-loop μ-loop
 returns c = placing-stop _ _ _ (c .before .before .before .loop .inv .0 .1) (c .before .before .loop-test .taken) (name-none _ _ _ (c .before .name-length .ensures) (c .if1 .taken))
 
--- src/name.rt:103:12
 repeated-name-requires : tie.Need-repeated-name-requires Inv-loop μ-loop
 repeated-name-requires c κs = let v = c .before .before .before .before .loop .inv .0 .1 in let h = v .high in let g = name-stands (now (c .before .before .before .before .before .before .before .args .s)) (c .before .before .before .before .loop .inv .0 .0) (c .before .before .before .before .loop .p) (c .before .before .name-length .ensures) (c .before .if1 .left) in (omega arith, g .inside, v .within)
 
--- src/name.rt:104:13
 same-length-2 : tie.Need-same-length-2 Inv-loop μ-loop
 same-length-2 c = c .before .before .before .before .before .before .loop .inv .1
 
--- src/name.rt:104:13
 returns-2 : tie.Need-returns-2 Inv-loop μ-loop
 returns-2 c = placing-stop _ _ _ (c .before .before .before .before .before .before .loop .inv .0 .1) (c .before .before .before .before .before .loop-test .taken) (name-twice _ _ _ (c .before .before .before .before .name-length .ensures) (c .before .before .before .if1 .left) (ap (λ x. member sameBytes x (nameOf (now (c .before .before .before .before .before .before .before .before .before .args .s)) (c .before .before .before .before .before .before .loop .p))) (sym (c .before .before .before .before .before .before .loop .inv .0 .1 .placed)) ∙ sym (c .before .repeated-name .ensures) ∙ c .if2 .taken))
 
--- src/name.rt:106:9
 mul-starts : tie.Need-mul-starts Inv-loop μ-loop
 mul-starts c = search needs
 
--- src/name.rt:106:9
 slice-write-starts : tie.Need-slice-write-starts Inv-loop μ-loop
 slice-write-starts c = let h = c .before .before .before .before .before .before .loop .inv .0 .1 .high in omega arith
 
--- src/name.rt:107:14
 add-p : tie.Need-add-p Inv-loop μ-loop
 add-p c = let g = name-stands (now (c .before .before .before .before .before .before .before .before .before .args .s)) (c .before .before .before .before .before .before .loop .inv .0 .0) (c .before .before .before .before .before .before .loop .p) (c .before .before .before .before .name-length .ensures) (c .before .before .before .if1 .left) in let e = g .end in omega arith
 
--- src/name.rt:107:9
 add-p-2 : tie.Need-add-p-2 Inv-loop μ-loop
 add-p-2 c = let g = name-stands (now (c .before .before .before .before .before .before .before .before .before .args .s)) (c .before .before .before .before .before .before .loop .inv .0 .0) (c .before .before .before .before .before .before .loop .p) (c .before .before .before .before .name-length .ensures) (c .before .before .before .if1 .left) in let e = g .end in omega arith
 
--- src/name.rt:108:9
 add-i : tie.Need-add-i Inv-loop μ-loop
 add-i c = search needs
 
--- src/name.rt:98:5
 loop-less : tie.Need-loop-less Inv-loop μ-loop
 loop-less c = search needs
 
--- src/name.rt:98:5
 loop-again : tie.Need-loop-again Inv-loop μ-loop
 loop-again c = let g = name-stands (now (c .before .before .before .before .before .before .before .before .before .args .s)) (c .before .before .before .before .before .before .loop .inv .0 .0) (c .before .before .before .before .before .before .loop .p) (c .before .before .before .before .name-length .ensures) (c .before .before .before .if1 .left) in
     ((_, placing-next _ _ _ (c .before .before .before .before .before .before .loop .inv .0 .1) (c .before .before .before .before .before .loop-test .taken) (g .inside) (name-new _ _ _ (c .before .before .before .before .name-length .ensures) (c .before .before .before .if1 .left) (ap (λ x. member sameBytes x (nameOf (now (c .before .before .before .before .before .before .before .before .before .args .s)) (c .before .before .before .before .before .before .loop .p))) (sym (c .before .before .before .before .before .before .loop .inv .0 .1 .placed)) ∙ sym (c .before .repeated-name .ensures) ∙ c .if2 .left)) refl), simp length-set (c .before .before .before .before .before .before .loop .inv .1))
 
--- src/name.rt:90:1
 same-length-3 : tie.Need-same-length-3 Inv-loop μ-loop
 same-length-3 c = c .before .loop .inv .1
 
--- src/name.rt:90:1
 returns-3 : tie.Need-returns-3 Inv-loop μ-loop
 returns-3 c = placing-done _ _ _ (c .before .loop .inv .0 .1) (c .loop-test .left)
 

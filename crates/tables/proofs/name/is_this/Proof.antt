@@ -1,70 +1,50 @@
-use Prim.Native.Nat.{ℕ, zero, suc, _+_, _-_, _*_, _≤_, _<_}
-use mathlib.Core.Path.{_≡_, refl, sym, ap, _∙_, subst}
-use native.Mathlib.Omega.{arith}
-use lib.ListN.{length, getD, take, length-set}
-use denote.Ref.{now}
+use Prim.Native.Nat.{_-_}
+use mathlib.Core.Path.{sym, _∙_}
 use borrow.Author.Tests.{eq-eqb, ne-eqb}
 use Rattle.tables.proofs.Names.{this-is, this-last, not-this}
 use borrow.Author.Needs.{needs}
 use Rattle.tables.proofs.name.is_this.Statement.{statement}
 use Rattle.tables.proofs.name.is_this.Tie as tie
-use Rattle.tables.proofs.name.is_this.Reads as reads
-use Rattle.tables.proofs.name.is_this.Lts as lts
-use Rattle.fields.proofs.peek.Reads as peek-reads
 
--- src/name.rt:118:8
 peek-requires : tie.Need-peek-requires
 peek-requires c κs = search needs
 
--- src/name.rt:119:9
 returns : tie.Need-returns
 returns c = sym (not-this _ _ (λ z. c .if1 .taken (c .before .peek .ensures .0 ∙ z)))
 
--- src/name.rt:121:24
 add-peek : tie.Need-add-peek
 add-peek c = search needs
 
--- src/name.rt:121:8
 peek-requires-2 : tie.Need-peek-requires-2
 peek-requires-2 c κs = search needs
 
--- src/name.rt:122:9
 returns-2 : tie.Need-returns-2
 returns-2 c = sym (this-is _ _ (sym (c .before .before .before .peek .ensures .0) ∙ c .before .before .if1 .left) ∙ simp (← c .before .peek2 .ensures .0, ne-eqb _ _ (c .if2 .taken)))
 
--- src/name.rt:124:24
 add-peek-2 : tie.Need-add-peek-2
 add-peek-2 c = search needs
 
--- src/name.rt:124:8
 peek-requires-3 : tie.Need-peek-requires-3
 peek-requires-3 c κs = search needs
 
--- src/name.rt:125:9
 returns-3 : tie.Need-returns-3
 returns-3 c = sym (this-is _ _ (sym (c .before .before .before .before .before .peek .ensures .0) ∙ c .before .before .before .before .if1 .left) ∙ simp (← c .before .before .before .peek2 .ensures .0, eq-eqb _ _ (c .before .before .if2 .left), ← c .before .peek3 .ensures .0, ne-eqb _ _ (c .if3 .taken)))
 
--- src/name.rt:127:24
 add-peek-3 : tie.Need-add-peek-3
 add-peek-3 c = search needs
 
--- src/name.rt:127:8
 peek-requires-4 : tie.Need-peek-requires-4
 peek-requires-4 c κs = search needs
 
--- src/name.rt:128:9
 returns-4 : tie.Need-returns-4
 returns-4 c = sym (this-is _ _ (sym (c .before .before .before .before .before .before .before .peek .ensures .0) ∙ c .before .before .before .before .before .before .if1 .left) ∙ simp (← c .before .before .before .before .before .peek2 .ensures .0, eq-eqb _ _ (c .before .before .before .before .if2 .left), ← c .before .before .before .peek3 .ensures .0, eq-eqb _ _ (c .before .before .if3 .left), ← c .before .peek4 .ensures .0, ne-eqb _ _ (c .if4 .taken)))
 
--- src/name.rt:130:21
 add-peek-4 : tie.Need-add-peek-4
 add-peek-4 c = search needs
 
--- src/name.rt:130:5
 peek-requires-5 : tie.Need-peek-requires-5
 peek-requires-5 c κs = search needs
 
--- src/name.rt:114:1
 returns-5 : tie.Need-returns-5
 returns-5 c = sym (this-is _ _ (sym (c .before .before .before .before .before .before .before .before .peek .ensures .0) ∙ c .before .before .before .before .before .before .before .if1 .left) ∙ this-last (sym (c .before .before .before .before .before .before .peek2 .ensures .0) ∙ c .before .before .before .before .before .if2 .left) (sym (c .before .before .before .before .peek3 .ensures .0) ∙ c .before .before .before .if3 .left) (sym (c .before .before .peek4 .ensures .0) ∙ c .before .if4 .left) (c .peek5 .ensures .0))
 

@@ -1,15 +1,9 @@
-use Prim.Native.Nat.{ℕ, zero, suc, _+_, _-_, _*_, _≤_, _<_}
-use mathlib.Core.Path.{_≡_, refl, sym, ap, _∙_, subst}
+use Prim.Native.Nat.{_-_, _≤_}
 use native.Mathlib.Omega.{arith}
 use borrow.Author.Needs.{needs}
-use lib.ListN.{length, getD, take, length-set}
-use denote.Ref.{now}
 use Rattle.tables.proofs.Names.{differ, Tail, tail-start, tail-next, tail-stop, tail-done}
 use Rattle.tables.proofs.name.same_name.Statement.{statement}
 use Rattle.tables.proofs.name.same_name.Tie as tie
-use Rattle.tables.proofs.name.same_name.Reads as reads
-use Rattle.tables.proofs.name.same_name.Lts as lts
-use Rattle.fields.proofs.peek.Reads as peek-reads
 
 abbrev Inv-loop : tie.InvT-loop
 Inv-loop s a b n m k₀ k = (k ≤ n) × Tail s a b n k
@@ -17,63 +11,48 @@ Inv-loop s a b n m k₀ k = (k ≤ n) × Tail s a b n k
 abbrev μ-loop : tie.MeasureT-loop
 μ-loop s a b n m k₀ k = n - k
 
--- src/name.rt:20:9
 peek-requires : tie.Need-peek-requires Inv-loop μ-loop
 peek-requires c κs = search needs
 
--- src/name.rt:21:9
 peek-requires-2 : tie.Need-peek-requires-2 Inv-loop μ-loop
 peek-requires-2 c κs = search needs
 
--- src/name.rt:23:9
 returns : tie.Need-returns Inv-loop μ-loop
 returns c = differ _ _ _ (c .before .before .peek .ensures .0) (c .before .peek2 .ensures .0) (c .if1 .taken)
 
--- src/name.rt:26:5
 loop-holds : tie.Need-loop-holds Inv-loop μ-loop
 loop-holds c = (omega arith, tail-start _ _ _ (c .before .before .peek .ensures .0) (c .before .peek2 .ensures .0) (c .if1 .left))
 
--- src/name.rt:27:33
 add-peek : tie.Need-add-peek Inv-loop μ-loop
 add-peek c = search needs
 
--- src/name.rt:27:33
 add-peek-2 : tie.Need-add-peek-2 Inv-loop μ-loop
 add-peek-2 c = search needs
 
--- src/name.rt:27:13
 peek-requires-3 : tie.Need-peek-requires-3 Inv-loop μ-loop
 peek-requires-3 c κs = search needs
 
--- src/name.rt:28:33
 add-peek-3 : tie.Need-add-peek-3 Inv-loop μ-loop
 add-peek-3 c = search needs
 
--- src/name.rt:28:33
 add-peek-4 : tie.Need-add-peek-4 Inv-loop μ-loop
 add-peek-4 c = search needs
 
--- src/name.rt:28:13
 peek-requires-4 : tie.Need-peek-requires-4 Inv-loop μ-loop
 peek-requires-4 c κs = search needs
 
--- src/name.rt:30:13
 returns-2 : tie.Need-returns-2 Inv-loop μ-loop
 returns-2 c = tail-stop _ _ _ _ _ (c .before .before .before .before .loop .inv .1) (c .before .before .before .loop-test .taken) (c .before .before .peek3 .ensures .0) (c .before .peek4 .ensures .0) (c .if2 .taken)
 
--- src/name.rt:32:9
 add-k : tie.Need-add-k Inv-loop μ-loop
 add-k c = search needs
 
--- src/name.rt:26:5
 loop-less : tie.Need-loop-less Inv-loop μ-loop
 loop-less c = search needs
 
--- src/name.rt:26:5
 loop-again : tie.Need-loop-again Inv-loop μ-loop
 loop-again c = (omega arith, tail-next _ _ _ _ _ (c .before .before .before .before .loop .inv .1) (c .before .before .before .loop-test .taken) (c .before .before .peek3 .ensures .0) (c .before .peek4 .ensures .0) (c .if2 .left))
 
--- src/name.rt:16:1
 returns-3 : tie.Need-returns-3 Inv-loop μ-loop
 returns-3 c = tail-done _ _ _ _ _ (c .before .loop .inv .1) (c .loop-test .left)
 

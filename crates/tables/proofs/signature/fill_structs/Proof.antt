@@ -1,11 +1,9 @@
-use Prim.Native.Nat.{ℕ, zero, suc, _+_, _-_, _*_, _≤_, _<_}
-use mathlib.Core.Path.{_≡_, refl, sym, ap, _∙_, subst}
+use Prim.Native.Nat.{_-_, _<_}
+use mathlib.Core.Path.{_≡_, refl}
 use native.Mathlib.Omega.{arith}
 use borrow.Author.Needs.{needs}
-use lib.ListN.{length, getD, take, length-set, length-map}
+use lib.ListN.{length, length-set, length-map}
 use denote.Ref.{now}
-use Rattle.fields.proofs.Answers.{number-ok, number-wrong, read-ok, read-fault, table-ok, table-wrong, is-table, wrong-table}
-use Rattle.fields.proofs.Numbers.{field-ok}
 use mathlib.Core.List.{List, map}
 use Rattle.tables.specs.Limits.{version1}
 use Rattle.tables.specs.Name.{nameOf}
@@ -15,9 +13,6 @@ use Rattle.tables.proofs.Placing.{Placing, placing-start, placing-stop,
 use Rattle.tables.proofs.Signatures.{ends-none, ends-next, struct-in, struct-read, struct-fault}
 use Rattle.tables.proofs.signature.fill_structs.Statement.{statement}
 use Rattle.tables.proofs.signature.fill_structs.Tie as tie
-use Rattle.tables.proofs.signature.fill_structs.Reads as reads
-use Rattle.tables.proofs.signature.fill_structs.Lts as lts
-use Rattle.tables.proofs.signature.read_struct.Reads as read-struct-reads
 
 abbrev Inv-loop : tie.InvT-loop
 Inv-loop s names structs₀ n at i₀ p₀ last₀ structs i p last = ((ss : List Struct) × Placing (structAt version1 (map (nameOf s) names) s) (structIn s) s n at structs i p ss × Ends (map (nameOf s) names) ss i last) × (last < length names) × (length structs ≡ length structs₀)
@@ -25,47 +20,36 @@ Inv-loop s names structs₀ n at i₀ p₀ last₀ structs i p last = ((ss : Lis
 abbrev μ-loop : tie.MeasureT-loop
 μ-loop s names structs₀ n at i₀ p₀ last₀ structs i p last = n - i
 
--- src/signature.rt:152:5
 loop-holds : tie.Need-loop-holds Inv-loop μ-loop
 loop-holds c = ((_, placing-start _ _ _ _ _ _ (c .before .before .before .pre .0), ends-none _ _), c .before .before .before .pre .1, refl)
 
--- src/signature.rt:153:15
 read-struct-requires : tie.Need-read-struct-requires Inv-loop μ-loop
 read-struct-requires c κs = (c .before .loop .inv .1, c .before .before .before .before .before .pre .2)
 
--- src/signature.rt:154:35
 enum-known-f : tie.Need-enum-known-f Inv-loop μ-loop
 enum-known-f c = search needs
 
--- src/signature.rt:155:17
 same-length : tie.Need-same-length Inv-loop μ-loop
 same-length c = c .before .before .before .before .before .loop .inv .2
 
--- src/signature.rt:155:17
 returns : tie.Need-returns Inv-loop μ-loop
 returns c = placing-stop _ _ _ (c .before .before .before .before .before .loop .inv .0 .1) (c .before .before .before .before .loop-test .taken) (struct-fault (c .before .before .before .read-struct .ensures (c .before .before .before .before .before .loop .inv .0 .0) (c .before .before .before .before .before .loop .inv .0 .2)) (c .before .f .given .1))
 
--- src/signature.rt:157:32
 enum-known-name : tie.Need-enum-known-name Inv-loop μ-loop
 enum-known-name c = search needs
 
--- src/signature.rt:158:17
 mul-structs : tie.Need-mul-structs Inv-loop μ-loop
 mul-structs c = search needs
 
--- src/signature.rt:158:17
 slice-write-structs : tie.Need-slice-write-structs Inv-loop μ-loop
 slice-write-structs c = let h = c .before .before .before .before .before .loop .inv .0 .1 .high in omega arith
 
--- src/signature.rt:161:17
 add-i : tie.Need-add-i Inv-loop μ-loop
 add-i c = search needs
 
--- src/signature.rt:152:5
 loop-less : tie.Need-loop-less Inv-loop μ-loop
 loop-less c = omega arith
 
--- src/signature.rt:152:5
 loop-again : tie.Need-loop-again Inv-loop μ-loop
 loop-again c = let g = struct-read (c .before .before .before .read-struct .ensures (c .before .before .before .before .before .loop .inv .0 .0) (c .before .before .before .before .before .loop .inv .0 .2)) (c .before .name .given .1) in
     let h = struct-in _ _ _ _ _ _ (g .1) in
@@ -74,11 +58,9 @@ loop-again c = let g = struct-read (c .before .before .before .read-struct .ensu
     let z = g .2 in
     ((_, placing-next _ _ _ (c .before .before .before .before .before .loop .inv .0 .1) (c .before .before .before .before .loop-test .taken) (h .inside) (g .1) (h .is), ends-next _ (c .before .before .before .before .before .loop .inv .0 .0) (g .0) _ _ (g .2)), omega arith, simp length-set (c .before .before .before .before .before .loop .inv .2))
 
--- src/signature.rt:142:1
 same-length-2 : tie.Need-same-length-2 Inv-loop μ-loop
 same-length-2 c = c .before .loop .inv .2
 
--- src/signature.rt:142:1
 returns-2 : tie.Need-returns-2 Inv-loop μ-loop
 returns-2 c = placing-done _ _ _ (c .before .loop .inv .0 .1) (c .loop-test .left)
 

@@ -1,73 +1,50 @@
-use Prim.Native.Nat.{ℕ, zero, suc, _+_, _-_, _*_, _≤_, _<_}
-use mathlib.Core.Path.{_≡_, refl, sym, ap, _∙_, subst}
-use native.Mathlib.Omega.{arith}
-use lib.ListN.{length, getD, take, length-set, length-map}
-use denote.Ref.{now}
-use Rattle.fields.proofs.Answers.{number-ok, number-wrong, read-ok, read-fault, table-ok, table-wrong, is-table, wrong-table}
-use Rattle.fields.proofs.Numbers.{field-ok}
+use Prim.Native.Nat.{_-_}
+use mathlib.Core.Path.{sym, _∙_}
+use Rattle.fields.proofs.Answers.{number-ok, number-wrong, table-ok, table-wrong}
 use Rattle.tables.proofs.Signatures.{receiver-stop, this-stop, params-stop, params-read, params-alike}
 use borrow.Author.Needs.{needs}
 use Rattle.tables.proofs.signature.read_entry.Statement.{statement}
 use Rattle.tables.proofs.signature.read_entry.Tie as tie
-use Rattle.tables.proofs.signature.read_entry.Reads as reads
-use Rattle.tables.proofs.signature.read_entry.Lts as lts
-use Rattle.fields.proofs.field.Reads as field-reads
-use Rattle.tables.proofs.signature.read_named_table.Reads as read-named-table-reads
-use Rattle.tables.proofs.signature.this_width.Reads as this-width-reads
 
--- src/signature.rt:201:11
 field-requires : tie.Need-field-requires
 field-requires c κs = search needs
 
--- src/signature.rt:202:31
 enum-known-f : tie.Need-enum-known-f
 enum-known-f c = search needs
 
--- src/signature.rt:203:28
 enum-known-receiver : tie.Need-enum-known-receiver
 enum-known-receiver c = search needs
 
--- src/signature.rt:203:77
 this-width-requires : tie.Need-this-width-requires
 this-width-requires c κs = search needs
 
--- src/signature.rt:203:50
 field-requires-2 : tie.Need-field-requires-2
 field-requires-2 c κs = search needs
 
--- src/signature.rt:204:35
 enum-known-f-2 : tie.Need-enum-known-f-2
 enum-known-f-2 c = search needs
 
--- src/signature.rt:205:35
 enum-known-q : tie.Need-enum-known-q
 enum-known-q c = search needs
 
--- src/signature.rt:207:23
 read-named-table-requires : tie.Need-read-named-table-requires
 read-named-table-requires c κs = search needs
 
--- src/signature.rt:208:43
 enum-known-f-3 : tie.Need-enum-known-f-3
 enum-known-f-3 c = search needs
 
--- src/signature.rt:209:43
 enum-known-r : tie.Need-enum-known-r
 enum-known-r c = search needs
 
--- src/signature.rt:198:1
 returns : tie.Need-returns
 returns c = receiver-stop _ _ _ _ (number-wrong (c .before .before .before .field .ensures) (c .before .f .given .1))
 
--- src/signature.rt:198:1
 returns-2 : tie.Need-returns-2
 returns-2 c = this-stop _ _ _ _ (number-ok (c .before .before .before .before .before .before .before .before .field .ensures) (c .before .before .before .before .before .before .receiver .given .1)) (c .before .before .before .before .this-width .ensures) (number-wrong (c .before .before .before .field2 .ensures) (c .before .f2 .given .1))
 
--- src/signature.rt:198:1
 returns-3 : tie.Need-returns-3
 returns-3 c = params-stop _ _ _ _ (number-ok (c .before .before .before .before .before .before .before .before .before .before .before .before .field .ensures) (c .before .before .before .before .before .before .before .before .before .before .receiver .given .1)) (c .before .before .before .before .before .before .before .before .this-width .ensures) (number-ok (c .before .before .before .before .before .before .before .field2 .ensures) (c .before .before .before .before .before .q .given .1)) (table-wrong (c .before .before .before .read-named-table .ensures ∙ sym (params-alike _ _ _ _)) (c .before .f3 .given .1))
 
--- src/signature.rt:198:1
 returns-4 : tie.Need-returns-4
 returns-4 c = params-read _ _ _ _ (number-ok (c .before .before .before .before .before .before .before .before .before .before .before .before .field .ensures) (c .before .before .before .before .before .before .before .before .before .before .receiver .given .1)) (c .before .before .before .before .before .before .before .before .this-width .ensures) (number-ok (c .before .before .before .before .before .before .before .field2 .ensures) (c .before .before .before .before .before .q .given .1)) (table-ok (c .before .before .before .read-named-table .ensures ∙ sym (params-alike _ _ _ _)) (c .before .r .given .1) .1)
 

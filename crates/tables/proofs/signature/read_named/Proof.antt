@@ -1,60 +1,40 @@
-use Prim.Native.Nat.{ℕ, zero, suc, _+_, _-_, _*_, _≤_, _<_}
-use mathlib.Core.Path.{_≡_, refl, sym, ap, _∙_, subst}
-use native.Mathlib.Omega.{arith}
-use lib.ListN.{length, getD, take, length-set, length-map}
-use denote.Ref.{now}
-use Rattle.fields.proofs.Answers.{number-ok, number-wrong, read-ok, read-fault, table-ok, table-wrong, is-table, wrong-table}
-use Rattle.fields.proofs.Numbers.{field-ok}
+use Prim.Native.Nat.{_-_}
+use Rattle.fields.proofs.Answers.{number-ok, number-wrong}
 use Rattle.tables.proofs.Signatures.{name-stop, value-stop, named-taken, named-free}
 use borrow.Author.Needs.{needs}
 use Rattle.tables.proofs.signature.read_named.Statement.{statement}
 use Rattle.tables.proofs.signature.read_named.Tie as tie
-use Rattle.tables.proofs.signature.read_named.Reads as reads
-use Rattle.tables.proofs.signature.read_named.Lts as lts
-use Rattle.fields.proofs.field.Reads as field-reads
-use Rattle.tables.proofs.signature.taken.Reads as taken-reads
 
--- src/signature.rt:44:11
 field-requires : tie.Need-field-requires
 field-requires c κs = search needs
 
--- src/signature.rt:45:31
 enum-known-f : tie.Need-enum-known-f
 enum-known-f c = search needs
 
--- src/signature.rt:46:28
 enum-known-name : tie.Need-enum-known-name
 enum-known-name c = search needs
 
--- src/signature.rt:46:46
 field-requires-2 : tie.Need-field-requires-2
 field-requires-2 c κs = search needs
 
--- src/signature.rt:47:35
 enum-known-f-2 : tie.Need-enum-known-f-2
 enum-known-f-2 c = search needs
 
--- src/signature.rt:48:35
 enum-known-q : tie.Need-enum-known-q
 enum-known-q c = search needs
 
--- src/signature.rt:49:20
 taken-requires : tie.Need-taken-requires
 taken-requires c κs = search needs
 
--- src/signature.rt:39:1
 returns : tie.Need-returns
 returns c = λ xs ex. name-stop _ _ _ _ _ _ xs _ (number-wrong (c .before .before .before .field .ensures) (c .before .f .given .1))
 
--- src/signature.rt:39:1
 returns-2 : tie.Need-returns-2
 returns-2 c = λ xs ex. value-stop _ _ _ _ _ _ xs _ (number-ok (c .before .before .before .before .before .before .before .field .ensures) (c .before .before .before .before .before .name .given .1)) (number-wrong (c .before .before .before .field2 .ensures) (c .before .f2 .given .1))
 
--- src/signature.rt:39:1
 returns-3 : tie.Need-returns-3
 returns-3 c = λ xs ex. named-taken _ _ _ _ _ _ xs _ (number-ok (c .before .before .before .before .before .before .before .before .before .field .ensures) (c .before .before .before .before .before .before .before .name .given .1)) (number-ok (c .before .before .before .before .before .field2 .ensures) (c .before .before .before .q .given .1)) _ _ ex (c .before .taken .ensures) (c .if1 .taken)
 
--- src/signature.rt:39:1
 returns-4 : tie.Need-returns-4
 returns-4 c = λ xs ex. named-free _ _ _ _ _ _ xs _ (number-ok (c .before .before .before .before .before .before .before .before .before .field .ensures) (c .before .before .before .before .before .before .before .name .given .1)) (number-ok (c .before .before .before .before .before .field2 .ensures) (c .before .before .before .q .given .1)) _ _ ex (c .before .taken .ensures) (c .if1 .left)
 

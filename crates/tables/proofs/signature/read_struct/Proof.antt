@@ -1,50 +1,35 @@
-use Prim.Native.Nat.{ℕ, zero, suc, _+_, _-_, _*_, _≤_, _<_}
-use mathlib.Core.Path.{_≡_, refl, sym, ap, _∙_, subst}
-use native.Mathlib.Omega.{arith}
-use lib.ListN.{length, getD, take, length-set, length-map}
+use Prim.Native.Nat.{_-_}
+use mathlib.Core.Path.{refl, sym, ap, _∙_}
 use denote.Ref.{now}
-use Rattle.fields.proofs.Answers.{number-ok, number-wrong, read-ok, read-fault, table-ok, table-wrong, is-table, wrong-table}
+use Rattle.fields.proofs.Answers.{number-ok, number-wrong}
 use Rattle.fields.proofs.Numbers.{field-ok}
 use Rattle.tables.specs.Answer.{structNameOf}
 use Rattle.tables.proofs.Signatures.{struct-name-stop, not-rising, struct-rest}
 use borrow.Author.Needs.{needs}
 use Rattle.tables.proofs.signature.read_struct.Statement.{statement}
 use Rattle.tables.proofs.signature.read_struct.Tie as tie
-use Rattle.tables.proofs.signature.read_struct.Reads as reads
-use Rattle.tables.proofs.signature.read_struct.Lts as lts
-use Rattle.fields.proofs.field.Reads as field-reads
-use Rattle.tables.proofs.signature.read_struct_rest.Reads as read-struct-rest-reads
-use Rattle.tables.proofs.signature.rises.Reads as rises-reads
 
--- src/signature.rt:129:11
 field-requires : tie.Need-field-requires
 field-requires c κs = search needs
 
--- src/signature.rt:130:31
 enum-known-f : tie.Need-enum-known-f
 enum-known-f c = search needs
 
--- src/signature.rt:131:28
 enum-known-name : tie.Need-enum-known-name
 enum-known-name c = search needs
 
--- src/signature.rt:132:16
 rises-requires : tie.Need-rises-requires
 rises-requires c κs = (c .before .before .before .before .before .before .pre .0, field-ok (number-ok (c .before .before .before .field .ensures) (c .before .name .given .1)) .small, c .before .before .before .before .before .before .pre .1)
 
--- src/signature.rt:133:17
 read-struct-rest-requires : tie.Need-read-struct-rest-requires
 read-struct-rest-requires c κs = search needs
 
--- src/signature.rt:124:1
 returns : tie.Need-returns
 returns c = λ ss ends. struct-name-stop _ (now (c .before .before .before .before .before .before .args .names)) ss _ refl (number-wrong (c .before .before .before .field .ensures) (c .before .f .given .1))
 
--- src/signature.rt:124:1
 returns-2 : tie.Need-returns-2
 returns-2 c = λ ss ends. c .read-struct-rest .ensures ∙ sym (ap structNameOf (struct-rest _ (now (c .before .before .before .before .before .before .before .before .before .args .names)) ss _ refl (number-ok (c .before .before .before .before .before .before .field .ensures) (c .before .before .before .before .name .given .1)) _ _ ends (c .before .before .before .before .before .before .before .before .before .pre .0) (c .before .before .rises .ensures) (c .before .if1 .taken)))
 
--- src/signature.rt:124:1
 returns-3 : tie.Need-returns-3
 returns-3 c = λ ss ends. not-rising _ (now (c .before .before .before .before .before .before .before .before .args .names)) ss _ refl (number-ok (c .before .before .before .before .before .field .ensures) (c .before .before .before .name .given .1)) _ _ ends (c .before .before .before .before .before .before .before .before .pre .0) (c .before .rises .ensures) (c .if1 .left)
 

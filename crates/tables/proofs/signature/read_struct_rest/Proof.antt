@@ -1,68 +1,47 @@
-use Prim.Native.Nat.{ℕ, zero, suc, _+_, _-_, _*_, _≤_, _<_}
-use mathlib.Core.Path.{_≡_, refl, sym, ap, _∙_, subst}
-use native.Mathlib.Omega.{arith}
-use lib.ListN.{length, getD, take, length-set, length-map}
-use denote.Ref.{now}
-use Rattle.fields.proofs.Answers.{number-ok, number-wrong, read-ok, read-fault, table-ok, table-wrong, is-table, wrong-table}
-use Rattle.fields.proofs.Numbers.{field-ok}
+use Prim.Native.Nat.{_-_}
+use mathlib.Core.Path.{sym, _∙_}
+use Rattle.fields.proofs.Answers.{number-ok, number-wrong, table-ok, table-wrong}
 use Rattle.tables.proofs.Signatures.{flag-stop, shape-stop, methods-stop, methods-read, methods-alike}
 use borrow.Author.Needs.{needs}
 use Rattle.tables.proofs.signature.read_struct_rest.Statement.{statement}
 use Rattle.tables.proofs.signature.read_struct_rest.Tie as tie
-use Rattle.tables.proofs.signature.read_struct_rest.Reads as reads
-use Rattle.tables.proofs.signature.read_struct_rest.Lts as lts
-use Rattle.fields.proofs.field.Reads as field-reads
-use Rattle.tables.proofs.signature.read_named_table.Reads as read-named-table-reads
 
--- src/signature.rt:108:11
 field-requires : tie.Need-field-requires
 field-requires c κs = search needs
 
--- src/signature.rt:109:31
 enum-known-f : tie.Need-enum-known-f
 enum-known-f c = search needs
 
--- src/signature.rt:110:31
 enum-known-p : tie.Need-enum-known-p
 enum-known-p c = search needs
 
--- src/signature.rt:110:43
 field-requires-2 : tie.Need-field-requires-2
 field-requires-2 c κs = search needs
 
--- src/signature.rt:111:35
 enum-known-f-2 : tie.Need-enum-known-f-2
 enum-known-f-2 c = search needs
 
--- src/signature.rt:112:35
 enum-known-q : tie.Need-enum-known-q
 enum-known-q c = search needs
 
--- src/signature.rt:114:23
 read-named-table-requires : tie.Need-read-named-table-requires
 read-named-table-requires c κs = search needs
 
--- src/signature.rt:115:43
 enum-known-f-3 : tie.Need-enum-known-f-3
 enum-known-f-3 c = search needs
 
--- src/signature.rt:116:43
 enum-known-r : tie.Need-enum-known-r
 enum-known-r c = search needs
 
--- src/signature.rt:105:1
 returns : tie.Need-returns
 returns c = flag-stop _ _ _ _ (number-wrong (c .before .before .before .field .ensures) (c .before .f .given .1))
 
--- src/signature.rt:105:1
 returns-2 : tie.Need-returns-2
 returns-2 c = shape-stop _ _ _ _ (number-ok (c .before .before .before .before .before .before .before .field .ensures) (c .before .before .before .before .before .p .given .1)) (number-wrong (c .before .before .before .field2 .ensures) (c .before .f2 .given .1))
 
--- src/signature.rt:105:1
 returns-3 : tie.Need-returns-3
 returns-3 c = methods-stop _ _ _ _ (number-ok (c .before .before .before .before .before .before .before .before .before .before .before .field .ensures) (c .before .before .before .before .before .before .before .before .before .p .given .1)) (number-ok (c .before .before .before .before .before .before .before .field2 .ensures) (c .before .before .before .before .before .q .given .1)) (table-wrong (c .before .before .before .read-named-table .ensures ∙ sym (methods-alike _ _ _)) (c .before .f3 .given .1))
 
--- src/signature.rt:105:1
 returns-4 : tie.Need-returns-4
 returns-4 c = methods-read _ _ _ _ (number-ok (c .before .before .before .before .before .before .before .before .before .before .before .field .ensures) (c .before .before .before .before .before .before .before .before .before .p .given .1)) (number-ok (c .before .before .before .before .before .before .before .field2 .ensures) (c .before .before .before .before .before .q .given .1)) (table-ok (c .before .before .before .read-named-table .ensures ∙ sym (methods-alike _ _ _)) (c .before .r .given .1) .1)
 

@@ -1,14 +1,10 @@
 use borrow.Author.Tests.{lt-ltb, le-ltb}
 use Rattle.tables.proofs.signature.this_width.Statement.{statement}
 use Rattle.tables.proofs.signature.this_width.Tie as tie
-use Rattle.tables.proofs.signature.this_width.Reads as reads
-use Rattle.tables.proofs.signature.this_width.Lts as lts
 
--- src/signature.rt:191:1
 returns : tie.Need-returns
 returns c = simp (lt-ltb _ _ (c .if1 .taken))
 
--- src/signature.rt:191:1
 returns-2 : tie.Need-returns-2
 returns-2 c = simp (le-ltb _ _ (c .if1 .left))
 

@@ -4,26 +4,19 @@ use Rattle.fields.proofs.Numbers.{past-end}
 use borrow.Author.Needs.{needs}
 use Rattle.tables.proofs.ty.generic_flag.Statement.{statement}
 use Rattle.tables.proofs.ty.generic_flag.Tie as tie
-use Rattle.tables.proofs.ty.generic_flag.Reads as reads
-use Rattle.tables.proofs.ty.generic_flag.Lts as lts
 
--- src/ty.rt:53:9
 returns : tie.Need-returns
 returns c = simp (eq-eqb _ _ (c .if1 .taken))
 
--- src/ty.rt:57:20
 shared-slice-read-result : tie.Need-shared-slice-read-result
 shared-slice-read-result c = search needs
 
--- src/ty.rt:57:13
 returns-2 : tie.Need-returns-2
 returns-2 c = simp (ne-eqb _ _ (c .before .before .before .if1 .left), eq-eqb _ _ (c .before .before .if2 .taken))
 
--- src/ty.rt:49:1
 returns-3 : tie.Need-returns-3
 returns-3 c = simp (ne-eqb _ _ (c .before .before .if1 .left), eq-eqb _ _ (c .before .if2 .taken), past-end (now (c .before .before .before .args .flags)) (c .before .before .before .args .of) (c .if3 .left))
 
--- src/ty.rt:49:1
 returns-4 : tie.Need-returns-4
 returns-4 c = simp (ne-eqb _ _ (c .before .if1 .left), ne-eqb _ _ (c .if2 .left))
 

@@ -1,18 +1,13 @@
 use borrow.Author.Tests.{eq-eqb, ne-eqb, lt-ltb, le-ltb}
 use Rattle.tables.proofs.ty.of_limit.Statement.{statement}
 use Rattle.tables.proofs.ty.of_limit.Tie as tie
-use Rattle.tables.proofs.ty.of_limit.Reads as reads
-use Rattle.tables.proofs.ty.of_limit.Lts as lts
 
--- src/ty.rt:30:9
 returns : tie.Need-returns
 returns c = simp (eq-eqb _ _ (c .if1 .taken))
 
--- src/ty.rt:33:9
 returns-2 : tie.Need-returns-2
 returns-2 c = simp (ne-eqb _ _ (c .before .if1 .left), lt-ltb _ _ (c .if2 .taken))
 
--- src/ty.rt:26:1
 returns-3 : tie.Need-returns-3
 returns-3 c = simp (ne-eqb _ _ (c .before .if1 .left), le-ltb _ _ (c .if2 .left))
 

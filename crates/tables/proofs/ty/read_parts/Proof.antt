@@ -1,71 +1,51 @@
-use mathlib.Core.Path.{_≡_}
 use Rattle.tables.specs.Ty.{ofWidth, shapeWidth}
 use Rattle.fields.proofs.Answers.{number-ok, number-wrong}
 use Rattle.tables.proofs.Types.{of-stop, shape-stop, shape-read}
 use borrow.Author.Needs.{needs}
 use Rattle.tables.proofs.ty.read_parts.Statement.{statement}
 use Rattle.tables.proofs.ty.read_parts.Tie as tie
-use Rattle.tables.proofs.ty.read_parts.Reads as reads
-use Rattle.tables.proofs.ty.read_parts.Lts as lts
-use Rattle.fields.proofs.field.Reads as field-reads
-use Rattle.fields.proofs.wide.Reads as wide-reads
-use Rattle.tables.proofs.ty.of_limit.Reads as of-limit-reads
 
--- src/ty.rt:68:33
 array-read-wide : tie.Need-array-read-wide
 array-read-wide c = search needs
 
--- src/ty.rt:68:9
 wide-requires : tie.Need-wide-requires
 wide-requires c κs = search needs
 
--- src/ty.rt:69:31
 of-limit-requires : tie.Need-of-limit-requires
 of-limit-requires c κs = search needs
 
--- src/ty.rt:69:11
 field-requires : tie.Need-field-requires
 field-requires c κs = search needs
 
--- src/ty.rt:70:31
 enum-known-f : tie.Need-enum-known-f
 enum-known-f c = search needs
 
--- src/ty.rt:71:28
 enum-known-of : tie.Need-enum-known-of
 enum-known-of c = search needs
 
--- src/ty.rt:72:44
 array-read-wide-2 : tie.Need-array-read-wide-2
 array-read-wide-2 c = search needs
 
--- src/ty.rt:72:17
 wide-requires-2 : tie.Need-wide-requires-2
 wide-requires-2 c κs = search needs
 
--- src/ty.rt:73:19
 field-requires-2 : tie.Need-field-requires-2
 field-requires-2 c κs = search needs
 
--- src/ty.rt:74:39
 enum-known-f-2 : tie.Need-enum-known-f-2
 enum-known-f-2 c = search needs
 
--- src/ty.rt:75:39
 enum-known-q : tie.Need-enum-known-q
 enum-known-q c = search needs
 
--- src/ty.rt:64:1
 returns : tie.Need-returns
 unfolding ofWidth
 returns c = λ ts l. of-stop _ _ ts l _ _ (c .before .before .before .before .of-limit .ensures) (c .before .before .before .before .before .wide .ensures .0) (number-wrong (c .before .before .before .field .ensures) (c .before .f .given .1))
 
--- src/ty.rt:64:1
 returns-2 : tie.Need-returns-2
 unfolding ofWidth shapeWidth
 returns-2 c = λ ts l. shape-stop _ _ ts l _ _ (c .before .before .before .before .before .before .before .before .before .of-limit .ensures) (c .before .before .before .before .before .before .before .before .before .before .wide .ensures .0) (number-ok (c .before .before .before .before .before .before .before .before .field .ensures) (c .before .before .before .before .before .before .of .given .1)) (c .before .before .before .before .wide2 .ensures .0) (number-wrong (c .before .before .before .field2 .ensures) (c .before .f2 .given .1))
 
--- src/ty.rt:64:1
 returns-3 : tie.Need-returns-3
 unfolding ofWidth shapeWidth
 returns-3 c = λ ts l. shape-read _ _ ts l _ _ (c .before .before .before .before .before .before .before .before .before .of-limit .ensures) (c .before .before .before .before .before .before .before .before .before .before .wide .ensures .0) (number-ok (c .before .before .before .before .before .before .before .before .field .ensures) (c .before .before .before .before .before .before .of .given .1)) (c .before .before .before .before .wide2 .ensures .0) (number-ok (c .before .before .before .field2 .ensures) (c .before .q .given .1))

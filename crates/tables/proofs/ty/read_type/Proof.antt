@@ -1,4 +1,4 @@
-use mathlib.Core.Path.{_≡_, sym, ap, _∙_}
+use mathlib.Core.Path.{sym, ap, _∙_}
 use Rattle.tables.specs.Answer.{typeOf}
 use Rattle.fields.proofs.Numbers.{field-ok}
 use Rattle.fields.proofs.Answers.{number-ok, number-wrong}
@@ -6,41 +6,28 @@ use Rattle.tables.proofs.Types.{kind-stop, kind-bad, kind-good}
 use borrow.Author.Needs.{needs}
 use Rattle.tables.proofs.ty.read_type.Statement.{statement}
 use Rattle.tables.proofs.ty.read_type.Tie as tie
-use Rattle.tables.proofs.ty.read_type.Reads as reads
-use Rattle.tables.proofs.ty.read_type.Lts as lts
-use Rattle.fields.proofs.field.Reads as field-reads
-use Rattle.tables.proofs.ty.kind_ok.Reads as kind-ok-reads
-use Rattle.tables.proofs.ty.read_parts.Reads as read-parts-reads
 
--- src/ty.rt:85:11
 field-requires : tie.Need-field-requires
 field-requires c κs = search needs
 
--- src/ty.rt:86:31
 enum-known-f : tie.Need-enum-known-f
 enum-known-f c = search needs
 
--- src/ty.rt:87:28
 enum-known-kind : tie.Need-enum-known-kind
 enum-known-kind c = search needs
 
--- src/ty.rt:88:16
 kind-ok-requires : tie.Need-kind-ok-requires
 kind-ok-requires c κs = search needs
 
--- src/ty.rt:89:17
 read-parts-requires : tie.Need-read-parts-requires
 read-parts-requires c κs = field-ok (number-ok (c .before .before .before .before .before .field .ensures) (c .before .before .before .kind .given .1)) .small
 
--- src/ty.rt:82:1
 returns : tie.Need-returns
 returns c = λ ts l. kind-stop _ _ ts l _ (number-wrong (c .before .before .before .field .ensures) (c .before .f .given .1))
 
--- src/ty.rt:82:1
 returns-2 : tie.Need-returns-2
 returns-2 c = λ ts l. c .read-parts .ensures ts l ∙ sym (ap typeOf (kind-good _ _ ts l _ (number-ok (c .before .before .before .before .before .before .field .ensures) (c .before .before .before .before .kind .given .1)) (c .before .before .kind-ok .ensures) (c .before .if1 .taken)))
 
--- src/ty.rt:82:1
 returns-3 : tie.Need-returns-3
 returns-3 c = λ ts l. kind-bad _ _ ts l _ (number-ok (c .before .before .before .before .before .field .ensures) (c .before .before .before .kind .given .1)) (c .before .kind-ok .ensures) (c .if1 .left)
 
