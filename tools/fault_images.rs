@@ -1,6 +1,6 @@
 // Writes images for each fault from 1 to 11, and the outcome that document 01 demands for each:
 //
-//     rustc -O -o target/fault_images tools/fault_images.rs && target/fault_images
+//     rustc -O --out-dir target tools/fault_images.rs && target/fault_images
 //
 // at the root of the repository writes crates/faults/data/images and crates/faults/stdout. Each image is built together with its
 // outcome. Nothing here reads an image.
