@@ -169,10 +169,9 @@ table-entries {A = A} f view w each n at us q e =
     more xs x p r u h g =
         let l : length (xs ++ (x ∷ [])) ≡ length xs + 1 = length-append xs (x ∷ []) in
         let a : r ≡ p + w * length xs = h .1 in
-        let b : u ≡ r + w = g .1 in
-        (
+        let b : u ≡ r + w = g .1 in (
           ap (λ z. z ++ (x ∷ [])) (h .0) ∙ ap (λ z. entries view w (length xs) p ++ (z ∷ [])) (g .0 ∙ ap view a)
-          ∙ sym (entries-more view w (length xs) p) ∙ ap (λ n. entries view w n p) (sym l),
+              ∙ sym (entries-more view w (length xs) p) ∙ ap (λ n. entries view w n p) (sym l),
           rw l (omega arith),
         )
 

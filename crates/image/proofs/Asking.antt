@@ -22,11 +22,13 @@ use Rattle.image.proofs.RoundTrip.{parted}
 -- the first n positions, as they are lent
 taken : {A : Type 0} (view : ℕ → A) (s starts : List ℕ) {xs : List A} {n : ℕ} → n ≡ length xs → Listed view s starts xs
     → (map view (take n starts) ≡ xs) × AllWithin s (take n starts)
-taken view s starts {xs} {n} e l =
-    (subst (λ k. map view (take k starts) ≡ xs) (sym e) (l .placed), λ k lt.
-    let h = length-take n starts in
-    let b : k < n = omega arith in
-    subst (λ x. x < length s) (sym (getD-take n starts k 0 b)) (l .within k (omega arith)))
+taken view s starts {xs} {n} e l = (
+  subst (λ k. map view (take k starts) ≡ xs) (sym e) (l .placed),
+  λ k lt.
+      let h = length-take n starts in
+      let b : k < n = omega arith in
+      subst (λ x. x < length s) (sym (getD-take n starts k 0 b)) (l .within k (omega arith)),
+)
 
 -- what `should_auto_delete`, `method_modifier`, `is_compiler_temp_name` and `is_move` require, and which tables they then ask
 pub record Asking (s : List ℕ) (i : Image) (l : Layout) : Type 0 where

@@ -72,7 +72,11 @@ image-parted L s i n e =
       short = leb-true _ _ (m .0);
       counted = eqb-true _ _ (m .1);
       version = eqb-true _ _ (h .0);
-      p = p; q = q; r = r; u = u; v = v;
+      p = p;
+      q = q;
+      r = r;
+      u = u;
+      v = v;
       names = e1;
       types = e3;
       structs = e5;

@@ -108,7 +108,7 @@ globals-stand names s at gs q e =
     let f = field-ok (g .2) in
     let m = table-entries (globalAt names s) (globalIn s) 6 (global-in names s) (g .0) (g .1) gs q (g .4) in
     let h = table-all (globalAt names s) (λ x p r. r ≤ length s) (λ xs o r. o ≤ length s → r ≤ length s) (λ p le. le) (λ xs x p r u a b le. b)
-        (global-fits names s) [] (g .0) (g .1) (g .1) gs q (λ le. le) (g .4) in
+    (global-fits names s) [] (g .0) (g .1) (g .1) gs q (λ le. le) (g .4) in
     let e1 : g .1 ≡ at + 2 = f .end in
     let e2 : q ≡ g .1 + 6 * length gs = m .1 in
     let l = f .fits in
@@ -304,6 +304,8 @@ type-limit names s at ts p e =
 pub names-lent : (s starts : List ℕ) {ns : List (List ℕ)} {n : ℕ} → Listed (nameOf s) s starts ns → length ns ≡ n → 0 < n → n ≤ length starts
     → (0 < length (take n starts)) × Within s (take n starts) (length (take n starts))
 names-lent s starts {ns} {n} l e pos le =
-    let k : length (take n starts) ≡ n = length-take-le n starts le in
-    (omega arith, λ i lt. let h : i < n = omega arith in
-    subst (λ x. x < length s) (sym (getD-take n starts i 0 h)) (l .within i (omega arith)))
+    let k : length (take n starts) ≡ n = length-take-le n starts le in (
+      omega arith,
+      λ i lt. let h : i < n = omega arith in
+          subst (λ x. x < length s) (sym (getD-take n starts i 0 h)) (l .within i (omega arith)),
+    )

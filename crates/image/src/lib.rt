@@ -78,7 +78,14 @@ fn read_body(s: &[u8], flags: &[u8], env: body::Env, at: usize) -> fields::Read
 fn no_rest(fault: u8) -> Rest
     ensures { λ r. ⌜ r .fault ≡ fault ⌝ }
 {
-    Rest { fault, struct_count: 0, globals: 0, global_count: 0, entry: 0, body: 0 }
+    Rest {
+        fault,
+        struct_count: 0,
+        globals: 0,
+        global_count: 0,
+        entry: 0,
+        body: 0,
+    }
 }
 
 // What follows the names and the types.
@@ -99,12 +106,23 @@ fn read_rest(s: &[u8], names: &[usize], flags: &[u8], structs: &mut [usize], at:
     let fields::Read::Next(r) = entry else {
         return no_rest(fault(entry));
     };
-    let env = body::Env { names: names.len(), types: flags.len(), depth: 24 };
+    let env = body::Env {
+        names: names.len(),
+        types: flags.len(),
+        depth: 24,
+    };
     let whole = read_body(s, flags, env, r);
     let fields::Read::Next(_) = whole else {
         return no_rest(fault(whole));
     };
-    Rest { fault: 0, struct_count, globals: p + 2, global_count, entry: q, body: r }
+    Rest {
+        fault: 0,
+        struct_count,
+        globals: p + 2,
+        global_count,
+        entry: q,
+        body: r,
+    }
 }
 
 // The fault of an answer, or 0.
@@ -134,7 +152,14 @@ fn refusal(fault: u8) -> ImageRead
     let types = [0usize; 256];
     let structs = [0usize; 64];
     let rest = no_rest(fault);
-    let layout = Layout { names, name_count: 0, types, type_count: 0, structs, rest };
+    let layout = Layout {
+        names,
+        name_count: 0,
+        types,
+        type_count: 0,
+        structs,
+        rest,
+    };
     ImageRead { fault, layout }
 }
 
@@ -158,12 +183,25 @@ pub fn read_image(s: &[u8]) -> ImageRead
         return refusal(wrong(type_table));
     };
     let mut structs = [0usize; 64];
-    let rest = read_rest(s, &names[..name_count], &flags[..type_count], &mut structs, q);
+    let rest = read_rest(
+        s,
+        &names[..name_count],
+        &flags[..type_count],
+        &mut structs,
+        q,
+    );
     let found = rest.fault;
     if 0 < found {
         return refusal(found);
     }
-    let layout = Layout { names, name_count, types, type_count, structs, rest };
+    let layout = Layout {
+        names,
+        name_count,
+        types,
+        type_count,
+        structs,
+        rest,
+    };
     ImageRead { fault: 0, layout }
 }
 

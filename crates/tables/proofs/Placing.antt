@@ -45,9 +45,11 @@ module _ {A : Type 0} (f : List A → ℕ → Parsed A) (view : ℕ → A) (s : 
     pub placing-done : n ≤ i → (Is n p ≡ tableOf (tableFrom f [] n at)) × Lists (tableFrom f [] n at) starts
     placing-done le =
         let g = filling-done f (inv .fill) le in
-        let m = inv .fill .many in
-        (is-table (g .0) (g .1), λ ys next y. let e : xs ≡ ys = (let z = g .0 in cc) in
-        subst (Listed view s starts) e (record { placed = rw m (inv .placed); within = rw m (inv .within) }))
+        let m = inv .fill .many in (
+          is-table (g .0) (g .1),
+          λ ys next y. let e : xs ≡ ys = (let z = g .0 in cc) in
+              subst (Listed view s starts) e (record { placed = rw m (inv .placed); within = rw m (inv .within) }),
+        )
 
     pub placing-next : {x : A} {q : ℕ} → i < n → p < length s → f (xs) p ≡ ok x q → x ≡ view p
         → Placing n at (set starts i p) (i + 1) q (xs ++ (x ∷ []))

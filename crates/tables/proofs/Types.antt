@@ -150,9 +150,14 @@ module _ (names : ℕ) (s : List ℕ) where
     pub flagging-done : n ≤ i → (Is n p ≡ tableOf (tableFrom (typeAt names s) [] n at)) × Flags names s (tableFrom (typeAt names s) [] n at) starts flags
     flagging-done le =
         let g = placing-done (typeAt names s) (typeIn s) s (inv .place) le in
-        let z = filling-done (typeAt names s) (inv .place .fill) le .0 in
-        (g .0, λ ts next y. (g .1 ts next y, let e : inv .ts ≡ ts = cc in
-        subst (λ x. take (length x) flags ≡ genericFlags [] x) e (rw (inv .place .fill .many) (inv .flagged))))
+        let z = filling-done (typeAt names s) (inv .place .fill) le .0 in (
+          g .0,
+          λ ts next y. (
+            g .1 ts next y,
+            let e : inv .ts ≡ ts = cc in
+                subst (λ x. take (length x) flags ≡ genericFlags [] x) e (rw (inv .place .fill .many) (inv .flagged)),
+          ),
+        )
 
     pub flagging-next : {t : Ty} {q f : ℕ} → i < n → typeAt names s (inv .ts) p ≡ ok t q
         → f ≡ cond (eqb (t .kind) 2) 1 (cond (eqb (t .kind) 4) (getD flags (t .of) 0) 0)

@@ -110,7 +110,13 @@ fn read_struct_rest(s: &[u8], names: usize, name: usize, at: usize) -> fields::N
         fields::Number::Is(_, p) => match fields::field(s, 5, 65536, 2, p) {
             fields::Number::Wrong(f) => fields::Number::Wrong(f),
             fields::Number::Is(_, q) => {
-                let methods = Layout { fault: 5, names, limit: 4, width: 1, distinct: true };
+                let methods = Layout {
+                    fault: 5,
+                    names,
+                    limit: 4,
+                    width: 1,
+                    distinct: true,
+                };
                 match read_named_table(s, methods, 33, q) {
                     fields::Number::Wrong(f) => fields::Number::Wrong(f),
                     fields::Number::Is(_, r) => fields::Number::Is(name, r),
@@ -139,7 +145,13 @@ fn read_struct(s: &[u8], names: &[usize], i: usize, last: usize, at: usize) -> f
 }
 
 // So many structs, and their positions.
-fn fill_structs(s: &[u8], names: &[usize], structs: &mut [usize], n: usize, at: usize) -> fields::Number
+fn fill_structs(
+    s: &[u8],
+    names: &[usize],
+    structs: &mut [usize],
+    n: usize,
+    at: usize,
+) -> fields::Number
     requires { ⌜ (n ≤ length (now structs)) × (0 < length (now names)) × Within (now s) (now names) (length (now names)) ⌝ }
     ensures { λ r. ⌜ r ≡ tableOf (tableFrom (structAt version1 (map (nameOf (now (s .entry))) (now (names .entry))) (now (s .entry))) [] n at) ⌝ }
     ensures structs { λ r. ⌜ ((ss : List Struct) (next : ℕ)
@@ -183,7 +195,13 @@ pub fn read_structs(s: &[u8], names: &[usize], structs: &mut [usize], at: usize)
 pub fn read_globals(s: &[u8], names: usize, at: usize) -> fields::Number
     ensures { λ r. ⌜ r ≡ tableOf (globalsAt version1 names (now (s .entry)) at) ⌝ }
 {
-    let globals = Layout { fault: 6, names, limit: 4294967296, width: 4, distinct: true };
+    let globals = Layout {
+        fault: 6,
+        names,
+        limit: 4294967296,
+        width: 4,
+        distinct: true,
+    };
     read_named_table(s, globals, 65, at)
 }
 
@@ -200,10 +218,22 @@ pub fn read_entry(s: &[u8], names: usize, types: usize, at: usize) -> fields::Re
 {
     match fields::field(s, 7, 5, 1, at) {
         fields::Number::Wrong(f) => fields::Read::Fault(f),
-        fields::Number::Is(receiver, p) => match fields::field(s, 7, types, this_width(receiver), p) {
+        fields::Number::Is(receiver, p) => match fields::field(
+            s,
+            7,
+            types,
+            this_width(receiver),
+            p,
+        ) {
             fields::Number::Wrong(f) => fields::Read::Fault(f),
             fields::Number::Is(_, q) => {
-                let params = Layout { fault: 7, names, limit: types, width: 2, distinct: false };
+                let params = Layout {
+                    fault: 7,
+                    names,
+                    limit: types,
+                    width: 2,
+                    distinct: false,
+                };
                 match read_named_table(s, params, 17, q) {
                     fields::Number::Wrong(f) => fields::Read::Fault(f),
                     fields::Number::Is(_, r) => fields::Read::Next(r),

@@ -95,7 +95,14 @@ fn read_type(s: &[u8], names: usize, i: usize, at: usize) -> TypeRead
 }
 
 // So many types, their positions and their flags.
-fn fill_types(s: &[u8], starts: &mut [usize], flags: &mut [u8], names: usize, n: usize, at: usize) -> fields::Number
+fn fill_types(
+    s: &[u8],
+    starts: &mut [usize],
+    flags: &mut [u8],
+    names: usize,
+    n: usize,
+    at: usize,
+) -> fields::Number
     requires { ⌜ (n ≤ length (now starts)) × (n ≤ length (now flags)) ⌝ }
     ensures { λ r. ⌜ r ≡ tableOf (tableFrom (typeAt names (now (s .entry))) [] n at) ⌝ }
     ensures filled { λ r. ⌜ ((ts : List Ty) (next : ℕ) → tableFrom (typeAt names (now (s .entry))) [] n at ≡ ok ts next
@@ -122,7 +129,13 @@ fn fill_types(s: &[u8], starts: &mut [usize], flags: &mut [u8], names: usize, n:
 
 // The table of types: its count and the position after it. The types' positions go to `starts`, and to `flags`, for each of them, 1
 // if it is generic, perhaps behind pointers.
-pub fn read_types(s: &[u8], starts: &mut [usize], flags: &mut [u8], names: usize, at: usize) -> fields::Number
+pub fn read_types(
+    s: &[u8],
+    starts: &mut [usize],
+    flags: &mut [u8],
+    names: usize,
+    at: usize,
+) -> fields::Number
     requires { ⌜ (256 ≤ length (now starts)) × (256 ≤ length (now flags)) ⌝ }
     ensures { λ r. ⌜ r ≡ tableOf (typesAt version1 names (now (s .entry)) at) ⌝ }
     ensures filled { λ r. ⌜ ((ts : List Ty) (next : ℕ) → typesAt version1 names (now (s .entry)) at ≡ ok ts next
