@@ -16,7 +16,7 @@ ghost use Rattle.tables.specs.Answer.{Within, Listed, structNameOf, Ends
 
 // How a table of names with numbers is read: its fault, how many names there are, the numbers' limit and width, and whether the
 // names differ.
-struct Layout {
+struct NamedFormat {
     fault: u8,
     names: usize,
     limit: usize,
@@ -25,7 +25,7 @@ struct Layout {
 }
 
 // Whether a name is one of i that must differ from it.
-fn taken(s: &[u8], t: Layout, i: usize, first: usize, name: usize) -> bool
+fn taken(s: &[u8], t: NamedFormat, i: usize, first: usize, name: usize) -> bool
     requires { ⌜ (first + (2 + t .width) * i ≤ length (now s)) × (t .width ≤ 4) ⌝ }
     ensures { λ r. ⌜ r ≡ (t .distinct && member eqb (entries (two (now (s .entry))) (2 + t .width) i first) name) ⌝ }
 {
@@ -36,7 +36,7 @@ fn taken(s: &[u8], t: Layout, i: usize, first: usize, name: usize) -> bool
 }
 
 // The entry after i entries that stand from `first` on.
-fn read_named(s: &[u8], t: Layout, i: usize, first: usize, at: usize) -> fields::Read
+fn read_named(s: &[u8], t: NamedFormat, i: usize, first: usize, at: usize) -> fields::Read
     requires { ⌜ (first + (2 + t .width) * i ≤ length (now s)) × (t .width ≤ 4) ⌝ }
     ensures { λ r. ⌜ ((xs : List Named) → xs ≡ entries (namedIn (t .width) (now (s .entry))) (2 + t .width) i first
         → r ≡ readOf (namedAt (t .fault) (t .names) (t .limit) (t .width) (t .distinct) (now (s .entry)) xs at)) ⌝ }
@@ -57,7 +57,7 @@ fn read_named(s: &[u8], t: Layout, i: usize, first: usize, at: usize) -> fields:
 }
 
 // So many entries.
-fn fill_named(s: &[u8], t: Layout, n: usize, first: usize) -> fields::Number
+fn fill_named(s: &[u8], t: NamedFormat, n: usize, first: usize) -> fields::Number
     requires { ⌜ (first ≤ length (now s)) × (t .width ≤ 4) ⌝ }
     ensures { λ r. ⌜ r ≡ tableOf (tableFrom (namedAt (t .fault) (t .names) (t .limit) (t .width) (t .distinct) (now (s .entry))) [] n first) ⌝ }
 {
@@ -78,7 +78,7 @@ fn fill_named(s: &[u8], t: Layout, n: usize, first: usize) -> fields::Number
 }
 
 // A table of fewer than `limit` entries: its count and the position after it.
-fn read_named_table(s: &[u8], t: Layout, limit: usize, at: usize) -> fields::Number
+fn read_named_table(s: &[u8], t: NamedFormat, limit: usize, at: usize) -> fields::Number
     requires { ⌜ t .width ≤ 4 ⌝ }
     ensures { λ r. ⌜ r ≡ tableOf (tableAt (t .fault) 0 limit (namedAt (t .fault) (t .names) (t .limit) (t .width) (t .distinct) (now (s .entry))) (now (s .entry)) at) ⌝ }
 {
@@ -110,7 +110,7 @@ fn read_struct_rest(s: &[u8], names: usize, name: usize, at: usize) -> fields::N
         fields::Number::Is(_, p) => match fields::field(s, 5, 65536, 2, p) {
             fields::Number::Wrong(f) => fields::Number::Wrong(f),
             fields::Number::Is(_, q) => {
-                let methods = Layout {
+                let methods = NamedFormat {
                     fault: 5,
                     names,
                     limit: 4,
@@ -195,7 +195,7 @@ pub fn read_structs(s: &[u8], names: &[usize], structs: &mut [usize], at: usize)
 pub fn read_globals(s: &[u8], names: usize, at: usize) -> fields::Number
     ensures { λ r. ⌜ r ≡ tableOf (globalsAt version1 names (now (s .entry)) at) ⌝ }
 {
-    let globals = Layout {
+    let globals = NamedFormat {
         fault: 6,
         names,
         limit: 4294967296,
@@ -227,7 +227,7 @@ pub fn read_entry(s: &[u8], names: usize, types: usize, at: usize) -> fields::Re
         ) {
             fields::Number::Wrong(f) => fields::Read::Fault(f),
             fields::Number::Is(_, q) => {
-                let params = Layout {
+                let params = NamedFormat {
                     fault: 7,
                     names,
                     limit: types,
