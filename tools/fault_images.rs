@@ -97,6 +97,13 @@ fn names(list: &[&[u8]]) -> Bytes {
     counted(&list.iter().map(|b| name(b)).collect::<Vec<_>>())
 }
 
+// `this`, and names of 64 bytes, `n` in all, any two alike in their first 62: the dearest to compare.
+fn long_names(n: usize) -> Bytes {
+    let other = |i: usize| name(&cat(&[vec![b'x'; 62], vec![b'a' + (i / 26) as u8, b'a' + (i % 26) as u8]]));
+    let list = (0..n).map(|i| if i == 0 { name(b"this") } else { other(i) });
+    counted(&list.collect::<Vec<_>>())
+}
+
 // `this`, and names of two letters, `n` in all.
 fn many_names(n: usize) -> Bytes {
     let other = |i: usize| name(&[b'a' + (i / 26) as u8, b'a' + (i % 26) as u8]);
@@ -274,6 +281,7 @@ fn name_tables(c: &mut Cases) {
     add("one of 255 bytes", Refused(3), names(&[b"this", &[b'x'; 255]]));
     add("this twice", Refused(3), names(&[b"this", b"this"]));
     add("x twice", Refused(3), names(&[b"this", b"x", b"y", b"x"]));
+    add("512 of 64 bytes that differ at the end", Accepted, long_names(512));
     let last = |b: &[u8]| cat(&[n2(512), many_names(511)[2..].to_vec(), name(b)]);
     add("the last of 512 as the second", Refused(3), last(b"ab"));
     add("the last of 512 as no other", Accepted, last(b"zz"));
