@@ -1,10 +1,10 @@
 -- What the bytes say where an expression stands.
 -- Assumes nothing.
-use mathlib.Core.Path.{_≡_, refl, sym, ap, _∙_, subst}
+use mathlib.Core.Path.{_≡_, refl, sym, ap, _∙_, subst, subst₂}
 use mathlib.Core.List.{List, [], _∷_}
 use mathlib.Core.Bool.{Bool, true, false, not, _&&_}
 use mathlib.Core.Logic.{_⊎_, ⊎-elim}
-use Prim.Native.Nat.{ℕ, _+_, _-_, _≤_, _<_}
+use Prim.Native.Nat.{ℕ, suc, _+_, _-_, _≤_, _<_}
 use native.Mathlib.Omega.{arith}
 use lib.ListN.{length, getD, replicate}
 use lib.Dec.{T, eqb, eqb→eq}
@@ -16,7 +16,7 @@ use Rattle.fields.specs.Number.{two, numberIn}
 use Rattle.fields.proofs.Tests.{split, less, and-true}
 use Rattle.fields.proofs.Numbers.{past-end}
 use Rattle.fields.proofs.Rules.{at}
-use Rattle.body.specs.Expr.{Head, Expr, Exprs, node, none, more, argWidth, fixedCount, lastWidth, headOf, childrenOf, noopUnary, through, throughFirst, genericReceiver, genericCallee}
+use Rattle.body.specs.Expr.{Head, Expr, Exprs, node, none, more, argWidth, fixedCount, countWidth, lastWidth, headOf, childrenOf, noopUnary, through, throughFirst, genericReceiver, genericCallee}
 use Rattle.body.specs.Stands.{Stands, StandAll, HeadStands, Placed, count}
 use Rattle.body.specs.Node.{nodeOf, nodeAt, kindOf}
 use Rattle.body.specs.declared.Node.{Node}
@@ -99,17 +99,30 @@ through-noop : (h : Head) (c : Expr) (cs xs : Exprs) → h .tag ≡ 3 → h .arg
 unfolding through throughFirst
 through-noop h c cs xs e3 e0 = rw (e3, e0)
 
--- an operator-less unary: what it looks through to stands 8 bytes on
+-- the only child of a Unary ends where the Unary does
+only-child : (s : List ℕ) (p n : ℕ) (h : Head) (ks xs : Exprs) → Stands (node h ks xs) s p n → h .tag ≡ 3
+    → (c : Expr) × (cs : Exprs) × (ks ≡ more c cs) × Stands c s (p + 8) n
+unfolding Stands StandAll argWidth fixedCount countWidth lastWidth
+only-child s p n h none xs g t = let z : _≡_ {A = ℕ} 0 1 = rw t at (g .3) in absurd (omega arith)
+only-child s p n h (more c (more d ds)) xs g t = let z : suc (suc (count ds)) ≡ 1 = rw t at (g .3) in absurd (omega arith)
+only-child s p n h (more c none) (more x xs) g t = let z : suc (count xs) ≡ 0 = rw t at (g .5) in absurd (omega arith)
+only-child s p n h (more c none) none g t =
+    let a : p + 7 + getD argWidth (h .tag) 0 ≡ p + 8 = rw t (omega arith) in
+    let b : g .0 ≡ g .4 .0 = g .4 .2 in
+    let u : g .1 ≡ g .0 + 0 = rw t at (g .6) in
+    let m : n ≡ g .1 + 0 = rw t at (g .7) in
+    let e : g .4 .0 ≡ n = omega arith in
+    (c, none, refl, subst₂ (λ x y. Stands c s x y) a e (g .4 .1))
+
+-- an operator-less unary: what it looks through to stands 8 bytes on, and ends where it does
 pub step : (s : List ℕ) (p n : ℕ) (e : Expr) → Stands e s p n → getD s p 0 ≡ 3 → getD s (p + 7) 0 ≡ 0
-    → (c : Expr) × Placed s (p + 8) c × (through c ≡ through e)
-unfolding argWidth fixedCount
+    → (c : Expr) × Stands c s (p + 8) n × (through c ≡ through e)
 step s p n (node h ks xs) g e3 e0 =
     let w = head-at s p n (node h ks xs) g in
     let t3 : h .tag ≡ 3 = sym (w .1 .tag) ∙ e3 in
     let a0 : h .arg ≡ 0 = op-at s p (w .0) h (w .1) t3 ∙ e0 in
-    let f = first-child s p n h ks xs g (rw t3 (omega arith)) in
-    let at8 : p + 7 + getD argWidth (h .tag) 0 ≡ p + 8 = rw t3 (omega arith) in
-    (f .0, rw (← at8) (f .3), sym (ap (λ k. through (node h k xs)) (f .2) ∙ through-noop h (f .0) (f .1) xs t3 a0))
+    let f = only-child s p n h ks xs g t3 in
+    (f .0, f .3, sym (ap (λ k. through (node h k xs)) (f .2) ∙ through-noop h (f .0) (f .1) xs t3 a0))
 
 -- what the code sees of a Unary
 pub unary : (s : List ℕ) (p : ℕ) {v : Node} {op child : ℕ} → v ≡ nodeAt s p → v ≡ Unary op child
@@ -120,18 +133,18 @@ unary s p {op = op} {child = child} e f =
     let g : Unary op child ≡ nodeOf s p 3 = sym f ∙ e ∙ ap (nodeOf s p) (t .0) in
     (t .0, cc, cc, t .1)
 
--- the loop that looks through: what stands at p is, looked through, what stands at the start
+-- the loop that looks through: what stands at p is, looked through, what stands at the start, and ends where that does
 abbrev pub Looks : List ℕ → ℕ → ℕ → Type 0
-Looks s at p = (e : Expr) (next : ℕ) → Stands e s at next → (f : Expr) × Placed s p f × (through f ≡ through e)
+Looks s at p = (e : Expr) (next : ℕ) → Stands e s at next → (f : Expr) × Stands f s p next × (through f ≡ through e)
 
 abbrev pub Looked : List ℕ → ℕ → ℕ → Type 0
-Looked s at p = (e : Expr) (next : ℕ) → Stands e s at next → Placed s p (through e)
+Looked s at p = (e : Expr) (next : ℕ) → Stands e s at next → Stands (through e) s p next
 
 module _ (s : List ℕ) (at p : ℕ) (inv : Looks s at p) {v : Node} (ev : v ≡ nodeAt s p) where
   ends-here : (getD s p 0 ≡ 3 → getD s (p + 7) 0 ≡ 0 → ⊥) → Looked s at p
   ends-here never e next g =
       let w = inv e next g in
-      subst (Placed s p) (sym (stop s p (w .1 .next) (w .0) (w .1 .stands) never) ∙ w .2) (w .1)
+      subst (λ x. Stands x s p next) (sym (stop s p next (w .0) (w .1) never) ∙ w .2) (w .1)
 
   pub no-unary : OneOf (others 3) (tagOf the-type v) → Looked s at p
   unfolding nodeOf
@@ -145,8 +158,8 @@ module _ (s : List ℕ) (at p : ℕ) (inv : Looks s at p) {v : Node} (ev : v ≡
     again le e next g =
         let u = unary s p ev eu in
         let w = inv e next g in
-        let z = step s p (w .1 .next) (w .0) (w .1 .stands) (u .0) (omega arith) in
-        (z .0, subst (λ x. Placed s x (z .0)) (sym (u .2)) (z .1), z .2 ∙ w .2)
+        let z = step s p next (w .0) (w .1) (u .0) (omega arith) in
+        (z .0, subst (λ x. Stands (z .0) s x next) (sym (u .2)) (z .1), z .2 ∙ w .2)
 
 first-of : (s : List ℕ) (p n : ℕ) (f : Expr) → Stands f s p n → headOf f .tag ≡ 11 → (c : Expr) × (cs : Exprs) × (childrenOf f ≡ more c cs) × Placed s (p + 7) c
 unfolding argWidth fixedCount
@@ -165,8 +178,7 @@ module _ (g s : List ℕ) (at p : ℕ) (looked : Looked s at p) {v : Node} (ev :
   pub no-field : OneOf (others 11) (tagOf the-type v) → (e : Expr) (next : ℕ) → Stands e s at next → false ≡ genericReceiver g e
   unfolding genericReceiver nodeOf
   no-field h e next st =
-      let w = looked e next st in
-      let hd = head-at s p (w .next) (through e) (w .stands) in
+      let hd = head-at s p next (through e) (looked e next st) in
       let ne : eqb (headOf (through e) .tag) 11 ≡ false = ne-eqb _ 11 (λ t. not-kind 11 tt s p ev refl h (hd .1 .tag ∙ t)) in
       rw ne
 
@@ -183,9 +195,9 @@ module _ (g s : List ℕ) (at p : ℕ) (looked : Looked s at p) {v : Node} (ev :
       target-of : (c : Expr) × (cs : Exprs) × (headOf (through e) .tag ≡ 11) × (childrenOf (through e) ≡ more c cs) × Placed s target c
       target-of =
           let l = looked e next st in
-          let hd = head-at s p (l .next) (through e) (l .stands) in
+          let hd = head-at s p next (through e) l in
           let t : headOf (through e) .tag ≡ 11 = sym (hd .1 .tag) ∙ field .1 in
-          let f = first-of s p (l .next) (through e) (l .stands) t in
+          let f = first-of s p next (through e) l t in
           (f .0, f .1, t, f .2, subst (λ x. Placed s x (f .0)) (sym (field .0)) (f .3))
 
       pub no-ident : OneOf (others 1) (tagOf the-type w) → false ≡ genericReceiver g e
@@ -193,7 +205,7 @@ module _ (g s : List ℕ) (at p : ℕ) (looked : Looked s at p) {v : Node} (ev :
       no-ident h =
           let f = target-of in
           let l = inner (f .0) (f .4 .next) (f .4 .stands) in
-          let hd = head-at s q (l .next) (through (f .0)) (l .stands) in
+          let hd = head-at s q (f .4 .next) (through (f .0)) l in
           let ne : eqb (headOf (through (f .0)) .tag) 1 ≡ false = ne-eqb _ 1 (λ t. not-kind 1 tt s q ew refl h (hd .1 .tag ∙ t)) in
           sym (receiver g e (f .0) (f .1) (f .2) (f .3) ∙ ap (λ x. x && (eqb (getD g (headOf (f .0) .ty) 0) 1)) ne)
 
@@ -201,7 +213,7 @@ module _ (g s : List ℕ) (at p : ℕ) (looked : Looked s at p) {v : Node} (ev :
       ident {name} ei =
           let f = target-of in
           let l = inner (f .0) (f .4 .next) (f .4 .stands) in
-          let hd = head-at s q (l .next) (through (f .0)) (l .stands) in
+          let hd = head-at s q (f .4 .next) (through (f .0)) l in
           let hc = head-at s target (f .4 .next) (f .0) (f .4 .stands) in
           let t = tag-of s q (Ident name) (sym ei ∙ ew) (omega arith) in
           let eq : eqb (headOf (through (f .0)) .tag) 1 ≡ true = eq-eqb _ 1 (sym (hd .1 .tag) ∙ t .0) in

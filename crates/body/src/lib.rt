@@ -10,7 +10,7 @@ ghost use Rattle.body.specs.Expr.{Head, Expr, Exprs, fixedCount, argLimi
 ghost use Rattle.body.specs.Stmt.{StmtHead, Front, bindsOk, stmtHeadAt, valuesAt, frontAt, blockAt, stmtIn, backIn, stmtsAt, blocksAt};
 ghost use Rattle.body.specs.Node.{nodeAt};
 ghost use Rattle.body.specs.StmtNode.{stmtNodeAt};
-ghost use Rattle.body.specs.Stands.{Stands, StandAll, Placed, count};
+ghost use Rattle.body.specs.Stands.{Stands, StandAll, count};
 ghost use Rattle.body.specs.Depth.{Walkable, WalkableAll};
 ghost use Rattle.body.specs.Answer.{scopeOf, startOf, stmtStartOf, frontOf};
 use fields::Number;
@@ -137,7 +137,7 @@ fn read_head(s: &[u8], env: Env, at: usize) -> Start
     }
 }
 
-// The node at a position; Other where none stands.
+// The node of the tag at a position, whatever follows it; Other past the end and for any other byte.
 pub fn node_at(s: &[u8], at: usize) -> Node
     ensures { λ r. ⌜ r ≡ nodeAt (now (s .entry)) at ⌝ }
 {
@@ -165,9 +165,9 @@ pub fn node_at(s: &[u8], at: usize) -> Node
     }
 }
 
-// The position of an expression looked through: past its operator-less unaries.
+// The position of an expression looked through: past its operator-less unaries. What stands there ends where the expression does.
 pub fn strip_noop_unary(s: &[u8], at: usize) -> usize
-    ensures { λ r. ⌜ ((e : Expr) (next : ℕ) → Stands e (now (s .entry)) at next → Placed (now (s .entry)) r (through e)) ⌝ }
+    ensures { λ r. ⌜ ((e : Expr) (next : ℕ) → Stands e (now (s .entry)) at next → Stands (through e) (now (s .entry)) r next) ⌝ }
 {
     let mut p = at;
     loop {
@@ -432,7 +432,7 @@ fn peek_four(s: &[u8], at: usize) -> usize
     peek_two(s, at) * 65536 + peek_two(s, at + 2)
 }
 
-// The head of the statement at a position; Other where none stands.
+// The head of the statement of the tag at a position, whatever follows it; Other past the end and for any other byte.
 pub fn stmt_at(s: &[u8], at: usize) -> StmtNode
     ensures { λ r. ⌜ r ≡ stmtNodeAt (now (s .entry)) at ⌝ }
 {

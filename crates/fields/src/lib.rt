@@ -80,7 +80,7 @@ fn number_in(s: &[u8], k: usize, at: usize) -> usize
     0
 }
 
-// A number of k bytes below a limit, or the fault.
+// A number of k bytes, k being 0, 1, 2 or 4, below a limit, or the fault.
 pub fn field(s: &[u8], fault: u8, limit: usize, k: usize, at: usize) -> Number
     ensures { λ r. ⌜ r ≡ numberOf (fieldAt fault limit k (now (s .entry)) at) ⌝ }
 {

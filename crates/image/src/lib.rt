@@ -23,7 +23,8 @@ pub struct Rest {
     pub body: usize,
 }
 
-// Where each name, type and struct starts, how many there are, and where the rest stands.
+// Positions where each name, type and struct stands, how many there are, and where the rest stands. Past the counts the positions
+// say nothing.
 pub struct Layout {
     pub names: [usize; 512],
     pub name_count: usize,
@@ -33,7 +34,7 @@ pub struct Layout {
     pub rest: Rest,
 }
 
-// The fault's number, or 0 and where everything stands.
+// The fault's number, or 0 and where everything stands. With a fault the layout says nothing.
 pub struct ImageRead {
     pub fault: u8,
     pub layout: Layout,

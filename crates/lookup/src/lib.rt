@@ -211,7 +211,7 @@ fn start_of(starts: &[usize], i: usize) -> usize
     if i < starts.len() { starts[i] } else { 0 }
 }
 
-// Whether the name of a number begins with `__tmp`.
+// Whether the name of a number, one of the table, begins with `__tmp`.
 pub fn is_compiler_temp_name(s: &[u8], names: &[usize], n: usize) -> bool
     requires { ⌜ AllWithin (now s) (now names) ⌝ }
     ensures { λ r. ⌜ r ≡ isTemp (nameOf (now (s .entry)) (getD (now (names .entry)) n 0)) ⌝ }
@@ -219,7 +219,7 @@ pub fn is_compiler_temp_name(s: &[u8], names: &[usize], n: usize) -> bool
     begins_with(s, start_of(names, n), b"__tmp")
 }
 
-// Whether the name of a number is `std::move`.
+// Whether the name of a number, one of the table, is `std::move`.
 pub fn is_move(s: &[u8], names: &[usize], n: usize) -> bool
     requires { ⌜ AllWithin (now s) (now names) ⌝ }
     ensures { λ r. ⌜ r ≡ isMove (nameOf (now (s .entry)) (getD (now (names .entry)) n 0)) ⌝ }

@@ -33,6 +33,6 @@ pub record Listed {A : Type 0} (view : ℕ → A) (s starts : List ℕ) (xs : Li
   pub placed : map view (take (length xs) starts) ≡ xs
   pub within : Within s starts (length xs)
 
--- there are i structs, and a name rises after them exactly if there are none or it is above the name `last`
+-- a name rises after the structs ss exactly if i is 0 or it is above the name `last`
 pub record Ends (ns : List (List ℕ)) (ss : List Struct) (i last : ℕ) : Type 0 where
   pub is : (name : ℕ) → rises ns ss name ≡ cond (eqb i 0) true (belowBytes (getD ns last []) (getD ns name []))

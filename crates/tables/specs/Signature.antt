@@ -56,7 +56,6 @@ rises ns [] name = true
 rises ns (x ∷ []) name = belowBytes (getD ns (x .name) []) (getD ns name [])
 rises ns (x ∷ y ∷ xs) name = rises ns (y ∷ xs) name
 
--- Structs: count to 64, rising by name bytes: name, destructor flag, shape (0: none), method count to 32, methods. Fault 5.
 -- what follows a struct's name
 unfoldable pub structRestAt : Limits → ℕ → List ℕ → ℕ → ℕ → Parsed Struct
 structRestAt L names s name p =
@@ -65,11 +64,13 @@ structRestAt L names s name p =
     bind (tableAt 5 0 (L .methods + 1) (methodAt names s) s r) (λ ms u.
     ok (record { name = name; destructor = destructor; shape = shape; methods = ms }) u)))
 
+-- Structs: name, destructor flag, shape (0: none), method count to 32, methods. Fault 5.
 unfoldable pub structAt : Limits → List (List ℕ) → List ℕ → List Struct → ℕ → Parsed Struct
 structAt L ns s ss at =
     bind (fieldAt 5 (length ns) 2 s at) (λ name p.
     ensure (rises ns ss name) 5 (structRestAt L (length ns) s name p))
 
+-- count to 64, rising by name bytes
 unfoldable pub structsAt : Limits → List (List ℕ) → List ℕ → ℕ → Parsed (List Struct)
 structsAt L ns s at = tableAt 5 0 (L .structs + 1) (structAt L ns s) s at
 
