@@ -1,6 +1,6 @@
 // How long reading an image takes: every image of crates/faults/data/images through `image_fault`, the slowest first.
 // At the root of the repository, once the crate `image` is proved:
-//   rt staticlib image && rustc -O --out-dir target bench/reading.rs -L target/staticlib -l static=image && target/reading
+//   rt staticlib image && rustc --edition 2021 -O --out-dir target bench/reading.rs -L target/staticlib -l static=image && target/reading
 use std::time::Instant;
 
 extern "C" {
