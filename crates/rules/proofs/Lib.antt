@@ -1,0 +1,10 @@
+pub mod Bools
+pub mod Relate
+pub mod Shapes
+pub mod Order
+pub mod Through
+pub mod Names
+pub mod Assigned
+pub mod Sound
+pub mod Demand
+pub mod Project
