@@ -8,3 +8,9 @@ pub mod Assigned
 pub mod Sound
 pub mod Demand
 pub mod Project
+pub mod Rows
+pub mod EffectRows
+pub mod Strike
+pub mod Returned
+pub mod RoomBound
+pub mod Count

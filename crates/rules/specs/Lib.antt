@@ -7,3 +7,4 @@ pub mod Rules
 pub mod Report
 pub mod Run
 pub mod Room
+pub mod Nodes

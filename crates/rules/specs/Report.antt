@@ -62,6 +62,18 @@ strike (jump k s r) = jump k s (strike r)
 abbrev pub returnedBody : Tables → Entry → Block → Block
 returnedBody T x b = record { span = b .span; code = flatten (decideBody T x b) }
 
+-- an image with other statements in its body
+abbrev pub withCode : Image → Tree → Image
+withCode i c = record { tables = i .tables; entry = i .entry; body = record { span = i .body .span; code = c } }
+
+-- the image that the pass gives back
+abbrev pub returnedImage : Image → Image
+returnedImage i = withCode i (flatten (decideBody (i .tables) (i .entry) (i .body)))
+
+-- and the one with the insertions struck out of it
+abbrev pub struckImage : Image → Image
+struckImage i = withCode i (strike (decideBody (i .tables) (i .entry) (i .body)))
+
 -- An error: kind, place, hint, other places. A warning: the statement's span, and where the callee's tag stands in the image. A
 -- left-behind entry: the return's span, and the name
 pub data Report : Type 0 where
