@@ -1,0 +1,16 @@
+pub mod Bools
+pub mod Relate
+pub mod Shapes
+pub mod Order
+pub mod Through
+pub mod Names
+pub mod Assigned
+pub mod Sound
+pub mod Demand
+pub mod Project
+pub mod Rows
+pub mod EffectRows
+pub mod Strike
+pub mod Returned
+pub mod RoomBound
+pub mod Count

@@ -1,0 +1,10 @@
+pub mod Questions
+pub mod Expr
+pub mod Stack
+pub mod State
+pub mod Effects
+pub mod Rules
+pub mod Report
+pub mod Run
+pub mod Room
+pub mod Nodes

@@ -1,0 +1,1 @@
+// Definitions and theorems only: the ownership pass on trees, runs of the returned body, and what holds of all of them.
