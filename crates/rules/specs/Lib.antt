@@ -8,3 +8,5 @@ pub mod Report
 pub mod Run
 pub mod Room
 pub mod Nodes
+pub mod Walk
+pub mod Verdict

@@ -1,0 +1,112 @@
+-- What an entry answers (document 01, "Faults" and "What is reported"), from the image's bytes and the lengths lent: the first fault of
+-- the table, or the totals, the bytes and the lists.
+use Prim.Native.Nat.{ℕ, _+_, _≤_}
+use mathlib.Core.Bool.{Bool, true, cond, _&&_}
+use mathlib.Core.List.{List, [], _∷_, _++_}
+use mathlib.Core.Option.{Option, some}
+use lib.ListN.{length, take, replicate}
+use lib.Dec.{leb}
+use Rattle.tables.specs.Limits.{Limits}
+use Rattle.encoding.specs.Body.{size}
+use Rattle.body.specs.Stmt.{Tree, done, exprStmt, variable, assign, return, bareReturn, block, ifElse, ifThen, while, jump}
+use Rattle.image.specs.Image.{Image, Decoded, accepted, refused, decode, encode}
+use Rattle.rules.specs.Report.{Report, error, warning, left, reports, errors, warnings, lefts, returnedImage}
+use Rattle.rules.specs.Room.{roomBound}
+use Rattle.rules.specs.Walk.{imageFault}
+
+-- what is lent: bytes of output, and entries of each list
+pub record Lent : Type 0 where
+  pub bytes : ℕ
+  pub errors : ℕ
+  pub warnings : ℕ
+  pub lefts : ℕ
+
+-- an entry of a list as numbers. An error: kind, place, hint, how many other places, and these with zeros up to the limit
+abbrev pub entryOf : Limits → Report → List ℕ
+entryOf L (error k p h ps) = k ∷ p ∷ h ∷ length ps ∷ take (L .places) (ps ++ replicate (L .places) 0)
+entryOf L (warning s o) = s ∷ o ∷ []
+entryOf L (left s n) = s ∷ n ∷ []
+
+abbrev pub entriesOf : Limits → List Report → List ℕ
+entriesOf L [] = []
+entriesOf L (r ∷ rs) = entryOf L r ++ entriesOf L rs
+
+-- the answer of an accepted image: the output's bytes, and the lists with how many entries each has
+pub record Answer : Type 0 where
+  pub output : List ℕ
+  pub errorCount : ℕ
+  pub warningCount : ℕ
+  pub leftCount : ℕ
+  pub errorNumbers : List ℕ
+  pub warningNumbers : List ℕ
+  pub leftNumbers : List ℕ
+
+abbrev pub answerOf : Limits → Image → Answer
+answerOf L i = record {
+  output = encode L (returnedImage i);
+  errorCount = length (errors (reports i));
+  warningCount = length (warnings (reports i));
+  leftCount = length (lefts (reports i));
+  errorNumbers = entriesOf L (errors (reports i));
+  warningNumbers = entriesOf L (warnings (reports i));
+  leftNumbers = entriesOf L (lefts (reports i));
+}
+
+-- every block counts at most 65,535 statements
+unfoldable pub countsFit : Tree → Bool
+countsFit (done x) = true
+countsFit (exprStmt s e y r) = countsFit r
+countsFit (variable k s n t e r) = countsFit r
+countsFit (assign s e v t x r) = countsFit r
+countsFit (return s e t x r) = countsFit r
+countsFit (bareReturn s t r) = countsFit r
+countsFit (block s c r) = leb (size c) 65535 && countsFit c && countsFit r
+countsFit (ifElse s e ts t us u r) = leb (size t) 65535 && leb (size u) 65535 && countsFit t && countsFit u && countsFit r
+countsFit (ifThen s e ts t r) = leb (size t) 65535 && countsFit t && countsFit r
+countsFit (while s e ts t r) = leb (size t) 65535 && countsFit t && countsFit r
+countsFit (jump k s r) = countsFit r
+
+abbrev pub imageCountsFit : Image → Bool
+imageCountsFit i = leb (size (i .body .code)) 65535 && countsFit (i .body .code)
+
+pub data Verdict : Type 0 where
+  refuses : ℕ → Verdict
+  answers : Answer → Verdict
+
+-- 14: errors, warnings or left-behind entries outnumber those lent
+abbrev pub listsFit : Lent → Answer → Bool
+listsFit lent a = leb (a .errorCount) (lent .errors) && leb (a .warningCount) (lent .warnings) && leb (a .leftCount) (lent .lefts)
+
+-- 15: the image does not fit the bytes lent, or a block would count too many statements
+abbrev pub outputFits : Lent → Image → Answer → Bool
+outputFits lent i a = leb (length (a .output)) (lent .bytes) && imageCountsFit (returnedImage i)
+
+-- lists, then output
+abbrev pub fitted : Lent → Image → Answer → Verdict
+fitted lent i a = cond (listsFit lent a) (cond (outputFits lent i a) (answers a) (refuses 15)) (refuses 14)
+
+-- faults 12 and 13, then the lists
+abbrev pub walked : Limits → Lent → Image → Option ℕ → Verdict
+walked L lent i (some n) = refuses n
+walked L lent i Option.none = fitted lent i (answerOf L i)
+
+abbrev pub decided : Limits → Lent → Decoded → Verdict
+decided L lent (refused n) = refuses n
+decided L lent (accepted i) = walked L lent i (imageFault L i)
+
+-- the entry that gives back the body
+unfoldable pub passVerdict : Limits → Lent → List ℕ → Verdict
+passVerdict L lent s = decided L lent (decode L s)
+
+-- the fault of the entry that answers the room: 1 to 13
+abbrev pub roomFaultOf : Limits → Decoded → Option ℕ
+roomFaultOf L (refused n) = some n
+roomFaultOf L (accepted i) = imageFault L i
+
+unfoldable pub roomFault : Limits → List ℕ → Option ℕ
+roomFault L s = roomFaultOf L (decode L s)
+
+-- Without a fault it answers a number that document 01 leaves free within these bounds
+pub record RoomFor (L : Limits) (i : Image) (n : ℕ) : Type 0 where
+  pub enough : length (encode L (returnedImage i)) ≤ n
+  pub most : n ≤ length (encode L i) + roomBound (i .entry) (i .body)
