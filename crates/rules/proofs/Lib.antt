@@ -15,3 +15,5 @@ pub mod Returned
 pub mod RoomBound
 pub mod Count
 pub mod OnBytes
+pub mod WalkRows
+pub mod Offsets

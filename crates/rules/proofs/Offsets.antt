@@ -1,0 +1,277 @@
+-- A warning's offset is where the callee's tag stands in the submitted image.
+-- Assumes nothing.
+use Prim.Native.Nat.{ℕ, suc, _+_}
+use native.Mathlib.Omega.{arith}
+use mathlib.Core.Path.{_≡_, refl, sym, ap, _∙_, subst}
+use mathlib.Core.Bool.{Bool, true, false, cond, _&&_}
+use mathlib.Core.List.{List, [], _∷_, _++_, append-nil, append-assoc}
+use mathlib.Core.Logic.{_⊎_, inl, inr, ⊎-elim}
+use borrow.Author.Tests.{eqb-true}
+use lib.ListN.{length, getD, length-append}
+use lib.Dec.{eqb}
+use lib.Seq.{drop-length}
+use Rattle.fields.specs.Bytes.{Bytes, twoBytes, fourBytes, numberBytes}
+use Rattle.fields.proofs.Tests.{split, and-true}
+use Rattle.tables.specs.Limits.{Limits}
+use Rattle.tables.specs.Tables.{Tables}
+use Rattle.body.specs.Expr.{Head, Expr, Exprs, node, none, more, argWidth, countWidth, lastWidth, noopUnary, through, throughFirst}
+use Rattle.body.specs.Stands.{count}
+use Rattle.encoding.specs.Body.{encodeExpr, encodeExprs, encodeCode, size, withCount, encodeBlock}
+use Rattle.encoding.specs.Tables.{encodeTables, encodeEntry}
+use Rattle.image.specs.Image.{Image, accepted, decode, encodeParts, encode}
+use Rattle.image.proofs.RoundTrip.{image-written}
+use Rattle.encoding.specs.Written.{Written}
+use Rattle.encoding.proofs.Parts.{first, second, being}
+use mathlib.Core.Option.{Option, some}
+use Rattle.body.specs.Stmt.{Tree, done, exprStmt, variable, assign, return, bareReturn, block, ifElse, ifThen, while, jump}
+use Rattle.rules.specs.Questions.{auto}
+use Rattle.rules.specs.Stack.{Local, local, Stack, shape, lookup}
+use Rattle.rules.specs.State.{State, alive, gone, deleted, moved, consumed}
+use Rattle.rules.specs.Effects.{Effect, use′, kill, hand, badMove, globalMove, effects, exprStmtEffects, assignEffects}
+use Rattle.rules.specs.Rules.{Drop, dropOf, states, apply, collect, joins, merge, sureFrom, evaluate, afterExpr, afterVariable, beforeAssign, afterAssign, exit, entered, localsOf}
+use Rattle.rules.specs.Report.{Report, error, warning, left, badUse, useOf, reportOf, reportAll, unused, leftBehind, exprBytes, codeBytes, report, bodyStart, reports}
+use Rattle.rules.specs.Expr.{tyOf, View, anIdent, aThis, aField, aDelete, aCall, other, viewOf, view, fieldView, deleteView, callView, calleeAt, calleeIn, isCall}
+
+-- an expression's encoding stands there
+pub record Stood (s : List ℕ) (at : ℕ) (e : Expr) : Type 0 where
+  pub end : ℕ
+  pub written : Written s at (encodeExpr e) end
+
+-- the first child of a node stands behind its head, whose argument takes w bytes
+first-child : (s : List ℕ) (p q : ℕ) (h : Head) (c : Expr) (cs xs : Exprs) (w : ℕ) → length (numberBytes (getD argWidth (h .tag) 0) (h .arg)) ≡ w
+    → Written s p (encodeExpr (node h (more c cs) xs)) q → Stood s (p + 7 + w) c
+unfolding encodeExpr twoBytes fourBytes
+first-child s p q h c cs xs w lw g =
+    let g1 = second (h .tag ∷ []) _ g in
+    let g2 = second (fourBytes (h .span)) _ g1 in
+    let g3 = second (twoBytes (h .ty)) _ g2 in
+    let g4 = second (numberBytes (getD argWidth (h .tag) 0) (h .arg)) _ g3 in
+    let g5 = first (encodeExprs (more c cs)) _ g4 in
+    let g6 = first (encodeExpr c) (encodeExprs cs) g5 in
+    let e : p + 1 + 4 + 2 + length (numberBytes (getD argWidth (h .tag) 0) (h .arg)) ≡ p + 7 + w = omega arith in
+    subst (λ x. Stood s x c) e (record { end = _; written = g6 })
+
+no-width : (h : Head) (k : ℕ) → h .tag ≡ k → getD argWidth k 0 ≡ 0 → length (numberBytes (getD argWidth (h .tag) 0) (h .arg)) ≡ 0
+unfolding numberBytes
+no-width h k e z = rw (e, z) refl
+
+one-width : (h : Head) → h .tag ≡ 3 → length (numberBytes (getD argWidth (h .tag) 0) (h .arg)) ≡ 1
+unfolding numberBytes argWidth
+one-width h e = rw e refl
+
+-- a node that is, as it stands, a call
+absurd-bool : {C : Type 0} → false ≡ true → C
+absurd-bool e = let z : _≡_ {A = ℕ} 0 1 = cc in absurd (omega arith)
+
+not-call : {C : Type 0} {f : Expr} (v : View) → isCall v ≡ false → v ≡ aCall f → C
+not-call v n e = absurd-bool (sym n ∙ ap isCall e)
+
+by-tag : (h : Head) (f : Expr) (a b c d k : Bool) → eqb (h .tag) 6 ≡ c → (ks : Exprs)
+    → cond a (anIdent (h .arg) (h .span)) (cond b (aThis (h .span)) (cond c (callView ks) (cond d (deleteView ks) (cond k (fieldView h ks) other)))) ≡ aCall f
+    → (h .tag ≡ 6) × (cs : Exprs) × (ks ≡ more f cs)
+by-tag h f true b c d k t ks e = not-call (anIdent (h .arg) (h .span)) refl e
+by-tag h f false true c d k t ks e = not-call (aThis (h .span)) refl e
+by-tag h f false false true d k t none e = not-call other refl e
+by-tag h f false false true d k t (more g gs) e = let z : g ≡ f = cc in (eqb-true _ _ t, gs, ap (λ x. more x gs) z)
+by-tag h f false false false true k t none e = not-call other refl e
+by-tag h f false false false true k t (more g gs) e = not-call (aDelete g) refl e
+by-tag h f false false false false true t none e = not-call other refl e
+by-tag h f false false false false true t (more g gs) e = not-call (aField (h .span) g (h .arg)) refl e
+by-tag h f false false false false false t ks e = not-call other refl e
+
+a-call : (h : Head) (ks xs : Exprs) (f : Expr) → viewOf (node h ks xs) ≡ aCall f → (h .tag ≡ 6) × (cs : Exprs) × (ks ≡ more f cs)
+a-call h ks xs f e = by-tag h f (eqb (h .tag) 1) (eqb (h .tag) 2) (eqb (h .tag) 6) (eqb (h .tag) 10) (eqb (h .tag) 11) refl ks e
+
+no-child : {C : Type 0} {f : Expr} {cs : Exprs} → none ≡ more f cs → C
+no-child e = let z : _≡_ {A = ℕ} 0 1 = cc in absurd (omega arith)
+
+-- the callee of a call that an expression is, looked through, stands where calleeAt says
+mutual
+  unfolding through calleeAt argWidth
+
+  pub callee-stands : (e f : Expr) (s : List ℕ) (p q : ℕ) → view e ≡ aCall f → Written s p (encodeExpr e) q → Stood s (calleeAt e p) f
+  callee-stands (node h ks xs) f s p q v g = callee-in ks (noopUnary h) h xs f s p q refl v g
+
+  callee-in : (ks : Exprs) (b : Bool) (h : Head) (xs : Exprs) (f : Expr) (s : List ℕ) (p q : ℕ) → noopUnary h ≡ b
+      → viewOf (throughFirst ks b (node h ks xs)) ≡ aCall f → Written s p (encodeExpr (node h ks xs)) q → Stood s (calleeIn ks b p) f
+  callee-in none b h xs f s p q n v g = no-child (a-call h none xs f v .2)
+  callee-in (more c cs) true h xs f s p q n v g =
+      let t : h .tag ≡ 3 = eqb-true _ _ (and-true (eqb (h .tag) 3) (eqb (h .arg) 0) n .0) in
+      let w = first-child s p q h c cs xs 1 (one-width h t) g in
+      let e : p + 7 + 1 ≡ p + 8 = omega arith in
+      callee-stands c f s (p + 8) (w .end) v (subst (λ x. Written s x (encodeExpr c) (w .end)) e (w .written))
+  callee-in (more c cs) false h xs f s p q n v g =
+      let a = a-call h (more c cs) xs f v in
+      let k : more c cs ≡ more f (a .1) = a .2 in
+      let z : c ≡ f = cc in
+      let w = first-child s p q h c cs xs 0 (no-width h 6 (a .0) refl) g in
+      let e : p + 7 + 0 ≡ p + 7 = omega arith in
+      subst (Stood s (p + 7)) z (subst (λ x. Stood s x c) e w)
+
+-- the callee of some call stands there
+pub record Callee (s : List ℕ) (at : ℕ) : Type 0 where
+  pub call : Expr
+  pub callee : Expr
+  pub is : view call ≡ aCall callee
+  pub stands : Stood s at callee
+
+-- every warning's offset is a callee's place
+unfoldable pub Warned : List ℕ → List Report → Type 0
+Warned s [] = Unit {0}
+Warned s (error k p h ps ∷ rs) = Warned s rs
+Warned s (warning p o ∷ rs) = Callee s o × Warned s rs
+Warned s (left p n ∷ rs) = Warned s rs
+
+both : (s : List ℕ) (xs ys : List Report) → Warned s xs → Warned s ys → Warned s (xs ++ ys)
+unfolding Warned
+both s [] ys a b = b
+both s (error k p h ps ∷ xs) ys a b = both s xs ys a b
+both s (warning p o ∷ xs) ys a b = (a .0, both s xs ys (a .1) b)
+both s (left p n ∷ xs) ys a b = both s xs ys a b
+
+-- errors and left-behind entries are no warnings
+of-use : (s : List ℕ) (p : ℕ) (a : State) → Warned s (badUse p a)
+unfolding Warned
+of-use s p alive = tt
+of-use s p (gone false deleted ps) = tt
+of-use s p (gone false moved ps) = tt
+of-use s p (gone false consumed ps) = tt
+of-use s p (gone true deleted ps) = tt
+of-use s p (gone true moved ps) = tt
+of-use s p (gone true consumed ps) = tt
+
+of-local : (s : List ℕ) (p : ℕ) (o : Option (Local State)) → Warned s (useOf p o)
+unfolding Warned
+of-local s p Option.none = tt
+of-local s p (some (local l a)) = of-use s p a
+
+of-effect : (s : List ℕ) (e : Effect) (σ : Stack State) → Warned s (reportOf e σ)
+unfolding Warned
+of-effect s (use′ n p) σ = of-local s p (lookup n σ)
+of-effect s (kill k n p) σ = tt
+of-effect s (hand n p) σ = tt
+of-effect s (badMove p h) σ = tt
+of-effect s (globalMove p g) σ = tt
+
+of-effects : (s : List ℕ) (es : List Effect) (σ : Stack State) → Warned s (reportAll es σ)
+unfolding Warned
+of-effects s [] σ = tt
+of-effects s (e ∷ es) σ = both s (reportOf e σ) (reportAll es (apply states e σ)) (of-effect s e σ) (of-effects s es (apply states e σ))
+
+of-left : (s : List ℕ) (p : ℕ) (ds : List Drop) → Warned s (leftBehind p ds)
+unfolding Warned
+of-left s p [] = tt
+of-left s p (dropOf q n t ∷ ds) = of-left s p ds
+
+is-call : (v : View) → isCall v ≡ true → (f : Expr) × (v ≡ aCall f)
+is-call (anIdent n p) e = absurd-bool e
+is-call (aThis p) e = absurd-bool e
+is-call (aField p t n) e = absurd-bool e
+is-call (aDelete c) e = absurd-bool e
+is-call (aCall f) e = (f, refl)
+is-call other e = absurd-bool e
+
+of-unused : (s : List ℕ) (a : Bool) (p : ℕ) (e : Expr) (at q : ℕ) → Written s (at + 5) (encodeExpr e) q → Warned s (unused (a && isCall (view e)) p e at)
+unfolding Warned
+of-unused s a p e at q g = by-test (a && isCall (view e)) refl
+  where
+    by-test : (b : Bool) → (a && isCall (view e)) ≡ b → Warned s (unused b p e at)
+    by-test true t =
+        let c = is-call (view e) (and-true a (isCall (view e)) t .1) in
+        (record { call = e; callee = c .0; is = c .1; stands = callee-stands e (c .0) s (at + 5) q (c .1) g }, tt)
+    by-test false t = tt
+
+-- behind n bytes
+skip : {s : List ℕ} {p q : ℕ} (a b : List ℕ) (r : ℕ) → p + length a ≡ r → Written s p (a ++ b) q → Written s r b q
+skip {s} {q = q} a b r e g = subst (λ x. Written s x b q) e (second a b g)
+
+-- behind a tag and a span
+behind : {s : List ℕ} {at q : ℕ} (k p : ℕ) (b : List ℕ) → Written s at (k ∷ (fourBytes p ++ b)) q → Written s (at + 5) b q
+unfolding fourBytes twoBytes
+behind {at = at} k p b g = skip (k ∷ fourBytes p) b (at + 5) refl g
+
+-- behind a block's span and count
+inside : {s : List ℕ} {at q : ℕ} (p n : ℕ) (b c : List ℕ) (r : ℕ) → at + 6 ≡ r → Written s at (withCount p n b ++ c) q
+    → Written s r b (r + length b) × Written s (r + length b) c q
+unfolding fourBytes twoBytes
+inside {at = at} p n b c r e g =
+    let h = first (withCount p n b) c g in
+    let k = skip (fourBytes p ++ twoBytes n) b r e h in
+    (first b [] (being (sym (append-nil b)) k), skip (withCount p n b) c (r + length b) (omega arith) g)
+
+nothing : (s : List ℕ) → Warned s []
+unfolding Warned
+nothing s = tt
+
+-- what report says of statements that stand there
+pub report-warned : (T : Tables) (s : List ℕ) (c : Tree) (d at q : ℕ) (σ : Stack State) → Written s at (encodeCode c) q → Warned s (report T c d at σ)
+unfolding encodeCode twoBytes
+report-warned T s (done x) d at q σ g = nothing s
+report-warned T s (exprStmt p e y r) d at q σ g =
+    let w = behind 3 p (encodeExpr e ++ encodeCode r) g in
+    both s _ _ (of-effects s (exprStmtEffects T (shape σ) e) σ) (both s _ _ (of-unused s (auto T (tyOf e)) p e at _ (first (encodeExpr e) (encodeCode r) w))
+    (report-warned T s r d (at + 5 + exprBytes e) q (afterExpr states T e σ) (skip (encodeExpr e) (encodeCode r) _ refl w)))
+report-warned T s (variable k p n t e r) d at q σ g =
+    let w = skip (twoBytes n ++ twoBytes t) (encodeExpr e ++ encodeCode r) (at + 9) (omega arith) (behind _ p _ g) in
+    both s _ _ (of-effects s (effects T (shape σ) e) σ) (report-warned T s r d (at + 9 + exprBytes e) q (afterVariable states T d n t e σ) (skip (encodeExpr e) (encodeCode r) _ refl w))
+report-warned T s (assign p e v t x r) d at q σ g =
+    let w = behind 6 p (encodeExpr e ++ (encodeExpr v ++ (twoBytes t ++ encodeCode r))) g in
+    let w1 = skip (encodeExpr e) (encodeExpr v ++ (twoBytes t ++ encodeCode r)) (at + 5 + exprBytes e) refl w in
+    let w2 = skip (encodeExpr v) (twoBytes t ++ encodeCode r) (at + 5 + exprBytes e + exprBytes v) refl w1 in
+    let w3 = skip (twoBytes t) (encodeCode r) (at + 7 + exprBytes e + exprBytes v) (omega arith) w2 in
+    both s _ _ (of-effects s (assignEffects T (shape σ) e v) σ) (report-warned T s r d (at + 7 + exprBytes e + exprBytes v) q (afterAssign states T e v (beforeAssign states T e v σ)) w3)
+report-warned T s (return p e t x r) d at q σ g =
+    let w = behind 2 p (1 ∷ (encodeExpr e ++ (twoBytes t ++ encodeCode r))) g in
+    let w1 = skip (1 ∷ []) (encodeExpr e ++ (twoBytes t ++ encodeCode r)) (at + 6) (omega arith) w in
+    let w2 = skip (encodeExpr e) (twoBytes t ++ encodeCode r) (at + 6 + exprBytes e) refl w1 in
+    let w3 = skip (twoBytes t) (encodeCode r) (at + 8 + exprBytes e) (omega arith) w2 in
+    both s _ _ (of-effects s (effects T (shape σ) e) σ) (report-warned T s r d (at + 8 + exprBytes e) q (evaluate states T e σ) w3)
+report-warned T s (bareReturn p t r) d at q σ g =
+    let w = behind 2 p (0 ∷ (twoBytes t ++ encodeCode r)) g in
+    let w1 = skip (0 ∷ twoBytes t) (encodeCode r) (at + 8) (omega arith) w in
+    both s _ _ (of-left s p (collect states T (λ l. true) 0 σ)) (report-warned T s r d (at + 8) q σ w1)
+report-warned T s (block p b r) d at q σ g =
+    let w = skip (1 ∷ []) (withCount p (size b) (encodeCode b) ++ encodeCode r) (at + 1) refl g in
+    let i = inside p (size b) (encodeCode b) (encodeCode r) (at + 7) (omega arith) w in
+    both s _ _ (report-warned T s b (suc d) (at + 7) _ σ (i .0)) (report-warned T s r d (at + 7 + codeBytes b) q (exit states T b (suc d) σ) (i .1))
+report-warned T s (ifElse p e tp t up u r) d at q σ g =
+    let w = behind 7 p (encodeExpr e ++ (withCount tp (size t) (encodeCode t) ++ (1 ∷ (withCount up (size u) (encodeCode u) ++ encodeCode r)))) g in
+    let w1 = skip (encodeExpr e) (withCount tp (size t) (encodeCode t) ++ (1 ∷ (withCount up (size u) (encodeCode u) ++ encodeCode r))) (at + 5 + exprBytes e) refl w in
+    let i = inside tp (size t) (encodeCode t) (1 ∷ (withCount up (size u) (encodeCode u) ++ encodeCode r)) (at + 11 + exprBytes e) (omega arith) w1 in
+    let w2 = skip (1 ∷ []) (withCount up (size u) (encodeCode u) ++ encodeCode r) (at + 12 + exprBytes e + codeBytes t) (omega arith) (i .1) in
+    let j = inside up (size u) (encodeCode u) (encodeCode r) (at + 18 + exprBytes e + codeBytes t) (omega arith) w2 in
+    both s _ _ (of-effects s (effects T (shape σ) e) σ) (both s _ _ (report-warned T s t (suc d) (at + 11 + exprBytes e) _ (evaluate states T e σ) (i .0))
+    (both s _ _ (report-warned T s u (suc d) (at + 18 + exprBytes e + codeBytes t) _ (evaluate states T e σ) (j .0)) (report-warned T s r d (at + 18 + exprBytes e + codeBytes t + codeBytes u) q (merge states (sureFrom t false) (sureFrom u false) (evaluate states T e σ) (exit states T t (suc d) (evaluate states T e σ)) (exit states T u (suc d) (evaluate states T e σ))) (j .1))))
+report-warned T s (ifThen p e tp t r) d at q σ g =
+    let w = behind 7 p (encodeExpr e ++ (withCount tp (size t) (encodeCode t) ++ (0 ∷ encodeCode r))) g in
+    let w1 = skip (encodeExpr e) (withCount tp (size t) (encodeCode t) ++ (0 ∷ encodeCode r)) (at + 5 + exprBytes e) refl w in
+    let i = inside tp (size t) (encodeCode t) (0 ∷ encodeCode r) (at + 11 + exprBytes e) (omega arith) w1 in
+    let w2 = skip (0 ∷ []) (encodeCode r) (at + 12 + exprBytes e + codeBytes t) (omega arith) (i .1) in
+    both s _ _ (of-effects s (effects T (shape σ) e) σ) (both s _ _ (report-warned T s t (suc d) (at + 11 + exprBytes e) _ (evaluate states T e σ) (i .0)) (report-warned T s r d (at + 12 + exprBytes e + codeBytes t) q (merge states (sureFrom t false) false (evaluate states T e σ) (exit states T t (suc d) (evaluate states T e σ)) (evaluate states T e σ)) w2))
+report-warned T s (while p e tp t r) d at q σ g =
+    let w = behind 8 p (encodeExpr e ++ (withCount tp (size t) (encodeCode t) ++ encodeCode r)) g in
+    let w1 = skip (encodeExpr e) (withCount tp (size t) (encodeCode t) ++ encodeCode r) (at + 5 + exprBytes e) refl w in
+    let i = inside tp (size t) (encodeCode t) (encodeCode r) (at + 11 + exprBytes e) (omega arith) w1 in
+    both s _ _ (of-effects s (effects T (shape σ) e) σ) (both s _ _ (report-warned T s t (suc d) (at + 11 + exprBytes e) _ (evaluate states T e σ) (i .0)) (report-warned T s r d (at + 11 + exprBytes e + codeBytes t) q (joins states (exit states T t (suc d) (evaluate states T e σ)) (evaluate states T e σ)) (i .1)))
+report-warned T s (jump k p r) d at q σ g = report-warned T s r d (at + 5) q σ (behind _ p (encodeCode r) g)
+
+-- where a body's statements stand in an image's encoding
+code-written : (L : Limits) (i : Image) → Written (encode L i) (bodyStart i) (encodeCode (i .body .code)) (length (encode L i))
+unfolding encode fourBytes twoBytes encodeBlock
+code-written L i =
+    let s = encode L i in
+    let tables = encodeTables (i .tables) in
+    let entry = encodeEntry (i .entry) in
+    let body = encodeBlock (i .body) in
+    let g0 : Written s 0 s (length s) = record { part = record { is = sym (ap (λ x. s ++ x) (drop-length s) ∙ append-nil s) }; end = omega arith } in
+    let g1 = skip (fourBytes (length (encodeParts L i)) ++ (L .version ∷ [])) (tables ++ (entry ++ body)) 5 (omega arith) g0 in
+    let g2 = skip tables (entry ++ body) (5 + length tables) refl g1 in
+    let g3 = skip entry body (5 + length tables + length entry) refl g2 in
+    skip (fourBytes (i .body .span) ++ twoBytes (size (i .body .code))) (encodeCode (i .body .code)) (bodyStart i) (omega arith) g3
+
+-- of every accepted image
+pub warnings-stand : (L : Limits) (s : List ℕ) → Bytes s → (i : Image) → decode L s ≡ accepted i → Warned s (reports i)
+warnings-stand L s small i e =
+    let w : encode L i ≡ s = image-written L s small i e in
+    report-warned (i .tables) s (i .body .code) 1 (bodyStart i) (length s) (entered states (i .tables) (localsOf (i .entry)) [])
+    (subst (λ x. Written x (bodyStart i) (encodeCode (i .body .code)) (length x)) w (code-written L i))
