@@ -14,3 +14,4 @@ pub mod Strike
 pub mod Returned
 pub mod RoomBound
 pub mod Count
+pub mod Longer
