@@ -15,3 +15,4 @@ pub mod Returned
 pub mod RoomBound
 pub mod Count
 pub mod Longer
+pub mod Examples
