@@ -16,3 +16,5 @@ pub mod RoomBound
 pub mod Count
 pub mod Longer
 pub mod Examples
+pub mod Uniform
+pub mod Hands

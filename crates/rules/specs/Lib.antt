@@ -8,3 +8,4 @@ pub mod Report
 pub mod Run
 pub mod Room
 pub mod Nodes
+pub mod Newest
