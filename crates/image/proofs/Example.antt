@@ -17,7 +17,7 @@ use Rattle.encoding.specs.Body.{encodeExpr, encodeExprs, size, encodeCode, enco
 use Rattle.image.specs.Image.{Image, Decoded, accepted, bodyAt, imageAt, outcome, decode, encode}
 use Rattle.image.specs.Image as image
 
-abbrev bytes : List ℕ
+abbrev pub bytes : List ℕ
 bytes =
     0 ∷ 0 ∷ 0 ∷ 77 ∷ 1
     ∷ 0 ∷ 3 ∷ 4 ∷ 116 ∷ 104 ∷ 105 ∷ 115 ∷ 1 ∷ 120 ∷ 1 ∷ 84
@@ -33,7 +33,7 @@ bytes =
 abbrev x : ℕ → Expr
 x span = node (record { tag = 1; span = span; ty = 1; arg = 1 }) none none
 
-abbrev tree : Image
+abbrev pub tree : Image
 tree = record {
   tables = record {
     names = (116 ∷ 104 ∷ 105 ∷ 115 ∷ []) ∷ (120 ∷ []) ∷ (84 ∷ []) ∷ [];

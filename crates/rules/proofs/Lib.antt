@@ -18,3 +18,5 @@ pub mod Longer
 pub mod Examples
 pub mod Uniform
 pub mod Hands
+pub mod Needed
+pub mod Worked
