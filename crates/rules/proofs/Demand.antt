@@ -15,7 +15,7 @@ use Rattle.rules.specs.Rules.{holding, Drop, dropOf, Decided, excludes, 
 use Rattle.rules.specs.Run.{Path, Task, code, returning, assigning, deleting, closing, assigned, Config, at, arrived, start, Moment, momentCode, momentTask, moment, dropsAt, Reached, holds, dropped, concerns, admits, concerned, Lost, Demand3}
 use Rattle.rules.proofs.Bools.{and-r, and-i, leb-refl}
 use Rattle.rules.proofs.Relate.{rel-shape}
-use Rattle.rules.proofs.Shapes.{shape-same}
+use Rattle.rules.proofs.Shapes.{shape-frame}
 use Rattle.rules.proofs.Order.{Under, under-refl, over-refl}
 use Rattle.rules.proofs.Through.{Fit, fit-by, fit-deeper}
 use Rattle.rules.proofs.Names.{under-holds, over-holds, dropped-collect, HeldDrops}
@@ -164,7 +164,7 @@ module _ (T : Tables) where
   entered-fit [] σ fit fr = fit
   entered-fit (s ∷ ss) σ fit fr =
       entered-fit ss (register holding (s .name) (s .ty) 0 σ)
-      (fit-by 0 (ap (λ (Γ : Shape). record { name = s .name; ty = s .ty; depth = 0 } ∷ Γ) (shape-same (s .name) 0 (λ a. true) σ)) ((leb-refl 0, fit .0), (fr .0, fit .1)))
+      (fit-by 0 (ap (λ (Γ : Shape). record { name = s .name; ty = s .ty; depth = 0 } ∷ Γ) (shape-frame (s .name) 0 (λ a. true) σ)) ((leb-refl 0, fit .0), (fr .0, fit .1)))
       (fr .1)
 
   begins : (params : List Param) (p : ℕ) (body : Tree) → PlainIn holding T params body → (cs : List Bool)

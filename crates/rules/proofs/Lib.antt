@@ -17,3 +17,9 @@ pub mod Count
 pub mod OnBytes
 pub mod WalkRows
 pub mod Offsets
+pub mod Longer
+pub mod Examples
+pub mod Uniform
+pub mod Hands
+pub mod Needed
+pub mod Worked

@@ -61,12 +61,12 @@ abbrev isCons : Shape → Bool
 isCons [] = false
 isCons (s ∷ Γ) = true
 
-pub same-shape : (σ τ : Stack Bool) → shape σ ≡ shape τ → Same σ τ
+pub same-shape : {A B : Type 0} (σ : Stack A) (τ : Stack B) → shape σ ≡ shape τ → Rel (λ m a b. Unit {0}) σ τ
 same-shape [] [] e = empty
 same-shape [] (local t b ∷ τ) e = absurd (of-false true (ap isCons (sym e)) tt)
 same-shape (local s a ∷ σ) [] e = absurd (of-false true (ap isCons e) tt)
 same-shape (local s a ∷ σ) (local t b ∷ τ) e =
-    subst (λ (u : Static). Same (local s a ∷ σ) (local u b ∷ τ)) (ap (λ (Γ : Shape). headS Γ s) e) (both tt (same-shape σ τ (ap tailS e)))
+    subst (λ (u : Static). Rel (λ m a b. Unit {0}) (local s a ∷ σ) (local u b ∷ τ)) (ap (λ (Γ : Shape). headS Γ s) e) (both tt (same-shape σ τ (ap tailS e)))
 
 pub joins-left : (σ τ : Stack Bool) → Under (joins holding σ τ) σ
 joins-left [] τ = empty

@@ -36,13 +36,13 @@ module _ {A B : Type 0} {R : ℕ → A → B → Type 0} where
   rel-cond true r s = r
   rel-cond false r s = s
 
-  pub rel-same : (n d : ℕ) (f : A → A) (g : B → B) → ((m : ℕ) (a : A) (b : B) → R m a b → R m (f a) (g b)) → {σ : Stack A} {τ : Stack B} → Rel R σ τ → Rel R (inFrame n d f σ) (inFrame n d g τ)
-  rel-same n d f g h empty = empty
-  rel-same n d f g h (both {s = s} {a = a} {b = b} r rs) = both (value-cond R (eqb (s .name) n && eqb (s .depth) d) (s .name) (f a) a (g b) b (h (s .name) a b r) r) (rel-same n d f g h rs)
+  pub rel-frame : (n d : ℕ) (f : A → A) (g : B → B) → ((m : ℕ) (a : A) (b : B) → R m a b → R m (f a) (g b)) → {σ : Stack A} {τ : Stack B} → Rel R σ τ → Rel R (inFrame n d f σ) (inFrame n d g τ)
+  rel-frame n d f g h empty = empty
+  rel-frame n d f g h (both {s = s} {a = a} {b = b} r rs) = both (value-cond R (eqb (s .name) n && eqb (s .depth) d) (s .name) (f a) a (g b) b (h (s .name) a b r) r) (rel-frame n d f g h rs)
 
   pub rel-mark : (n : ℕ) (f : A → A) (g : B → B) → ((m : ℕ) (a : A) (b : B) → R m a b → R m (f a) (g b)) → {σ : Stack A} {τ : Stack B} → Rel R σ τ → Rel R (mark n f σ) (mark n g τ)
   rel-mark n f g h empty = empty
-  rel-mark n f g h (both {s = s} {a = a} {b = b} r rs) = rel-cond (eqb (s .name) n) (both (h (s .name) a b r) (rel-same n (s .depth) f g h rs)) (both r (rel-mark n f g h rs))
+  rel-mark n f g h (both {s = s} {a = a} {b = b} r rs) = rel-cond (eqb (s .name) n) (both (h (s .name) a b r) (rel-frame n (s .depth) f g h rs)) (both r (rel-mark n f g h rs))
 
   pub rel-pop : (d : ℕ) {σ : Stack A} {τ : Stack B} → Rel R σ τ → Rel R (pop d σ) (pop d τ)
   rel-pop d empty = empty
@@ -68,7 +68,7 @@ module _ {A B : Type 0} {R : ℕ → A → B → Type 0} where
     rel-revived (called n s) r = rel-mark n (λ a. 𝓐 .new) (λ a. 𝓑 .new) (λ m a b x. hom .new m) r
 
     pub rel-register : (n t d : ℕ) {σ : Stack A} {τ : Stack B} → Rel R σ τ → Rel R (register 𝓐 n t d σ) (register 𝓑 n t d τ)
-    rel-register n t d r = both (hom .new n) (rel-same n d (λ a. 𝓐 .new) (λ a. 𝓑 .new) (λ m a b x. hom .new m) r)
+    rel-register n t d r = both (hom .new n) (rel-frame n d (λ a. 𝓐 .new) (λ a. 𝓑 .new) (λ m a b x. hom .new m) r)
 
     module _ (T : Tables) where
       pub rel-evaluate : (e : Expr) {σ : Stack A} {τ : Stack B} → Rel R σ τ → Rel R (evaluate 𝓐 T e σ) (evaluate 𝓑 T e τ)

@@ -18,7 +18,7 @@ use Rattle.rules.specs.Effects.{effects, exprStmtEffects, assignEffects}
 use Rattle.rules.specs.Rules.{Alg, states, Drop, dropOf, sureFrom, excludes, localsOf, register, joins, merge, collect, tailDrops, returnDrops, dropNewest, dropNamed, evaluate, afterExpr, afterVariable, beforeAssign, afterAssign, exit, decide, entered, decideIn, decideBody}
 use Rattle.rules.specs.Room.{added, sizeOf, regsOf, roomBound}
 use Rattle.rules.proofs.Bools.{leb-refl, below≢, eqb-self}
-use Rattle.rules.proofs.Shapes.{Within, within-suc, shape-same, shape-doing, shape-joins, shape-merge, shape-assign, shape-variable, shape-inner}
+use Rattle.rules.proofs.Shapes.{Within, within-suc, shape-frame, shape-doing, shape-joins, shape-merge, shape-assign, shape-variable, shape-inner}
 
 -- locals of the block's own frame
 abbrev ownIn : ℕ → Shape → ℕ
@@ -141,13 +141,13 @@ module _ {A : Type 0} (𝓐 : Alg A) (T : Tables) where
 
   entered-within : (ps : List Param) (σ : Stack A) → Within 0 (shape σ) → Within 0 (shape (entered 𝓐 T ps σ))
   entered-within [] σ w = w
-  entered-within (s ∷ ss) σ w = entered-within ss (register 𝓐 (s .name) (s .ty) 0 σ) (leb-refl 0, subst (λ (Δ : Shape). Within 0 Δ) (sym (shape-same (s .name) 0 (λ a. 𝓐 .new) σ)) w)
+  entered-within (s ∷ ss) σ w = entered-within ss (register 𝓐 (s .name) (s .ty) 0 σ) (leb-refl 0, subst (λ (Δ : Shape). Within 0 Δ) (sym (shape-frame (s .name) 0 (λ a. 𝓐 .new) σ)) w)
 
   entered-length : (ps : List Param) (σ : Stack A) → length (shape (entered 𝓐 T ps σ)) ≡ length ps + length (shape σ)
   entered-length [] σ = omega arith
   entered-length (s ∷ ss) σ =
       let ih = entered-length ss (register 𝓐 (s .name) (s .ty) 0 σ) in
-      let h = ap length (shape-same (s .name) 0 (λ a. 𝓐 .new) σ) in
+      let h = ap length (shape-frame (s .name) 0 (λ a. 𝓐 .new) σ) in
       omega arith
 
   room-in : (params : List Param) (p : ℕ) (body : Tree) → added (decideIn 𝓐 T params p body) ≤ 21 * ((sizeOf body + 1) * (regsOf body + length params + 1))

@@ -40,9 +40,9 @@ carry : (d : ℕ) {Γ Γ′ Δ : Shape} → Γ′ ≡ Γ → (Within d Γ′ →
 carry d e f w = f (subst (λ (Γ : Shape). Within d Γ) (sym e) w) ∙ ap (popS d) e
 
 module _ {A : Type 0} where
-  pub shape-same : (n d : ℕ) (f : A → A) (σ : Stack A) → shape (inFrame n d f σ) ≡ shape σ
-  shape-same n d f [] = refl
-  shape-same n d f (local s a ∷ σ) = ap (λ (Γ : Shape). s ∷ Γ) (shape-same n d f σ)
+  pub shape-frame : (n d : ℕ) (f : A → A) (σ : Stack A) → shape (inFrame n d f σ) ≡ shape σ
+  shape-frame n d f [] = refl
+  shape-frame n d f (local s a ∷ σ) = ap (λ (Γ : Shape). s ∷ Γ) (shape-frame n d f σ)
 
   shape-cond : (c : Bool) (σ τ : Stack A) (Γ : Shape) → shape σ ≡ Γ → shape τ ≡ Γ → shape (cond c σ τ) ≡ Γ
   shape-cond true σ τ Γ p q = p
@@ -50,7 +50,7 @@ module _ {A : Type 0} where
 
   pub shape-mark : (n : ℕ) (f : A → A) (σ : Stack A) → shape (mark n f σ) ≡ shape σ
   shape-mark n f [] = refl
-  shape-mark n f (local s a ∷ σ) = shape-cond (eqb (s .name) n) _ _ _ (ap (λ (Γ : Shape). s ∷ Γ) (shape-same n (s .depth) f σ)) (ap (λ (Γ : Shape). s ∷ Γ) (shape-mark n f σ))
+  shape-mark n f (local s a ∷ σ) = shape-cond (eqb (s .name) n) _ _ _ (ap (λ (Γ : Shape). s ∷ Γ) (shape-frame n (s .depth) f σ)) (ap (λ (Γ : Shape). s ∷ Γ) (shape-mark n f σ))
 
   cond-shape : (b : Bool) (s : Static) (a : A) (σ : Stack A) (Γ : Shape) → shape σ ≡ Γ → shape (cond b σ (local s a ∷ σ)) ≡ cond b Γ (s ∷ Γ)
   cond-shape true s a σ Γ e = e
@@ -97,7 +97,7 @@ module _ {A : Type 0} where
       pub shape-variable : (d n t : ℕ) (e : Expr) (σ : Stack A) → shape (afterVariable 𝓐 T d n t e σ) ≡ record { name = n; ty = t; depth = d } ∷ shape σ
       shape-variable d n t e σ =
           shape-all (takeOver T (shape σ) n t e) (register 𝓐 n t d (evaluate 𝓐 T e σ))
-          ∙ ap (λ (Γ : Shape). record { name = n; ty = t; depth = d } ∷ Γ) (shape-same n d _ (evaluate 𝓐 T e σ) ∙ shape-doing (λ Γ. effects T Γ e) σ)
+          ∙ ap (λ (Γ : Shape). record { name = n; ty = t; depth = d } ∷ Γ) (shape-frame n d _ (evaluate 𝓐 T e σ) ∙ shape-doing (λ Γ. effects T Γ e) σ)
 
       pub shape-exit : {X Y : Type 0} (c : Code X Y) (d : ℕ) (σ : Stack A) → Within d (shape σ) → shape (exit 𝓐 T c d σ) ≡ popS d (shape σ)
       shape-exit (done x) d σ w = shape-pop d σ

@@ -1,0 +1,95 @@
+-- A plain body whose loop revives, with a branch that moves, a return in a branch, a `__tmp` handed over and `this` consumed: what the
+-- pass gives for it, and two runs of it. The premises of demand 3 are met, and a local is passed over.
+-- Assumes nothing.
+use Prim.Native.Nat.{ℕ}
+use mathlib.Core.Path.{_≡_, refl}
+use mathlib.Core.Bool.{Bool, true, false}
+use mathlib.Core.List.{List, [], _∷_}
+use mathlib.Core.Option.{some}
+use Rattle.tables.specs.Name.{sameBytes, startsWith}
+use Rattle.tables.specs.Signature.{Entry}
+use Rattle.lookup.specs.First.{firstFrom, andThen, orElse}
+use Rattle.lookup.specs.Ty.{inside, structNamed, structShaped, structOfGeneric, structOfTy, structOf, hasDestructor, shouldAutoDelete, classOfTy, classOf}
+use Rattle.lookup.specs.Signature.{modifierIn, modifierOf, isConsuming, globalOf}
+use Rattle.body.specs.Expr.{Expr, countWidth, through, none}
+use Rattle.body.specs.Stmt.{Tree, Block, variable, assign, return, ifThen, while, exprStmt}
+use Rattle.rules.specs.Nodes.{one, ident, literal, call, field, moving, deletion, end, tables}
+use Rattle.rules.specs.Questions.{auto, isTempOf, isMoveOf, consumes, globalIn}
+use Rattle.rules.specs.Stack.{Local, local, Stack}
+use Rattle.rules.specs.Effects.{takes, handed, finish, effects, exprStmtEffects, takeOver, assignEffects, assignTakes}
+use Rattle.rules.specs.Rules.{Decided, Drop, dropOf, localsOf, PlainBody, decideBody}
+use Rattle.rules.specs.Report.{flatten}
+use Rattle.rules.specs.Run.{Moment, Reached, start, next, atEnd, concerned, dropped, Demand3}
+use Rattle.rules.proofs.Count.{after, after-steps}
+use Rattle.rules.proofs.Project.{demand3}
+
+-- a consuming method of T
+abbrev pub consuming : Entry
+consuming = record { receiver = 4; this = 1; params = [] }
+
+abbrev v : ℕ → Expr
+v s = ident s 1 1
+
+-- what comes after the two ifs, up to a block's end: let __tmp: T = ..; f(__tmp); this.take();
+abbrev last : Tree → Tree
+last c =
+    variable false 38 6 1 literal (exprStmt 40 (call 41 0 literal (one (ident 42 1 6))) tt
+    (exprStmt 43 (call 44 0 (field 45 (ident 46 1 0) 7) none) tt c))
+
+-- let v: T = ..; let w: T = ..; and the rest
+abbrev first : Tree → Tree
+first c = variable false 21 1 1 literal (variable false 22 2 1 literal c)
+
+-- while .. { std::move(v); v = ..; } and the rest
+abbrev loop : Tree → Tree
+loop c = while 23 literal 24 (moving 25 (v 26) (assign 27 (v 28) literal 1 tt end)) c
+
+-- if .. { std::move(v); } and the rest
+abbrev branch : Tree → Tree
+branch c = ifThen 30 literal 31 (moving 32 (v 33) end) c
+
+abbrev returnW : Tree
+returnW = return 36 (ident 37 1 2) 1 tt end
+
+abbrev pub body : Block
+body = record { span = 10; code = first (loop (branch (ifThen 34 literal 35 returnW (last end)))) }
+
+-- `this` is deleted at the return, `w` at the end; `v`, moved by some runs, at neither
+pub example-returned : flatten (decideBody tables consuming body) ≡ first (loop (branch (ifThen 34 literal 35 (deletion 0 0 returnW) (last (deletion 10 2 end)))))
+unfolding sameBytes startsWith firstFrom andThen orElse inside structNamed structShaped structOfGeneric structOfTy structOf hasDestructor shouldAutoDelete classOfTy classOf modifierIn modifierOf isConsuming globalOf countWidth through auto isTempOf isMoveOf consumes globalIn takes handed finish effects exprStmtEffects takeOver assignEffects assignTakes
+example-returned = refl
+
+pub example-plain : PlainBody tables consuming body
+unfolding sameBytes startsWith firstFrom andThen orElse inside structNamed structShaped structOfGeneric structOfTy structOf hasDestructor shouldAutoDelete classOfTy classOf modifierIn modifierOf isConsuming globalOf countWidth through auto isTempOf isMoveOf consumes globalIn takes handed finish effects exprStmtEffects takeOver assignEffects assignTakes
+example-plain = ((tt, tt), (tt, (tt, (tt, ((λ x. x), ((λ x. x), ((λ x. x), tt))), (tt, (tt, (tt, tt)))))))
+
+pub example-demand : Demand3 tables (localsOf consuming) (decideBody tables consuming body)
+example-demand = demand3 tables consuming body example-plain
+
+abbrev known : ℕ → ℕ → Bool → Local Bool
+known n d b = local (record { name = n; ty = 1; depth = d }) b
+
+-- the body's end, `v` held or not: `__tmp` and `this` are given up, `w` is held and deleted
+abbrev pub atItsEnd : Bool → Moment
+atItsEnd b = record {
+  path = next ∷ next ∷ next ∷ next ∷ next ∷ next ∷ next ∷ next ∷ [];
+  place = atEnd 1;
+  drops = dropOf 10 2 1 ∷ [];
+  held = known 6 1 false ∷ known 2 1 true ∷ known 1 1 b ∷ known 0 0 false ∷ [];
+}
+
+-- past the loop and both ifs: `v` is held at the end
+pub example-kept : Reached tables (localsOf consuming) (decideBody tables consuming body) (atItsEnd true)
+unfolding sameBytes startsWith firstFrom andThen orElse inside structNamed structShaped structOfGeneric structOfTy structOf hasDestructor shouldAutoDelete classOfTy classOf modifierIn modifierOf isConsuming globalOf countWidth through auto isTempOf isMoveOf consumes globalIn takes handed finish effects exprStmtEffects takeOver assignEffects assignTakes
+example-kept =
+    let choices : List Bool = false ∷ false ∷ false ∷ [] in
+    let c = start tables (localsOf consuming) (decideBody tables consuming body) choices in
+    record { choices = choices; config = after tables 8 c; steps = after-steps tables 8 c; stands = refl }
+
+-- once through the loop, then into the branch that moves: `v` is not held at the end
+pub example-lost : Reached tables (localsOf consuming) (decideBody tables consuming body) (atItsEnd false)
+unfolding sameBytes startsWith firstFrom andThen orElse inside structNamed structShaped structOfGeneric structOfTy structOf hasDestructor shouldAutoDelete classOfTy classOf modifierIn modifierOf isConsuming globalOf countWidth through auto isTempOf isMoveOf consumes globalIn takes handed finish effects exprStmtEffects takeOver assignEffects assignTakes
+example-lost =
+    let choices : List Bool = true ∷ false ∷ true ∷ false ∷ [] in
+    let c = start tables (localsOf consuming) (decideBody tables consuming body) choices in
+    record { choices = choices; config = after tables 21 c; steps = after-steps tables 21 c; stands = refl }
