@@ -1,3 +1,10 @@
+-- Rows by computation, then the theorems and what they stand on.
+pub mod Rows
+pub mod EffectRows
+pub mod WalkRows
+pub mod OnBytes
+pub mod Worked
+pub mod Needed
 pub mod Bools
 pub mod Relate
 pub mod Shapes
@@ -8,18 +15,12 @@ pub mod Assigned
 pub mod Sound
 pub mod Demand
 pub mod Project
-pub mod Rows
-pub mod EffectRows
 pub mod Strike
 pub mod Returned
 pub mod RoomBound
 pub mod Count
-pub mod OnBytes
-pub mod WalkRows
 pub mod Offsets
 pub mod Longer
 pub mod Examples
 pub mod Uniform
 pub mod Hands
-pub mod Needed
-pub mod Worked

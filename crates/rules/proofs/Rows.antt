@@ -12,7 +12,7 @@ use Rattle.lookup.specs.Ty.{inside, structNamed, structShaped, structOfGeneric,
 use Rattle.lookup.specs.Signature.{modifierIn, modifierOf, isConsuming, globalOf}
 use Rattle.body.specs.Expr.{Expr, countWidth, through}
 use Rattle.body.specs.Stmt.{Tree, variable, assign, return, bareReturn, ifElse, ifThen, while}
-use Rattle.rules.specs.Nodes.{ident, literal, unary, delete, moving, deletion, end, tables, param}
+use Rattle.rules.specs.Nodes.{ident, literal, unary, delete, move, one, moving, deletion, end, tables, param}
 use Rattle.rules.specs.Questions.{auto, isTempOf, isMoveOf, consumes, globalIn}
 use Rattle.rules.specs.Stack.{Local, local, Stack}
 use Rattle.rules.specs.State.{State, alive, gone, moved}
@@ -91,3 +91,18 @@ corners =
 pub k1-to-k12 : map answer corners ≡ corners
 unfolding member sameBytes startsWith firstFrom andThen orElse inside structNamed structShaped structOfGeneric structOfTy structOf hasDestructor shouldAutoDelete classOfTy classOf modifierIn modifierOf isConsuming globalOf countWidth through auto isTempOf isMoveOf consumes globalIn takes handed finish effects exprStmtEffects takeOver assignEffects assignTakes
 k1-to-k12 = refl
+
+-- document 01's "Mistakes to shut out", as far as a body shows them: what a return's value moves is not deleted before it; then's
+-- places, then else's new ones
+abbrev pub mistakes : List Row
+mistakes =
+    asIs [] (variable false 21 1 1 literal (return 23 (move 24 (one (v 25))) 1 tt end)) [] []
+    ∷ asIs (param 1 ∷ [])
+      (ifElse 21 literal 22 (ifElse 23 literal 24 (moving 25 (v 31) end) 26 (moving 27 (v 32) end) end) 28
+        (ifElse 33 literal 34 (moving 35 (v 32) end) 36 (moving 37 (v 30) end) end) end)
+      [] (gone false moved (31 ∷ 32 ∷ 30 ∷ []) ∷ [])
+    ∷ []
+
+pub mistakes-shut-out : map answer mistakes ≡ mistakes
+unfolding member sameBytes startsWith firstFrom andThen orElse inside structNamed structShaped structOfGeneric structOfTy structOf hasDestructor shouldAutoDelete classOfTy classOf modifierIn modifierOf isConsuming globalOf countWidth through auto isTempOf isMoveOf consumes globalIn takes handed finish effects exprStmtEffects takeOver assignEffects assignTakes
+mistakes-shut-out = refl
