@@ -12,3 +12,4 @@ pub mod BodyReadBack
 pub mod TablesValid
 pub mod ExprValid
 pub mod BodyValid
+pub mod AllBytes

@@ -2,5 +2,6 @@
 pub mod Numbered
 pub mod Whole
 pub mod RoundTrip
+pub mod AllBytes
 pub mod Asking
 pub mod Example
