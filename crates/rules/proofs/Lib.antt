@@ -20,3 +20,4 @@ pub mod Uniform
 pub mod Hands
 pub mod Needed
 pub mod Worked
+pub mod ByTag
