@@ -5,7 +5,6 @@ use Prim.Native.Nat.{ℕ}
 use mathlib.Core.Path.{_≡_, refl}
 use mathlib.Core.Bool.{Bool, true, false}
 use mathlib.Core.List.{List, [], _∷_}
-use mathlib.Core.Option.{some}
 use Rattle.tables.specs.Name.{sameBytes, startsWith}
 use Rattle.tables.specs.Signature.{Entry}
 use Rattle.lookup.specs.First.{firstFrom, andThen, orElse}
@@ -15,11 +14,11 @@ use Rattle.body.specs.Expr.{Expr, countWidth, through, none}
 use Rattle.body.specs.Stmt.{Tree, Block, variable, assign, return, ifThen, while, exprStmt}
 use Rattle.rules.specs.Nodes.{one, ident, literal, call, field, moving, deletion, end, tables}
 use Rattle.rules.specs.Questions.{auto, isTempOf, isMoveOf, consumes, globalIn}
-use Rattle.rules.specs.Stack.{Local, local, Stack}
+use Rattle.rules.specs.Stack.{Local, local}
 use Rattle.rules.specs.Effects.{takes, handed, finish, effects, exprStmtEffects, takeOver, assignEffects, assignTakes}
-use Rattle.rules.specs.Rules.{Decided, Drop, dropOf, localsOf, PlainBody, decideBody}
+use Rattle.rules.specs.Rules.{dropOf, localsOf, PlainBody, decideBody}
 use Rattle.rules.specs.Report.{flatten}
-use Rattle.rules.specs.Run.{Moment, Reached, start, next, atEnd, concerned, dropped, Demand3}
+use Rattle.rules.specs.Run.{Moment, Reached, start, next, atEnd, Demand3}
 use Rattle.rules.proofs.Count.{after, after-steps}
 use Rattle.rules.proofs.Project.{demand3}
 

@@ -24,3 +24,4 @@ pub mod Longer
 pub mod Examples
 pub mod Uniform
 pub mod Hands
+pub mod ByTag

@@ -1,8 +1,8 @@
 -- Bodies that lack one part of plain only, and break demand 3: each part is needed.
 -- Assumes nothing.
 use Prim.Native.Nat.{ℕ, zero, suc}
-use mathlib.Core.Path.{_≡_, refl, sym, subst}
-use mathlib.Core.Bool.{Bool, true, false, not, cond}
+use mathlib.Core.Path.{refl, subst}
+use mathlib.Core.Bool.{Bool, true, false, not}
 use mathlib.Core.List.{List, [], _∷_}
 use mathlib.Core.Option.{Option, none, some}
 use lib.Dec.{T as So, T-not}
@@ -18,8 +18,8 @@ use Rattle.rules.specs.Questions.{auto, isTempOf, isMoveOf, consumes, gl
 use Rattle.rules.specs.Stack.{Stack, shape, has}
 use Rattle.rules.specs.State.{State}
 use Rattle.rules.specs.Effects.{takes, handed, finish, effects, exprStmtEffects, takeOver, assignEffects, assignTakes}
-use Rattle.rules.specs.Rules.{Decided, states, holding, Keeps, Plain, evaluate, afterVariable, exit, localsOf, PlainBody, decideBody, isDone, sureFrom}
-use Rattle.rules.specs.Run.{Config, at, start, step, Moment, moment, holds, Reached, Lost, Demand3}
+use Rattle.rules.specs.Rules.{Decided, states, Keeps, evaluate, afterVariable, exit, PlainBody, decideBody}
+use Rattle.rules.specs.Run.{Config, at, start, Moment, moment, holds, Reached, Lost, Demand3}
 use Rattle.rules.proofs.Count.{after, after-steps, steps-after}
 
 -- no receiver, no parameters

@@ -2,7 +2,7 @@
 -- Assumes nothing.
 use Prim.Native.Nat.{ℕ}
 use mathlib.Core.Path.{_≡_, refl}
-use mathlib.Core.Bool.{Bool, true, false}
+use mathlib.Core.Bool.{true, false}
 use mathlib.Core.List.{List, [], _∷_, map}
 use Rattle.fields.specs.Table.{member}
 use Rattle.tables.specs.Name.{sameBytes, startsWith}
@@ -10,15 +10,16 @@ use Rattle.tables.specs.Signature.{Param}
 use Rattle.lookup.specs.First.{firstFrom, andThen, orElse}
 use Rattle.lookup.specs.Ty.{inside, structNamed, structShaped, structOfGeneric, structOfTy, structOf, hasDestructor, shouldAutoDelete, classOfTy, classOf}
 use Rattle.lookup.specs.Signature.{modifierIn, modifierOf, isConsuming, globalOf}
-use Rattle.body.specs.Expr.{Expr, countWidth, through}
-use Rattle.body.specs.Stmt.{Tree, variable, assign, return, bareReturn, ifElse, ifThen, while}
-use Rattle.rules.specs.Nodes.{ident, literal, unary, delete, move, one, moving, deletion, end, tables, param}
+use Rattle.body.specs.Expr.{Expr, none, more, countWidth, through}
+use Rattle.body.specs.Stmt.{Tree, exprStmt, variable, assign, return, bareReturn, block, ifElse, ifThen, while, jump}
+use Rattle.rules.specs.Nodes.{nodeOf, one, move, ident, this, literal, unary, call, field, delete, moving, deletion, end, tables, param}
 use Rattle.rules.specs.Questions.{auto, isTempOf, isMoveOf, consumes, globalIn}
-use Rattle.rules.specs.Stack.{Local, local, Stack}
-use Rattle.rules.specs.State.{State, alive, gone, moved}
+use Rattle.rules.specs.Expr.{calleeAt}
+use Rattle.rules.specs.Stack.{local, Stack}
+use Rattle.rules.specs.State.{State, alive, gone, deleted, moved, consumed}
 use Rattle.rules.specs.Effects.{takes, handed, finish, effects, exprStmtEffects, takeOver, assignEffects, assignTakes}
 use Rattle.rules.specs.Rules.{states, entered, exit, decideIn}
-use Rattle.rules.specs.Report.{Report, error, left, flatten, report}
+use Rattle.rules.specs.Report.{Report, error, warning, left, flatten, report}
 
 -- the parameters, all of type T, and the body's statements (block span 10, first statement at 100); the returned statements, what
 -- is reported, and the parameters' states after the body, last parameter first
@@ -106,3 +107,72 @@ mistakes =
 pub mistakes-shut-out : map answer mistakes ≡ mistakes
 unfolding member sameBytes startsWith firstFrom andThen orElse inside structNamed structShaped structOfGeneric structOfTy structOf hasDestructor shouldAutoDelete classOfTy classOf modifierIn modifierOf isConsuming globalOf countWidth through auto isTempOf isMoveOf consumes globalIn takes handed finish effects exprStmtEffects takeOver assignEffects assignTakes
 mistakes-shut-out = refl
+
+abbrev w : ℕ → Expr
+w s = ident s 1 2
+
+abbrev tmp : ℕ → Expr
+tmp s = ident s 1 6
+
+-- a use, `delete v;` with the Ident's span, and `v.take();` with the field access's
+abbrev stmt : ℕ → Expr → Tree → Tree
+stmt s e c = exprStmt s e tt c
+
+abbrev deletes : ℕ → Tree → Tree
+deletes s c = exprStmt 1 (delete 2 (v s)) tt c
+
+abbrev takesIt : ℕ → Tree → Tree
+takesIt s c = exprStmt 1 (call 2 0 (field s (v 3) 7) none) tt c
+
+-- other corners of mod.rs, expr.rs and stmt.rs
+abbrev pub further : List Row
+further =
+    -- an unused result, looked through; the type test reads the outer node, the place is the callee's in the image
+    row [] (stmt 21 (unary 22 1 0 (call 23 0 literal none)) end) (stmt 21 (delete 21 (unary 22 1 0 (call 23 0 literal none))) end) (warning 21 120 ∷ []) []
+    ∷ asIs [] (stmt 21 (unary 22 0 0 (call 23 1 literal none)) end) [] []
+    ∷ asIs (param 1 ∷ []) (stmt 21 (v 22) end) [] (alive ∷ [])
+    -- after a final break the block's deletes still follow
+    ∷ row [] (variable false 21 1 1 literal (jump false 22 end)) (variable false 21 1 1 literal (jump false 22 (deletion 10 1 end))) [] []
+    -- let w: T = __tmp takes the temporary over: Deleted, whatever its state
+    ∷ row (param 6 ∷ []) (variable false 21 2 1 (tmp 22) (stmt 23 (tmp 24) end)) (variable false 21 2 1 (tmp 22) (stmt 23 (tmp 24) (deletion 10 2 end)))
+    (error 1 24 0 (22 ∷ []) ∷ []) (gone false deleted (22 ∷ []) ∷ [])
+    -- not one of another type, nor into a temporary
+    ∷ asIs (param 6 ∷ []) (variable false 21 2 2 (tmp 22) end) [] (alive ∷ [])
+    -- v = __tmp: the delete of `v`, then it is alive and the temporary taken over
+    ∷ row (param 6 ∷ param 1 ∷ []) (assign 21 (v 22) (tmp 23) 1 tt end) (deletion 21 1 (assign 21 (v 22) (tmp 23) 1 tt end)) [] (alive ∷ gone false deleted (23 ∷ []) ∷ [])
+    -- the destination is a use; an assignment through ThisLiteral deletes nothing and revives `this`
+    ∷ asIs (param 0 ∷ []) (moving 21 (this 22) (assign 23 (this 24) literal 1 tt end)) (error 2 24 0 (22 ∷ []) ∷ []) (alive ∷ [])
+    ∷ asIs (param 0 ∷ []) (assign 23 (this 24) literal 1 tt end) [] (alive ∷ [])
+    -- and through an Ident named `this` it deletes
+    ∷ row (param 0 ∷ []) (assign 23 (ident 24 1 0) literal 1 tt end) (deletion 23 0 (assign 23 (ident 24 1 0) literal 1 tt end)) [] (alive ∷ [])
+    -- a temporary handed over twice: moved by the first
+    ∷ asIs (param 6 ∷ []) (stmt 21 (call 22 0 literal (more (tmp 23) (one (tmp 24)))) end) (error 2 24 0 (23 ∷ []) ∷ []) (gone false moved (23 ∷ []) ∷ [])
+    -- v.take(): consumed at the field access
+    ∷ asIs (param 1 ∷ []) (takesIt 21 (stmt 22 (v 23) end)) (error 3 23 0 (21 ∷ []) ∷ []) (gone false consumed (21 ∷ []) ∷ [])
+    -- deleted, moved or consumed in a branch: the first place, or all
+    ∷ asIs (param 1 ∷ []) (ifThen 21 literal 22 (deletes 23 end) (stmt 24 (v 25) end)) (error 4 25 0 (23 ∷ []) ∷ []) (gone true deleted (23 ∷ []) ∷ [])
+    ∷ asIs (param 1 ∷ []) (ifThen 21 literal 22 (moving 23 (v 23) end) (stmt 24 (v 25) end)) (error 5 25 0 (23 ∷ []) ∷ []) (gone true moved (23 ∷ []) ∷ [])
+    ∷ asIs (param 1 ∷ []) (ifThen 21 literal 22 (takesIt 23 end) (stmt 24 (v 25) end)) (error 6 25 0 (23 ∷ []) ∷ []) (gone true consumed (23 ∷ []) ∷ [])
+    -- two families join to Consumed, one to itself; then's place first
+    ∷ asIs (param 1 ∷ []) (ifElse 21 literal 22 (deletes 26 end) 24 (moving 25 (v 23) end) (stmt 27 (v 28) end)) (error 3 28 0 (26 ∷ 23 ∷ []) ∷ []) (gone false consumed (26 ∷ 23 ∷ []) ∷ [])
+    ∷ asIs (param 1 ∷ []) (ifElse 21 literal 22 (deletes 26 end) 24 (deletes 23 end) (stmt 27 (v 28) end)) (error 1 28 0 (26 ∷ []) ∷ []) (gone false deleted (26 ∷ 23 ∷ []) ∷ [])
+    -- a branch that returns is not joined
+    ∷ asIs (param 1 ∷ []) (ifThen 21 literal 22 (moving 23 (v 24) (bareReturn 25 0 end)) end) [] (alive ∷ [])
+    ∷ asIs (param 1 ∷ []) (ifElse 21 literal 22 (bareReturn 25 0 end) 23 (moving 24 (v 26) end) end) (left 25 1 ∷ []) (gone false moved (26 ∷ []) ∷ [])
+    -- the innermost frame that has the name is marked; a block's end deletes its own frame, with its span
+    ∷ asIs (param 1 ∷ []) (block 21 (variable false 22 1 1 literal (moving 23 (v 24) end)) end) [] (alive ∷ [])
+    ∷ row (param 1 ∷ []) (block 21 (variable false 22 1 1 literal end) end) (block 21 (variable false 22 1 1 literal (deletion 21 1 end)) end) [] (alive ∷ [])
+    -- an assignment tests the type of the newest local, the block's end each local's own
+    ∷ row [] (variable false 21 1 1 literal (variable false 22 1 0 literal (assign 23 (v 24) literal 1 tt end)))
+    (variable false 21 1 1 literal (variable false 22 1 0 literal (assign 23 (v 24) literal 1 tt (deletion 10 1 end)))) [] []
+    -- at a return the newest goes first; its moves are marked before; `this` is excluded by ThisLiteral
+    ∷ row (param 1 ∷ param 2 ∷ []) (return 21 literal 0 tt end) (deletion 0 2 (deletion 0 1 (return 21 literal 0 tt end))) [] (alive ∷ alive ∷ [])
+    ∷ asIs (param 1 ∷ []) (return 21 (nodeOf 14 22 0 4 none (one (v 23))) 0 tt end) [] (gone false moved (23 ∷ []) ∷ [])
+    ∷ row (param 0 ∷ param 1 ∷ []) (return 21 (this 22) 1 tt end) (deletion 0 1 (return 21 (this 22) 1 tt end)) [] (alive ∷ alive ∷ [])
+    -- what is left behind, newest first; code after a return is walked
+    ∷ asIs (param 1 ∷ param 2 ∷ []) (bareReturn 21 0 (bareReturn 22 0 end)) (left 21 2 ∷ left 21 1 ∷ left 22 2 ∷ left 22 1 ∷ []) (alive ∷ alive ∷ [])
+    ∷ []
+
+pub other-corners : map answer further ≡ further
+unfolding member sameBytes startsWith firstFrom andThen orElse inside structNamed structShaped structOfGeneric structOfTy structOf hasDestructor shouldAutoDelete classOfTy classOf modifierIn modifierOf isConsuming globalOf countWidth through auto isTempOf isMoveOf consumes globalIn takes handed finish effects exprStmtEffects takeOver assignEffects assignTakes calleeAt
+other-corners = refl

@@ -1,8 +1,7 @@
 -- Document 01's worked example, from its 81 bytes to what is given back, and an unused result with the place of its callee.
 -- Assumes nothing.
-use Prim.Native.Nat.{ℕ}
-use mathlib.Core.Path.{_≡_, refl, sym, _∙_, ap}
-use mathlib.Core.List.{List, [], _∷_}
+use mathlib.Core.Path.{_≡_, refl, _∙_, ap}
+use mathlib.Core.List.{[], _∷_}
 use lib.ListN.{getD}
 use Rattle.fields.specs.Bytes.{twoBytes, fourBytes, numberBytes, eachBytes}
 use Rattle.tables.specs.Limits.{version1}
@@ -12,7 +11,7 @@ use Rattle.lookup.specs.First.{firstFrom, andThen, orElse}
 use Rattle.lookup.specs.Ty.{inside, structNamed, structShaped, structOfGeneric, structOfTy, structOf, hasDestructor, shouldAutoDelete, classOfTy, classOf}
 use Rattle.lookup.specs.Signature.{modifierIn, modifierOf, isConsuming, globalOf}
 use Rattle.body.specs.Expr.{argWidth, countWidth, lastWidth, through, none}
-use Rattle.body.specs.Stmt.{Tree, exprStmt}
+use Rattle.body.specs.Stmt.{exprStmt}
 use Rattle.encoding.specs.Tables.{encodeName, encodeType, encodeMethod, encodeStruct, encodeGlobal, encodeParam, encodeEntry, encodeTables}
 use Rattle.encoding.specs.Body.{encodeExpr, size, encodeCode, encodeBlock}
 use Rattle.image.specs.Image.{Image, accepted, decode, encode}

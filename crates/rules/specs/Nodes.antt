@@ -1,6 +1,6 @@
 -- Expressions and tables that the examples are made of.
 use Prim.Native.Nat.{ℕ}
-use mathlib.Core.List.{List, [], _∷_}
+use mathlib.Core.List.{[], _∷_}
 use Rattle.tables.specs.Ty.{Ty}
 use Rattle.tables.specs.Signature.{Param}
 use Rattle.tables.specs.Tables.{Tables}
