@@ -3,6 +3,7 @@ pub mod Standing
 pub mod Shallow
 pub mod Walking
 pub mod Skipping
+pub mod StmtRead
 pub mod Statements
 pub mod Heads
 mod Reading

@@ -17,6 +17,7 @@ use Rattle.fields.proofs.Numbers.{field-ok, field-end}
 use Rattle.fields.proofs.Rules.{at}
 use Rattle.body.specs.Expr.{Expr, Exprs, Scope, none, more, exprAt, exprsAt}
 use Rattle.body.specs.Stmt.{Code, Tree, Block, StmtHead, Stmt, done, exprStmt, variable, assign, return, bareReturn, block, ifElse, ifThen, while, jump, headBytes, valueFlag, valueCount, typeWidth, blockCount, elseFlag, bindsOk, stmtHeadAt, valuesAt, frontAt, backAt, stmtAt, firstValue, firstBlock, beforeReturn, beforeIf, beforeOf, before, stmtsBy, blockAt, stmtsAt}
+use Rattle.body.proofs.StmtRead.{stmt-read}
 use Rattle.body.proofs.Standing.{stand-all, end-all, order-all}
 
 -- so many of a kind, as many as the count says
@@ -161,16 +162,11 @@ head-parts t s at h q e =
     }
 
 module _ (f : ℕ → Parsed Block) (t : Scope) (s : List ℕ) where
-  -- the steps, in variables
-  made : (at : ℕ) (h : StmtHead) (p m q : ℕ) (es : Exprs) (r l u : ℕ) (bs : List Block) (v k w : ℕ) (cs : List Block) (n : ℕ)
-      → HeadParts t s at h p → fieldAt 8 2 (getD valueFlag (h .tag) 0) s p ≡ ok m q
-      → exprsAt t s (t .exprDepth) (getD valueCount (h .tag) 0 + m) q ≡ ok es r
-      → fieldAt 8 (t .types) (getD typeWidth (h .tag) 0) s r ≡ ok l u
-      → manyOf [] _∷_ f (getD blockCount (h .tag) 0) u ≡ ok bs v
-      → fieldAt 8 2 (getD elseFlag (h .tag) 0) s v ≡ ok k w → manyOf [] _∷_ f k w ≡ ok cs n
-      → Parts f t s at (record { front = record { head = h; values = es; last = l }; blocks = bs; others = cs }) n (h .tag)
-  made at h p m q es r l u bs v k w cs n g e1 e2 e3 e4 e5 e6 =
-      record {
+  parts : (at : ℕ) (x : Stmt) (n : ℕ) → stmtAt f t s at ≡ ok x n → Parts f t s at x n (getD s at 0)
+  parts at x n e =
+      let r = stmt-read f t s x at n e in
+      let g = head-parts t s at (x .front .head) (r .p1) (r .head) in
+      subst (Parts f t s at x n) (sym (g .tag)) (record {
         tag = refl;
         low = g .low;
         high = g .high;
@@ -179,37 +175,20 @@ module _ (f : ℕ → Parsed Block) (t : Scope) (s : List ℕ) where
         span = g .span;
         name = g .name;
         ty = g .ty;
-        m = m;
-        p = q;
-        q = r;
-        r = u;
-        u = v;
-        w = k;
-        v = w;
-        flag = subst (λ y. fieldAt 8 2 (getD valueFlag (h .tag) 0) s y ≡ ok m q) (g .end) e1;
-        values = e2;
-        type = e3;
-        blocks = e4;
-        other = e5;
-        others = e6;
-      }
-
-  parts : (at : ℕ) (x : Stmt) (n : ℕ) → stmtAt f t s at ≡ ok x n → Parts f t s at x n (getD s at 0)
-  unfolding stmtAt frontAt valuesAt backAt
-  parts at x n e =
-      bound e (λ y o a1 a2. bound a1 (λ h p b1 b2. bound b2 (λ m q b3 b4. bound b4 (λ es r b5 b6. bound b6 (λ l u b7 b8.
-      bound a2 (λ bs v c1 c2. bound c2 (λ k w c3 c4. bound c4 (λ cs z c5 c6.
-      let ey : y ≡ record { head = h; values = es; last = l } = cc in
-      let eo : o ≡ u = cc in
-      let ez : z ≡ n = cc in
-      let ex : record { front = y; blocks = bs; others = cs } ≡ x = cc in
-      let g = head-parts t s at h p b1 in
-      let ky : y .head .tag ≡ h .tag = ap (λ a. a .head .tag) ey in
-      let d1 : manyOf [] _∷_ f (getD blockCount (h .tag) 0) u ≡ ok bs v = subst₂ (λ a b. manyOf [] _∷_ f (getD blockCount a 0) b ≡ ok bs v) ky eo c1 in
-      let d3 : fieldAt 8 2 (getD elseFlag (h .tag) 0) s v ≡ ok k w = subst (λ a. fieldAt 8 2 (getD elseFlag a 0) s v ≡ ok k w) ky c3 in
-      let d5 : manyOf [] _∷_ f k w ≡ ok cs n = c5 ∙ ap (ok cs) ez in
-      let fx : record { front = record { head = h; values = es; last = l }; blocks = bs; others = cs } ≡ x = ap (λ a. record { front = a; blocks = bs; others = cs }) (sym ey) ∙ ex in
-      subst₂ (λ a b. Parts f t s at a n b) fx (sym (g .tag)) (made at h p m q es r l u bs v k w cs n g b3 b5 b7 d1 d3 d5)))))))))
+        m = r .flag;
+        p = r .p2;
+        q = r .p3;
+        r = r .p4;
+        u = r .p5;
+        w = r .other;
+        v = r .p6;
+        flag = subst (λ y. fieldAt 8 2 (getD valueFlag (x .front .head .tag) 0) s y ≡ ok (r .flag) (r .p2)) (g .end) (r .flagged);
+        values = r .values;
+        type = r .last;
+        blocks = r .blocks;
+        other = r .followed;
+        others = r .others;
+      })
 
   of-tag : (k at : ℕ) (x : Stmt) (n : ℕ) → getD s at 0 ≡ k → stmtAt f t s at ≡ ok x n → Parts f t s at x n k
   of-tag k at x n ek e = subst (Parts f t s at x n) ek (parts at x n e)

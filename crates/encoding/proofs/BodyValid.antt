@@ -23,7 +23,7 @@ use Rattle.encoding.specs.Valid.{Each, EachExpr, ValidValue, ValidCode, 
 use Rattle.encoding.proofs.Parts.{two-small}
 use Rattle.encoding.proofs.Runs.{many-all}
 use Rattle.encoding.proofs.StmtBytes.{Shape, value-flag, else-flag, tags, encodes}
-use Rattle.encoding.proofs.StmtRead.{stmt-read, flag-small}
+use Rattle.body.proofs.StmtRead.{stmt-read, flag-small}
 use Rattle.encoding.proofs.ExprValid.{four-small, exprs-valid}
 
 -- the first and second of those that are there

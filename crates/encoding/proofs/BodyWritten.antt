@@ -22,7 +22,7 @@ use Rattle.encoding.specs.Body.{encodeCode, encodeBlock, size}
 use Rattle.encoding.proofs.Parts.{byte-at, then, nothing, upto, being, two-at, four-at, field-written}
 use Rattle.encoding.proofs.Runs.{many-all}
 use Rattle.encoding.proofs.ExprWritten.{exprs-written}
-use Rattle.encoding.proofs.StmtRead.{stmt-read, flag-small}
+use Rattle.body.proofs.StmtRead.{stmt-read, flag-small}
 use Rattle.encoding.proofs.StmtBytes.{headPart, stmtBytes, Shape, value-flag, else-flag, type-width, head-width, encodes}
 
 -- what a statement's reading tells

@@ -6,7 +6,6 @@ pub mod TablesReadBack
 pub mod ExprWritten
 pub mod ExprReadBack
 pub mod StmtBytes
-pub mod StmtRead
 pub mod BodyWritten
 pub mod BodyReadBack
 pub mod TablesValid
