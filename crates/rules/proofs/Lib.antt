@@ -1,5 +1,6 @@
 pub mod Bools
 pub mod Relate
+pub mod Frames
 pub mod Shapes
 pub mod Order
 pub mod Through

@@ -4,6 +4,7 @@ pub mod Stack
 pub mod State
 pub mod Effects
 pub mod Rules
+pub mod Frames
 pub mod Report
 pub mod Run
 pub mod Room
