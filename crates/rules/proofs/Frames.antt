@@ -14,7 +14,7 @@ use Rattle.tables.specs.Tables.{Tables}
 use Rattle.body.specs.Expr.{Expr}
 use Rattle.body.specs.Stmt.{Code, Tree, Block, done, exprStmt, variable, assign, return, bareReturn, block, ifElse, ifThen, while, jump}
 use Rattle.rules.specs.Questions.{auto}
-use Rattle.rules.specs.Expr.{Named, nobody, called, view, identIn, nameIn}
+use Rattle.rules.specs.Expr.{Named, nobody, called, view, identIn, nameIn, isCall, tyOf}
 use Rattle.rules.specs.Stack.{Static, Local, local, Stack, Shape, shape, inFrame, mark, lookup, pop, has, staticOf}
 use Rattle.rules.specs.State.{Kind, deleted, moved, consumed, State, alive, gone, isAlive, handState, joinState}
 use Rattle.rules.specs.Effects.{Effect, use′, kill, hand, badMove, globalMove, effects, exprStmtEffects, takeOver, assignEffects, assignTakes}
@@ -314,3 +314,369 @@ one-state {fs = fs} {s = s} {t = t} {a = a} {b = b} g i j p q =
     let x : getIn (frameAt (s .depth) fs) (s .name) ≡ some a = agree-says g i in
     let y : getIn (frameAt (t .depth) fs) (t .name) ≡ some b = agree-says g j in
     let z : some a ≡ some b = sym x ∙ ((λ i. getIn (frameAt (q i) fs) (p i)) ∙ y) in cc
+
+module _ (T : Tables) where
+  over-drops : {d : ℕ} {m : States} {τ : Stack State} {ls : List Var} {σ : Stack State} (q : Static → Bool) (r : ℕ → Bool) (p : ℕ)
+      → ((n t : ℕ) → r n ≡ q (record { name = n; ty = t; depth = d })) → Over d m τ ls σ
+      → frameDrops T r p m ls ++ collect states T q p τ ≡ collect states T q p σ
+  over-drops q r p h bottom = refl
+  over-drops {d} {m} {τ} q r p h (above {v} {a} {ls} {σ} e o) =
+      let s : Static = record { name = v .name; ty = v .ty; depth = d } in
+      ap (λ (b : Bool). cond (b && isLive (m (v .name)) && auto T (v .ty)) (dropOf p (v .name) (v .ty) ∷ frameDrops T r p m ls) (frameDrops T r p m ls) ++ collect states T q p τ) (h (v .name) (v .ty))
+      ∙ (ap (λ (x : Option State). cond (q s && isLive x && auto T (v .ty)) (dropOf p (v .name) (v .ty) ∷ frameDrops T r p m ls) (frameDrops T r p m ls) ++ collect states T q p τ) e
+      ∙ split (q s && isAlive a && auto T (v .ty)) (over-drops q r p h o))
+    where
+      split : (c : Bool) → frameDrops T r p m ls ++ collect states T q p τ ≡ collect states T q p σ
+          → cond c (dropOf p (v .name) (v .ty) ∷ frameDrops T r p m ls) (frameDrops T r p m ls) ++ collect states T q p τ
+          ≡ cond c (dropOf p (v .name) (v .ty) ∷ collect states T q p σ) (collect states T q p σ)
+      split true x = ap (λ (ds : List Drop). dropOf p (v .name) (v .ty) ∷ ds) x
+      split false x = x
+
+  -- collect_scope_drops
+  pub agree-return : {k : ℕ} {fs : Frames} {σ : Stack State} (n : Named) → Agree k fs σ → scopeDrops T n fs ≡ returnDrops states T n σ
+  agree-return n nothing = refl
+  agree-return n (framed {m = m} {ls = ls} g o q) =
+      ap (λ (ds : List Drop). frameDrops T (λ k. not (excludes n k)) 0 m ls ++ ds) (agree-return n g)
+      ∙ over-drops (λ s. not (excludes n (s .name))) (λ k. not (excludes n k)) 0 (λ j t. refl) o
+
+  free-drops : (d p : ℕ) (σ : Stack State) → Free d σ → tailDrops states T d p σ ≡ []
+  free-drops d p [] t = refl
+  free-drops d p (local s a ∷ σ) t =
+      ap (λ (b : Bool). cond (b && isAlive a && auto T (s .ty)) (dropOf p (s .name) (s .ty) ∷ tailDrops states T d p σ) (tailDrops states T d p σ)) (t .0)
+      ∙ free-drops d p σ (t .1)
+
+  -- transform_block's tail_drops
+  pub agree-tail : {d : ℕ} {fs : Frames} {σ : Stack State} (p : ℕ) → Agree (suc d) fs σ → lastDrops T p fs ≡ tailDrops states T d p σ
+  agree-tail p (framed {d} {m} {ls} {fs} {τ} g o q) =
+      sym (append-nil (frameDrops T (λ k. true) p m ls))
+      ∙ (ap (λ (ds : List Drop). frameDrops T (λ k. true) p m ls ++ ds) (sym (free-drops d p τ (free d (omega arith) g)))
+      ∙ over-drops (λ s. eqb (s .depth) d) (λ k. true) p (λ n t. sym (eqb-self d)) o)
+
+  both-tests : {A : Type 0} (a b : Bool) (x y : A) → cond b (cond a x y) y ≡ cond (a && b) x y
+  both-tests true b x y = refl
+  both-tests false true x y = refl
+  both-tests false false x y = refl
+
+  over-pre : {d : ℕ} {m : States} {τ : Stack State} {ls : List Var} {σ : Stack State} (p n : ℕ) → Over d m τ ls σ
+      → preDrop T p n (m n) (newest n ls) (dropNewest states T p n (lookup n τ)) ≡ dropNewest states T p n (lookup n σ)
+  over-pre p n bottom = refl
+  over-pre {d} {m} {τ} p n (above {v} {a} {ls} {σ} e o) = split (eqb (v .name) n) refl (over-pre p n o)
+    where
+      split : (c : Bool) → eqb (v .name) n ≡ c
+          → preDrop T p n (m n) (newest n ls) (dropNewest states T p n (lookup n τ)) ≡ dropNewest states T p n (lookup n σ)
+          → preDrop T p n (m n) (cond c (some v) (newest n ls)) (dropNewest states T p n (lookup n τ))
+          ≡ dropNewest states T p n (cond c (some (local (record { name = v .name; ty = v .ty; depth = d }) a)) (lookup n σ))
+      split true q r =
+          ap (λ (x : Option State). cond (auto T (v .ty)) (cond (isLive x) (dropOf p n (v .ty) ∷ []) []) []) (subst (λ (k : ℕ). m k ≡ some a) (same (v .name) n q) e)
+          ∙ both-tests (isAlive a) (auto T (v .ty)) (dropOf p n (v .ty) ∷ []) []
+      split false q r = r
+
+  agree-pre : {k : ℕ} {fs : Frames} {σ : Stack State} (p n : ℕ) → Agree k fs σ → preDeleteName T p n fs ≡ dropNewest states T p n (lookup n σ)
+  agree-pre p n nothing = refl
+  agree-pre p n (framed {m = m} {ls = ls} g o q) = ap (preDrop T p n (m n) (newest n ls)) (agree-pre p n g) ∙ over-pre p n o
+
+  agree-named : {k : ℕ} {fs : Frames} {σ : Stack State} (p : ℕ) (n : Named) → Agree k fs σ → preDeleteNamed T p n fs ≡ dropNamed states T p n σ
+  agree-named p nobody g = refl
+  agree-named p (called n s) g = agree-pre p n g
+
+  -- pre_delete_before_assign
+  pub agree-assign : {k : ℕ} {fs : Frames} {σ : Stack State} (p : ℕ) (dst : Expr) → Agree k fs σ → preDelete T p dst fs ≡ assignDrops states T p dst σ
+  agree-assign p dst g = agree-named p (identIn (view dst)) g
+
+-- the locals of each frame
+abbrev pub layout : Frames → List (List Var)
+layout [] = []
+layout (frame ls m ∷ fs) = ls ∷ layout fs
+
+-- two stacks of frames with the same locals
+data Same : Frames → Frames → Type 0 where
+  neither : Same [] []
+  both : {ls : List Var} {m m′ : States} {fs gs : Frames} → Same fs gs → Same (frame ls m ∷ fs) (frame ls m′ ∷ gs)
+
+same-layout : (fs gs : Frames) → layout fs ≡ layout gs → Same fs gs
+same-layout [] [] e = neither
+same-layout [] (frame ls m ∷ gs) e = let z : _≡_ {A = ℕ} 0 1 = cc in absurd (omega arith)
+same-layout (frame ls m ∷ fs) [] e = let z : _≡_ {A = ℕ} 0 1 = cc in absurd (omega arith)
+same-layout (frame ls m ∷ fs) (frame ls′ m′ ∷ gs) e =
+    let p : ls ≡ ls′ = cc in let q : layout fs ≡ layout gs = cc in
+    subst (λ (l : List Var). Same (frame ls m ∷ fs) (frame l m′ ∷ gs)) p (both (same-layout fs gs q))
+
+frame-below : (i : ℕ) (f : Frame) (fs : Frames) → i < length fs → frameAt i (f ∷ fs) ≡ frameAt i fs
+frame-below i f fs h =
+    ap (λ (c : Bool). cond c (some f) (frameAt i fs)) (no≡ (eqb (length fs) i) (λ u. let q : length fs ≡ i = eqb→eq (length fs) i u in omega arith))
+
+frame-last : (i : ℕ) (f : Frame) (fs : Frames) → length fs ≡ i → frameAt i (f ∷ fs) ≡ some f
+frame-last i f fs h = ap (λ (c : Bool). cond c (some f) (frameAt i fs)) (ap (λ (j : ℕ). eqb j i) h ∙ eqb-self i)
+
+module _ (f g : Bool) where
+  merge-cong : (bs ts ts′ : Frames) (es es′ : Option Frames) → ((i : ℕ) → i < length bs → frameAt i ts ≡ frameAt i ts′)
+      → ((i : ℕ) → i < length bs → elseAt i es ≡ elseAt i es′) → mergeFrames f g bs ts es ≡ mergeFrames f g bs ts′ es′
+  merge-cong [] ts ts′ es es′ h k = refl
+  merge-cong (b ∷ bs) ts ts′ es es′ h k =
+      let r : mergeFrames f g bs ts es ≡ mergeFrames f g bs ts′ es′ = merge-cong bs ts ts′ es es′ (λ i l. h i (omega arith)) (λ i l. k i (omega arith)) in
+      let x : frameAt (length bs) ts ≡ frameAt (length bs) ts′ = h (length bs) (omega arith) in
+      let y : elseAt (length bs) es ≡ elseAt (length bs) es′ = k (length bs) (omega arith) in
+      λ i. mergeFrame f g b (x i) (y i) ∷ r i
+
+  -- the innermost frames, then the others
+  merge-some : (ls ls′ ls″ : List Var) (m m′ m″ : States) (bs ts es : Frames) → length ts ≡ length bs → length es ≡ length bs
+      → mergeFrames f g (frame ls m ∷ bs) (frame ls′ m′ ∷ ts) (some (frame ls″ m″ ∷ es)) ≡ frame ls (λ n. mergeName f g (m n) (m′ n) (m″ n)) ∷ mergeFrames f g bs ts (some es)
+  merge-some ls ls′ ls″ m m′ m″ bs ts es p q =
+      let r : mergeFrames f g bs (frame ls′ m′ ∷ ts) (some (frame ls″ m″ ∷ es)) ≡ mergeFrames f g bs ts (some es) =
+          merge-cong bs (frame ls′ m′ ∷ ts) ts (some (frame ls″ m″ ∷ es)) (some es)
+          (λ i l. frame-below i (frame ls′ m′) ts (omega arith)) (λ i l. frame-below i (frame ls″ m″) es (omega arith)) in
+      λ i. mergeFrame f g (frame ls m) (frame-last (length bs) (frame ls′ m′) ts p i) (frame-last (length bs) (frame ls″ m″) es q i) ∷ r i
+
+  merge-none : (ls ls′ : List Var) (m m′ : States) (bs ts : Frames) → length ts ≡ length bs
+      → mergeFrames f g (frame ls m ∷ bs) (frame ls′ m′ ∷ ts) none ≡ frame ls (λ n. mergeName f g (m n) (m′ n) none) ∷ mergeFrames f g bs ts none
+  merge-none ls ls′ m m′ bs ts p =
+      let r : mergeFrames f g bs (frame ls′ m′ ∷ ts) none ≡ mergeFrames f g bs ts none =
+          merge-cong bs (frame ls′ m′ ∷ ts) ts none none (λ i l. frame-below i (frame ls′ m′) ts (omega arith)) (λ i l. refl) in
+      λ i. mergeFrame f g (frame ls m) (frame-last (length bs) (frame ls′ m′) ts p i) none ∷ r i
+
+  -- no else is an else that does nothing
+  no-else : (x y : Option State) → mergeName f g x y none ≡ mergeName f g x y x
+  no-else none y = refl
+  no-else (some a) y = refl
+
+  same-length : {fs gs : Frames} → Same fs gs → length gs ≡ length fs
+  same-length neither = refl
+  same-length (both s) = ap suc (same-length s)
+
+  merge-else : {bs ts : Frames} → Same bs ts → mergeFrames f g bs ts none ≡ mergeFrames f g bs ts (some bs)
+  merge-else neither = refl
+  merge-else (both {ls} {m} {m′} {fs = bs} {gs = ts} s) =
+      let r : mergeFrames f g bs ts none ≡ mergeFrames f g bs ts (some bs) = merge-else s in
+      merge-none ls ls m m′ bs ts (same-length s)
+      ∙ ((λ i. frame ls (λ n. no-else (m n) (m′ n) i) ∷ r i) ∙ sym (merge-some ls ls ls m m′ m bs ts bs (same-length s) refl))
+
+  name-merge : (x y z : Option State) (a b c : State) → x ≡ some a → y ≡ some b → z ≡ some c → mergeName f g x y z ≡ some (mergeState f g a b c)
+  name-merge x y z a b c p q r i = mergeName f g (p i) (q i) (r i)
+
+  names-merge : (x y z : Option State) → isSome (mergeName f g x y z) ≡ isSome x
+  names-merge none y z = refl
+  names-merge (some a) y z = refl
+
+over-merge : {d : ℕ} {m m′ m″ : States} {σ₀ τ₀ υ₀ : Stack State} {ls : List Var} {σ τ υ : Stack State} (f g : Bool)
+    → Over d m σ₀ ls σ → Over d m′ τ₀ ls τ → Over d m″ υ₀ ls υ
+    → Over d (λ n. mergeName f g (m n) (m′ n) (m″ n)) (merge states f g σ₀ τ₀ υ₀) ls (merge states f g σ τ υ)
+over-merge f g bottom bottom bottom = bottom
+over-merge true true (above p o) (above q o′) (above r o″) = above (name-merge true true _ _ _ _ _ _ p q r) (over-merge true true o o′ o″)
+over-merge true false (above p o) (above q o′) (above r o″) = above (name-merge true false _ _ _ _ _ _ p q r) (over-merge true false o o′ o″)
+over-merge false true (above p o) (above q o′) (above r o″) = above (name-merge false true _ _ _ _ _ _ p q r) (over-merge false true o o′ o″)
+over-merge false false (above p o) (above q o′) (above r o″) = above (name-merge false false _ _ _ _ _ _ p q r) (over-merge false false o o′ o″)
+
+merge-empty : (f g : Bool) → Agree 0 [] (merge states f g [] [] [])
+merge-empty true true = nothing
+merge-empty true false = nothing
+merge-empty false true = nothing
+merge-empty false false = nothing
+
+merge-same : {k : ℕ} {bs ts es : Frames} {σ τ υ : Stack State} (f g : Bool) → Same bs ts → Same bs es → Agree k bs σ → Agree k ts τ → Agree k es υ
+    → Agree k (mergeFrames f g bs ts (some es)) (merge states f g σ τ υ)
+merge-same f g neither neither nothing nothing nothing = merge-empty f g
+merge-same {k} {σ = σ} {τ = τ} {υ = υ} f g (both {ls} {m} {m′} {fs = bs} {gs = ts} s) (both {m′ = m″} {gs = es} s′) (framed x o q) (framed x′ o′ q′) (framed x″ o″ q″) =
+    subst (λ (fs : Frames). Agree k fs (merge states f g σ τ υ)) (sym (merge-some f g ls ls ls m m′ m″ bs ts es (same-length f g s) (same-length f g s′)))
+    (framed (merge-same f g s s′ x x′ x″) (over-merge f g o o′ o″) (λ n. names-merge f g (m n) (m′ n) (m″ n) ∙ q n))
+
+-- merge_control_flow_states, with an else and without
+pub agree-merge : {k : ℕ} {bs ts es : Frames} {σ τ υ : Stack State} (f g : Bool) → layout bs ≡ layout ts → layout bs ≡ layout es
+    → Agree k bs σ → Agree k ts τ → Agree k es υ → Agree k (mergeFrames f g bs ts (some es)) (merge states f g σ τ υ)
+agree-merge {bs = bs} {ts = ts} {es = es} f g p q x y z = merge-same f g (same-layout bs ts p) (same-layout bs es q) x y z
+
+pub agree-merge-then : {k : ℕ} {bs ts : Frames} {σ τ : Stack State} (f g : Bool) → layout bs ≡ layout ts
+    → Agree k bs σ → Agree k ts τ → Agree k (mergeFrames f g bs ts none) (merge states f g σ τ σ)
+agree-merge-then {k} {bs} {ts} {σ} {τ} f g p x y =
+    subst (λ (fs : Frames). Agree k fs (merge states f g σ τ σ)) (sym (merge-else f g (same-layout bs ts p))) (agree-merge f g p refl x y x)
+
+-- an effect, effects, and what an expression does
+pub agree-apply : {k : ℕ} {fs : Frames} {σ : Stack State} (e : Effect) → Agree k fs σ → Agree k (applyFrames e fs) (apply states e σ)
+agree-apply (use′ n s) g = g
+agree-apply (kill deleted n s) g = agree-mark n _ _ (λ a y. refl) g
+agree-apply (kill moved n s) g = agree-mark n _ _ (λ a y. refl) g
+agree-apply (kill consumed n s) g = agree-mark n _ _ (λ a y. refl) g
+agree-apply (hand n s) g = agree-hand n s g
+agree-apply (badMove s h) g = g
+agree-apply (globalMove s x) g = g
+
+pub agree-all : {k : ℕ} {fs : Frames} {σ : Stack State} (es : List Effect) → Agree k fs σ → Agree k (applyAllFrames es fs) (applyAll states es σ)
+agree-all [] g = g
+agree-all (e ∷ es) g = agree-all es (agree-apply e g)
+
+pub agree-doing : {k : ℕ} {fs : Frames} {σ : Stack State} (f : Shape → List Effect) → Agree k fs σ → Agree k (doingFrames f fs) (doing states f σ)
+agree-doing {k} {fs} {σ} f g = subst (λ (Γ : Shape). Agree k (applyAllFrames (f Γ) fs) (doing states f σ)) (agree-shape g) (agree-all (f (shape σ)) g)
+
+-- mark_assigned_alive
+pub agree-revived : {k : ℕ} {fs : Frames} {σ : Stack State} (n : Named) → Agree k fs σ → Agree k (markAlive n fs) (revived states n σ)
+agree-revived nobody g = g
+agree-revived (called n s) g = agree-mark n (λ a. alive) alive (λ a y. refl) g
+
+-- what is left once the innermost frame is popped
+abbrev pub rest : List (List Var) → List (List Var)
+rest [] = []
+rest (l ∷ ls) = ls
+
+layout-mark : (n : ℕ) (w : State) (fs : Frames) → layout (markAs n w fs) ≡ layout fs
+layout-mark n w [] = refl
+layout-mark n w (frame ls m ∷ fs) = split (isSome (m n)) (layout-mark n w fs)
+  where
+    split : (c : Bool) → layout (markAs n w fs) ≡ layout fs → layout (cond c (frame ls (insert n w m) ∷ fs) (frame ls m ∷ markAs n w fs)) ≡ ls ∷ layout fs
+    split true r = refl
+    split false r = ap (λ (ks : List (List Var)). ls ∷ ks) r
+
+layout-hand : (c : Bool) (n p : ℕ) (fs : Frames) → layout (moveIf c n p fs) ≡ layout fs
+layout-hand true n p fs = layout-mark n _ fs
+layout-hand false n p fs = refl
+
+layout-apply : (e : Effect) (fs : Frames) → layout (applyFrames e fs) ≡ layout fs
+layout-apply (use′ n s) fs = refl
+layout-apply (kill deleted n s) fs = layout-mark n _ fs
+layout-apply (kill moved n s) fs = layout-mark n _ fs
+layout-apply (kill consumed n s) fs = layout-mark n _ fs
+layout-apply (hand n s) fs = layout-hand (isLive (findState n fs)) n s fs
+layout-apply (badMove s h) fs = refl
+layout-apply (globalMove s x) fs = refl
+
+layout-all : (es : List Effect) (fs : Frames) → layout (applyAllFrames es fs) ≡ layout fs
+layout-all [] fs = refl
+layout-all (e ∷ es) fs = layout-all es (applyFrames e fs) ∙ layout-apply e fs
+
+layout-revived : (n : Named) (fs : Frames) → layout (markAlive n fs) ≡ layout fs
+layout-revived nobody fs = refl
+layout-revived (called n s) fs = layout-mark n alive fs
+
+layout-register : (n t : ℕ) (fs : Frames) → rest (layout (registerLocal n t fs)) ≡ rest (layout fs)
+layout-register n t [] = refl
+layout-register n t (frame ls m ∷ fs) = refl
+
+layout-merge : (f g : Bool) (bs ts : Frames) (es : Option Frames) → layout (mergeFrames f g bs ts es) ≡ layout bs
+layout-merge f g [] ts es = refl
+layout-merge f g (frame ls m ∷ bs) ts es = split (frameAt (length bs) ts) (layout-merge f g bs ts es)
+  where
+    split : (x : Option Frame) → layout (mergeFrames f g bs ts es) ≡ layout bs
+        → layout (mergeFrame f g (frame ls m) x (elseAt (length bs) es) ∷ mergeFrames f g bs ts es) ≡ ls ∷ layout bs
+    split none r = ap (λ (ks : List (List Var)). ls ∷ ks) r
+    split (some (frame ls′ m′)) r = ap (λ (ks : List (List Var)). ls ∷ ks) r
+
+module _ (T : Tables) where
+  layout-variable : (n t : ℕ) (e : Expr) (fs : Frames) → rest (layout (afterVariableFrames T n t e fs)) ≡ rest (layout fs)
+  layout-variable n t e fs =
+      ap rest (layout-all (takeOver T (shapeOf fs) n t e) (registerLocal n t (evaluateFrames T e fs)))
+      ∙ (layout-register n t (evaluateFrames T e fs) ∙ ap rest (layout-all (effects T (shapeOf fs) e) fs))
+
+  layout-assign : (e v : Expr) (fs : Frames) → layout (afterAssignFrames T e v fs) ≡ layout fs
+  layout-assign e v fs = layout-all (assignTakes T (shapeOf fs) e v) (markAlive (nameIn (view e)) fs) ∙ layout-revived (nameIn (view e)) fs
+
+  -- the walk of a block pops its own frame and keeps the locals of the others
+  pub layout-exit : {X Y : Type 0} (c : Code X Y) (fs : Frames) → layout (exitFrames T c fs) ≡ rest (layout fs)
+  layout-exit (done x) [] = refl
+  layout-exit (done x) (frame ls m ∷ fs) = refl
+  layout-exit (exprStmt s e y r) fs = layout-exit r (afterExprFrames T e fs) ∙ ap rest (layout-all (exprStmtEffects T (shapeOf fs) e) fs)
+  layout-exit (variable k s n t e r) fs = layout-exit r (afterVariableFrames T n t e fs) ∙ layout-variable n t e fs
+  layout-exit (assign s e v t x r) fs =
+      let gs = beforeAssignFrames T e v fs in
+      layout-exit r (afterAssignFrames T e v gs) ∙ ap rest (layout-assign e v gs ∙ layout-all (assignEffects T (shapeOf fs) e v) fs)
+  layout-exit (return s e t x r) fs = layout-exit r (evaluateFrames T e fs) ∙ ap rest (layout-all (effects T (shapeOf fs) e) fs)
+  layout-exit (bareReturn s t r) fs = layout-exit r fs
+  layout-exit (block s c r) fs = layout-exit r (exitFrames T c (push fs)) ∙ ap rest (layout-exit c (push fs))
+  layout-exit (ifElse s e ts t us u r) fs =
+      let gs = evaluateFrames T e fs in
+      layout-exit r (mergeFrames (sureFrom t false) (sureFrom u false) gs (exitFrames T t (push gs)) (some (exitFrames T u (push gs))))
+      ∙ ap rest (layout-merge (sureFrom t false) (sureFrom u false) gs (exitFrames T t (push gs)) (some (exitFrames T u (push gs))) ∙ layout-all (effects T (shapeOf fs) e) fs)
+  layout-exit (ifThen s e ts t r) fs =
+      let gs = evaluateFrames T e fs in
+      layout-exit r (mergeFrames (sureFrom t false) false gs (exitFrames T t (push gs)) none)
+      ∙ ap rest (layout-merge (sureFrom t false) false gs (exitFrames T t (push gs)) none ∙ layout-all (effects T (shapeOf fs) e) fs)
+  layout-exit (while s e ts t r) fs =
+      let gs = evaluateFrames T e fs in
+      layout-exit r (mergeFrames false false gs (exitFrames T t (push gs)) none)
+      ∙ ap rest (layout-merge false false gs (exitFrames T t (push gs)) none ∙ layout-all (effects T (shapeOf fs) e) fs)
+  layout-exit (jump k s r) fs = layout-exit r fs
+
+  -- a statement's parts
+  pub agree-evaluate : {k : ℕ} {fs : Frames} {σ : Stack State} (e : Expr) → Agree k fs σ → Agree k (evaluateFrames T e fs) (evaluate states T e σ)
+  agree-evaluate e g = agree-doing (λ Γ. effects T Γ e) g
+
+  pub agree-expr : {k : ℕ} {fs : Frames} {σ : Stack State} (e : Expr) → Agree k fs σ → Agree k (afterExprFrames T e fs) (afterExpr states T e σ)
+  agree-expr e g = agree-doing (λ Γ. exprStmtEffects T Γ e) g
+
+  pub agree-before : {k : ℕ} {fs : Frames} {σ : Stack State} (e v : Expr) → Agree k fs σ → Agree k (beforeAssignFrames T e v fs) (beforeAssign states T e v σ)
+  agree-before e v g = agree-doing (λ Γ. assignEffects T Γ e v) g
+
+  pub agree-after : {k : ℕ} {fs : Frames} {σ : Stack State} (e v : Expr) → Agree k fs σ → Agree k (afterAssignFrames T e v fs) (afterAssign states T e v σ)
+  agree-after {k} {fs} {σ} e v g =
+      subst (λ (Γ : Shape). Agree k (applyAllFrames (assignTakes T Γ e v) (markAlive (nameIn (view e)) fs)) (afterAssign states T e v σ)) (agree-shape g)
+      (agree-all (assignTakes T (shape σ) e v) (agree-revived (nameIn (view e)) g))
+
+  pub agree-variable : {d : ℕ} {fs : Frames} {σ : Stack State} (n t : ℕ) (e : Expr) → Agree (suc d) fs σ
+      → Agree (suc d) (afterVariableFrames T n t e fs) (afterVariable states T d n t e σ)
+  agree-variable {d} {fs} {σ} n t e g =
+      subst (λ (Γ : Shape). Agree (suc d) (applyAllFrames (takeOver T Γ n t e) (registerLocal n t (evaluateFrames T e fs))) (afterVariable states T d n t e σ)) (agree-shape g)
+      (agree-all (takeOver T (shape σ) n t e) (agree-register n t (agree-evaluate e g)))
+
+  pub agree-entered : {fs : Frames} {σ : Stack State} (ps : List Param) → Agree 1 fs σ → Agree 1 (enteredFrames ps fs) (entered states T ps σ)
+  agree-entered [] g = g
+  agree-entered (x ∷ xs) g = agree-entered xs (agree-register (x .name) (x .ty) g)
+
+  -- every tree: the walk on frames and on the flat stack come to stacks that agree
+  pub walk-agrees : {X Y : Type 0} {d : ℕ} {fs : Frames} {σ : Stack State} (c : Code X Y) → Agree (suc d) fs σ → Agree d (exitFrames T c fs) (exit states T c d σ)
+  walk-agrees (done x) g = agree-pop g
+  walk-agrees (exprStmt s e y r) g = walk-agrees r (agree-expr e g)
+  walk-agrees (variable k s n t e r) g = walk-agrees r (agree-variable n t e g)
+  walk-agrees (assign s e v t x r) g = walk-agrees r (agree-after e v (agree-before e v g))
+  walk-agrees (return s e t x r) g = walk-agrees r (agree-evaluate e g)
+  walk-agrees (bareReturn s t r) g = walk-agrees r g
+  walk-agrees (block s c r) g = walk-agrees r (walk-agrees c (agree-push g))
+  walk-agrees {fs = fs} (ifElse s e ts t us u r) g =
+      let g′ = agree-evaluate e g in
+      let gs = evaluateFrames T e fs in
+      walk-agrees r
+      (agree-merge (sureFrom t false) (sureFrom u false) (sym (layout-exit t (push gs))) (sym (layout-exit u (push gs))) g′
+      (walk-agrees t (agree-push g′)) (walk-agrees u (agree-push g′)))
+  walk-agrees {fs = fs} (ifThen s e ts t r) g =
+      let g′ = agree-evaluate e g in
+      walk-agrees r (agree-merge-then (sureFrom t false) false (sym (layout-exit t (push (evaluateFrames T e fs)))) g′ (walk-agrees t (agree-push g′)))
+  walk-agrees {fs = fs} (while s e ts t r) g =
+      let g′ = agree-evaluate e g in
+      walk-agrees r (agree-merge-then false false (sym (layout-exit t (push (evaluateFrames T e fs)))) g′ (walk-agrees t (agree-push g′)))
+  walk-agrees (jump k s r) g = walk-agrees r g
+
+  -- every tree: the decisions are the same
+  pub decide-agrees : {d : ℕ} {fs : Frames} {σ : Stack State} (c : Tree) (p : ℕ) (f : Bool) → Agree (suc d) fs σ → decideFrames T c p f fs ≡ decide states T c p d f σ
+  decide-agrees (done x) p f g = λ i. done (cond f [] (agree-tail T p g i))
+  decide-agrees (exprStmt s e y r) p f g = ap (exprStmt s e (auto T (tyOf e) && isCall (view e))) (decide-agrees r p false (agree-expr e g))
+  decide-agrees (variable k s n t e r) p f g = ap (variable k s n t e) (decide-agrees r p false (agree-variable n t e g))
+  decide-agrees (assign s e v t x r) p f g =
+      let g′ = agree-before e v g in let q = decide-agrees r p false (agree-after e v g′) in
+      λ i. assign s e v t (agree-assign T s e g′ i) (q i)
+  decide-agrees (return s e t x r) p f g =
+      let g′ = agree-evaluate e g in let q = decide-agrees r p true g′ in
+      λ i. return s e t (agree-return T (nameIn (view e)) g′ i) (q i)
+  decide-agrees (bareReturn s t r) p f g = ap (bareReturn s t) (decide-agrees r p true g)
+  decide-agrees (block s c r) p f g =
+      let a = decide-agrees c s false (agree-push g) in let q = decide-agrees r p (sureFrom c false) (walk-agrees c (agree-push g)) in
+      λ i. block s (a i) (q i)
+  decide-agrees {fs = fs} (ifElse s e ts t us u r) p f g =
+      let g′ = agree-evaluate e g in
+      let gs = evaluateFrames T e fs in
+      let a = decide-agrees t ts false (agree-push g′) in
+      let b = decide-agrees u us false (agree-push g′) in
+      let q = decide-agrees r p (sureFrom t false && sureFrom u false)
+          (agree-merge (sureFrom t false) (sureFrom u false) (sym (layout-exit t (push gs))) (sym (layout-exit u (push gs))) g′
+          (walk-agrees t (agree-push g′)) (walk-agrees u (agree-push g′))) in
+      λ i. ifElse s e ts (a i) us (b i) (q i)
+  decide-agrees {fs = fs} (ifThen s e ts t r) p f g =
+      let g′ = agree-evaluate e g in
+      let a = decide-agrees t ts false (agree-push g′) in
+      let q = decide-agrees r p false (agree-merge-then (sureFrom t false) false (sym (layout-exit t (push (evaluateFrames T e fs)))) g′ (walk-agrees t (agree-push g′))) in
+      λ i. ifThen s e ts (a i) (q i)
+  decide-agrees {fs = fs} (while s e ts t r) p f g =
+      let g′ = agree-evaluate e g in
+      let a = decide-agrees t ts false (agree-push g′) in
+      let q = decide-agrees r p false (agree-merge-then false false (sym (layout-exit t (push (evaluateFrames T e fs)))) g′ (walk-agrees t (agree-push g′))) in
+      λ i. while s e ts (a i) (q i)
+  decide-agrees (jump k s r) p f g = ap (jump k s) (decide-agrees r p false g)
+
+-- every body: what the pass decides with mod.rs's frames is what the rules decide
+pub body-agrees : (T : Tables) (x : Entry) (b : Block) → decideBodyFrames T x b ≡ decideBody T x b
+body-agrees T x b = decide-agrees T (b .code) (b .span) false (agree-push (agree-entered T (localsOf x) (agree-push nothing)))
