@@ -1,6 +1,6 @@
 -- The flat scope stack of Stack.antt and mod.rs's frames agree, and stay so under all that the pass does.
 -- Assumes nothing.
-use Prim.Native.Nat.{ℕ, suc, _≤_, _<_}
+use Prim.Native.Nat.{ℕ, suc, _+_, _≤_, _<_}
 use native.Mathlib.Omega.{arith}
 use mathlib.Core.Path.{_≡_, refl, sym, _∙_, ap, subst}
 use mathlib.Core.Bool.{Bool, true, false, not, _&&_, _||_, cond}
@@ -13,21 +13,23 @@ use Rattle.tables.specs.Signature.{Param, Entry}
 use Rattle.tables.specs.Tables.{Tables}
 use Rattle.body.specs.Expr.{Expr}
 use Rattle.body.specs.Stmt.{Code, Tree, Block, done, exprStmt, variable, assign, return, bareReturn, block, ifElse, ifThen, while, jump}
-use Rattle.rules.specs.Questions.{auto}
+use Rattle.image.specs.Image.{Image}
+use Rattle.rules.specs.Questions.{auto, isTempOf}
 use Rattle.rules.specs.Expr.{Named, nobody, called, view, identIn, nameIn, isCall, tyOf}
 use Rattle.rules.specs.Stack.{Static, Local, local, Stack, Shape, shape, inFrame, mark, lookup, pop, has, staticOf}
-use Rattle.rules.specs.State.{Kind, deleted, moved, consumed, State, alive, gone, isAlive, handState, joinState}
-use Rattle.rules.specs.Effects.{Effect, use′, kill, hand, badMove, globalMove, effects, exprStmtEffects, takeOver, assignEffects, assignTakes}
-use Rattle.rules.specs.Rules.{Drop, dropOf, states, sureFrom, excludes, localsOf, apply, applyAll, doing, revived, register, joins, merge, collect, tailDrops, returnDrops, dropNewest, dropNamed, assignDrops, evaluate, afterExpr, afterVariable, beforeAssign, afterAssign, exit, decide, entered, decideBody}
-use Rattle.rules.specs.Frames.{Var, States, insert, isSome, isLive, Frame, frame, Frames, push, popFrame, registerLocal, enteredFrames, orElse, newest, findLocal, findState, markAs, markDeleted, markMoved, markConsumed, markAlive, moveIf, handTemp, mergeState, unwrapOr, mergeName, frameAt, elseAt, getIn, mergeFrame, mergeFrames, numbered, shapeOf, applyFrames, applyAllFrames, doingFrames, frameDrops, scopeDrops, lastDrops, preDrop, preDeleteName, preDeleteNamed, preDelete, evaluateFrames, afterExprFrames, afterVariableFrames, beforeAssignFrames, afterAssignFrames, exitFrames, decideFrames, decideBodyFrames}
-use Rattle.rules.proofs.Bools.{yes≡, no≡, of≡, eqb-self}
+use Rattle.rules.specs.State.{deleted, moved, consumed, State, alive, gone, isAlive, handState}
+use Rattle.rules.specs.Effects.{Effect, use′, kill, hand, badMove, globalMove, effects, exprStmtEffects, takeOver, assignEffects, assignTakes, handName}
+use Rattle.rules.specs.Rules.{Drop, dropOf, states, sureFrom, excludes, localsOf, apply, applyAll, doing, revived, register, merge, collect, tailDrops, returnDrops, dropNewest, dropNamed, assignDrops, evaluate, afterExpr, afterVariable, beforeAssign, afterAssign, exit, decide, entered, decideBody}
+use Rattle.rules.specs.Report.{useOf, reportOf, reportAll, unused, leftBehind, exprBytes, codeBytes, report, bodyStart, reports}
+use Rattle.rules.specs.Frames.{handLocal, useFrames, reportFrame, reportAllFrames, reportFrames, reportsFrames, Var, States, insert, isSome, isLive, Frame, frame, Frames, push, popFrame, registerLocal, enteredFrames, orElse, newest, findLocal, findState, markAs, markDeleted, markMoved, markConsumed, markAlive, moveIf, handTemp, mergeState, mergeName, frameAt, elseAt, getIn, mergeFrame, mergeFrames, numbered, shapeOf, applyFrames, applyAllFrames, doingFrames, frameDrops, scopeDrops, lastDrops, preDrop, preDeleteName, preDeleteNamed, preDelete, evaluateFrames, afterExprFrames, afterVariableFrames, beforeAssignFrames, afterAssignFrames, exitFrames, decideFrames, decideBodyFrames}
+use Rattle.rules.proofs.Bools.{no≡, of≡, eqb-self}
 
 -- has one of a frame's locals the name
 abbrev pub named : ℕ → List Var → Bool
 named n [] = false
 named n (v ∷ ls) = eqb (v .name) n || named n ls
 
--- The third stack is the locals of a frame with d frames outside it, each with the state that the frame's map m gives for its name, on top of τ.
+-- The last stack is the locals of a frame with d frames outside it, each with the state that the frame's map m gives for its name, on top of τ.
 pub data Over (d : ℕ) (m : States) (τ : Stack State) : List Var → Stack State → Type 0 where
   bottom : Over d m τ [] τ
   above : {v : Var} {a : State} {ls : List Var} {σ : Stack State} → m (v .name) ≡ some a → Over d m τ ls σ
@@ -96,6 +98,7 @@ over-mark {d} {m} {τ} n f w t h z (above {v} {a} {ls} {σ} e o) = split (eqb (v
   where
     s : Static
     s = record { name = v .name; ty = v .ty; depth = d }
+
     split : (c : Bool) → eqb (v .name) n ≡ c → (c || named n ls) ≡ true → (named n ls ≡ true → Over d (insert n w m) τ ls (mark n f σ))
         → Over d (insert n w m) τ (v ∷ ls) (cond c (local s (f a) ∷ inFrame n d f σ) (local s a ∷ mark n f σ))
     split true q y r = above {v = v} {a = f a} (rw q (ap some (sym (h a (subst (λ (k : ℕ). m k ≡ some a) (same (v .name) n q) e))))) (over-some n f w t h o)
@@ -109,6 +112,7 @@ over-past {d} {m} {τ} n f z (above {v} {a} {ls} {σ} e o) = split (eqb (v .name
   where
     s : Static
     s = record { name = v .name; ty = v .ty; depth = d }
+
     split : (c : Bool) → (c || named n ls) ≡ false → (named n ls ≡ false → Over d m (mark n f τ) ls (mark n f σ))
         → Over d m (mark n f τ) (v ∷ ls) (cond c (local s (f a) ∷ inFrame n d f σ) (local s a ∷ mark n f σ))
     split true y r = absurd (subst So y tt)
@@ -139,6 +143,16 @@ agree-mark n f w h (framed {d} {m} {ls} {fs} {τ} {σ} g o q) = split (m n) refl
     split none e r =
         subst (λ (c : Bool). Agree (suc d) (cond c (frame ls (insert n w m) ∷ fs) (frame ls m ∷ markAs n w fs)) (mark n f σ)) (sym (ap isSome e))
         (framed (r λ a y. h a (ap (λ (x : Option State). orElse x (findState n fs)) e ∙ y)) (over-past n f (sym (q n) ∙ ap isSome e) o) q)
+
+-- mark_deleted, mark_moved, mark_consumed
+pub agree-deleted : {k : ℕ} {fs : Frames} {σ : Stack State} (n p : ℕ) → Agree k fs σ → Agree k (markDeleted n p fs) (apply states (kill deleted n p) σ)
+agree-deleted n p g = agree-mark n _ _ (λ a y. refl) g
+
+pub agree-moved : {k : ℕ} {fs : Frames} {σ : Stack State} (n p : ℕ) → Agree k fs σ → Agree k (markMoved n p fs) (apply states (kill moved n p) σ)
+agree-moved n p g = agree-mark n _ _ (λ a y. refl) g
+
+pub agree-consumed : {k : ℕ} {fs : Frames} {σ : Stack State} (n p : ℕ) → Agree k fs σ → Agree k (markConsumed n p fs) (apply states (kill consumed n p) σ)
+agree-consumed n p g = agree-mark n _ _ (λ a y. refl) g
 
 -- register_local
 pub agree-register : {d : ℕ} {fs : Frames} {σ : Stack State} (n t : ℕ) → Agree (suc d) fs σ → Agree (suc d) (registerLocal n t fs) (register states n t d σ)
@@ -172,6 +186,7 @@ insert-same n w m e i k = point k i
     split : (k : ℕ) (c : Bool) → eqb k n ≡ c → cond c (some w) (m k) ≡ m k
     split k true q = sym (subst (λ (j : ℕ). m j ≡ some w) (sym (same k n q)) e)
     split k false q = refl
+
     point : (k : ℕ) → insert n w m k ≡ m k
     point k = split k (eqb k n) refl
 
@@ -195,8 +210,10 @@ agree-hand {k} {fs} {σ} n p g = split (findState n fs) refl
   where
     unsome : (a b : State) → some a ≡ some b → a ≡ b
     unsome a b e = cc
+
     kept : (w : State) → ((b : State) → findState n fs ≡ some b → b ≡ w) → handState p w ≡ w → Agree k fs (mark n (handState p) σ)
     kept w h e = subst (λ (gs : Frames). Agree k gs (mark n (handState p) σ)) (mark-idle n w fs h) (agree-mark n (handState p) w (λ a y. ap (handState p) (h a y) ∙ e) g)
+
     split : (x : Option State) → findState n fs ≡ x → Agree k (moveIf (isLive x) n p fs) (mark n (handState p) σ)
     split (some alive) e = agree-mark n (handState p) (gone false moved (p ∷ [])) (λ a y. ap (handState p) (unsome a alive (sym y ∙ e))) g
     split (some (gone c j ps)) e = kept (gone c j ps) (λ b y. unsome b (gone c j ps) (sym y ∙ e)) refl
@@ -277,6 +294,11 @@ agree-state n (framed {m = m} {ls = ls} {fs = fs} {τ = τ} g o q) =
     ap (orElse (m n)) (agree-state n g)
     ∙ (or-else (m n) (stateOf (lookup n τ)) ∙ (ap (λ (b : Bool). cond b (m n) (stateOf (lookup n τ))) (q n) ∙ over-state n o))
 
+-- so a hand-over that asks the newest local's state is the one that goes local by local
+pub hand-newest : {k : ℕ} {fs : Frames} {σ : Stack State} (n p : ℕ) (s : Static) (a : State) → Agree k fs σ → lookup n σ ≡ some (local s a)
+    → mark n (handState p) σ ≡ mark n (λ b. handState p a) σ
+hand-newest n p s a g e = mark-found n (handState p) a g (agree-state n g ∙ ap stateOf e)
+
 -- a local of a flat stack, with what it says of it
 pub data Says (s : Static) (a : State) : Stack State → Type 0 where
   newest′ : {σ : Stack State} → Says s a (local s a ∷ σ)
@@ -304,7 +326,7 @@ agree-says (framed {d} {m} {ls} {fs} {τ} {σ} g o q) i = split g (over-says o i
         ap (λ (c : Bool). getIn (cond c (some (frame ls m)) (frameAt (s .depth) fs)) (s .name)) e ∙ h .1
     split {s} {a} g (inr i) r =
         let e : eqb (length fs) (s .depth) ≡ false =
-            eqb-comm (length fs) (s .depth) ∙ (ap (λ (j : ℕ). eqb (s .depth) j) (agree-length g) ∙ free-says d (free d (omega arith) g) i) in
+        eqb-comm (length fs) (s .depth) ∙ (ap (λ (j : ℕ). eqb (s .depth) j) (agree-length g) ∙ free-says d (free d (omega arith) g) i) in
         ap (λ (c : Bool). getIn (cond c (some (frame ls m)) (frameAt (s .depth) fs)) (s .name)) e ∙ r i
 
 -- all locals of one name and depth have one state
@@ -423,15 +445,15 @@ module _ (f g : Bool) where
       → mergeFrames f g (frame ls m ∷ bs) (frame ls′ m′ ∷ ts) (some (frame ls″ m″ ∷ es)) ≡ frame ls (λ n. mergeName f g (m n) (m′ n) (m″ n)) ∷ mergeFrames f g bs ts (some es)
   merge-some ls ls′ ls″ m m′ m″ bs ts es p q =
       let r : mergeFrames f g bs (frame ls′ m′ ∷ ts) (some (frame ls″ m″ ∷ es)) ≡ mergeFrames f g bs ts (some es) =
-          merge-cong bs (frame ls′ m′ ∷ ts) ts (some (frame ls″ m″ ∷ es)) (some es)
-          (λ i l. frame-below i (frame ls′ m′) ts (omega arith)) (λ i l. frame-below i (frame ls″ m″) es (omega arith)) in
+      merge-cong bs (frame ls′ m′ ∷ ts) ts (some (frame ls″ m″ ∷ es)) (some es)
+      (λ i l. frame-below i (frame ls′ m′) ts (omega arith)) (λ i l. frame-below i (frame ls″ m″) es (omega arith)) in
       λ i. mergeFrame f g (frame ls m) (frame-last (length bs) (frame ls′ m′) ts p i) (frame-last (length bs) (frame ls″ m″) es q i) ∷ r i
 
   merge-none : (ls ls′ : List Var) (m m′ : States) (bs ts : Frames) → length ts ≡ length bs
       → mergeFrames f g (frame ls m ∷ bs) (frame ls′ m′ ∷ ts) none ≡ frame ls (λ n. mergeName f g (m n) (m′ n) none) ∷ mergeFrames f g bs ts none
   merge-none ls ls′ m m′ bs ts p =
       let r : mergeFrames f g bs (frame ls′ m′ ∷ ts) none ≡ mergeFrames f g bs ts none =
-          merge-cong bs (frame ls′ m′ ∷ ts) ts none none (λ i l. frame-below i (frame ls′ m′) ts (omega arith)) (λ i l. refl) in
+      merge-cong bs (frame ls′ m′ ∷ ts) ts none none (λ i l. frame-below i (frame ls′ m′) ts (omega arith)) (λ i l. refl) in
       λ i. mergeFrame f g (frame ls m) (frame-last (length bs) (frame ls′ m′) ts p i) none ∷ r i
 
   -- no else is an else that does nothing
@@ -492,9 +514,9 @@ agree-merge-then {k} {bs} {ts} {σ} {τ} f g p x y =
 -- an effect, effects, and what an expression does
 pub agree-apply : {k : ℕ} {fs : Frames} {σ : Stack State} (e : Effect) → Agree k fs σ → Agree k (applyFrames e fs) (apply states e σ)
 agree-apply (use′ n s) g = g
-agree-apply (kill deleted n s) g = agree-mark n _ _ (λ a y. refl) g
-agree-apply (kill moved n s) g = agree-mark n _ _ (λ a y. refl) g
-agree-apply (kill consumed n s) g = agree-mark n _ _ (λ a y. refl) g
+agree-apply (kill deleted n s) g = agree-deleted n s g
+agree-apply (kill moved n s) g = agree-moved n s g
+agree-apply (kill consumed n s) g = agree-consumed n s g
 agree-apply (hand n s) g = agree-hand n s g
 agree-apply (badMove s h) g = g
 agree-apply (globalMove s x) g = g
@@ -510,6 +532,64 @@ agree-doing {k} {fs} {σ} f g = subst (λ (Γ : Shape). Agree k (applyAllFrames 
 pub agree-revived : {k : ℕ} {fs : Frames} {σ : Stack State} (n : Named) → Agree k fs σ → Agree k (markAlive n fs) (revived states n σ)
 agree-revived nobody g = g
 agree-revived (called n s) g = agree-mark n (λ a. alive) alive (λ a y. refl) g
+
+-- what the effects ask of the locals is what find_local gives: the newest local's type, and whether there is one
+abbrev pub varIn : Option Static → Option Var
+varIn none = none
+varIn (some s) = some (record { name = s .name; ty = s .ty })
+
+numbered-static : (n d : ℕ) (ls : List Var) (Γ : Shape) → varIn (staticOf n (numbered d ls Γ)) ≡ orElse (newest n ls) (varIn (staticOf n Γ))
+numbered-static n d [] Γ = refl
+numbered-static n d (v ∷ ls) Γ = split (eqb (v .name) n) (numbered-static n d ls Γ)
+  where
+    split : (c : Bool) → varIn (staticOf n (numbered d ls Γ)) ≡ orElse (newest n ls) (varIn (staticOf n Γ))
+        → varIn (cond c (some (record { name = v .name; ty = v .ty; depth = d })) (staticOf n (numbered d ls Γ)))
+        ≡ orElse (cond c (some v) (newest n ls)) (varIn (staticOf n Γ))
+    split true r = refl
+    split false r = r
+
+pub static-found : (n : ℕ) (fs : Frames) → varIn (staticOf n (shapeOf fs)) ≡ findLocal n fs
+static-found n [] = refl
+static-found n (frame ls m ∷ fs) = numbered-static n (length fs) ls (shapeOf fs) ∙ ap (orElse (newest n ls)) (static-found n fs)
+
+has-static : (n : ℕ) (Γ : Shape) → has n Γ ≡ isSome (varIn (staticOf n Γ))
+has-static n [] = refl
+has-static n (s ∷ Γ) = split (eqb (s .name) n) (has-static n Γ)
+  where
+    split : (c : Bool) → has n Γ ≡ isSome (varIn (staticOf n Γ)) → (c || has n Γ) ≡ isSome (varIn (cond c (some s) (staticOf n Γ)))
+    split true r = refl
+    split false r = r
+
+pub has-found : (n : ℕ) (fs : Frames) → has n (shapeOf fs) ≡ isSome (findLocal n fs)
+has-found n fs = has-static n (shapeOf fs) ∙ ap isSome (static-found n fs)
+
+-- mark_compiler_temp_consumed, of a name
+pub hand-local : (T : Tables) (n p : ℕ) (fs : Frames) → applyAllFrames (handName T (shapeOf fs) n p) fs ≡ handLocal T n p fs
+hand-local T n p fs =
+    split (has n (shapeOf fs) && isTempOf T n) ∙ ap (λ (b : Bool). cond (b && isTempOf T n) (handTemp n p fs) fs) (has-found n fs)
+  where
+    split : (c : Bool) → applyAllFrames (cond c (hand n p ∷ []) []) fs ≡ cond c (handTemp n p fs) fs
+    split true = refl
+    split false = refl
+
+-- validate_identifier_use
+use-of : (s : ℕ) (o : Option (Local State)) → useFrames s (stateOf o) ≡ useOf s o
+use-of s none = refl
+use-of s (some (local l a)) = refl
+
+agree-report : {k : ℕ} {fs : Frames} {σ : Stack State} (e : Effect) → Agree k fs σ → reportFrame e fs ≡ reportOf e σ
+agree-report {σ = σ} (use′ n s) g = ap (useFrames s) (agree-state n g) ∙ use-of s (lookup n σ)
+agree-report (kill k n s) g = refl
+agree-report (hand n s) g = refl
+agree-report (badMove s h) g = refl
+agree-report (globalMove s x) g = refl
+
+agree-reports : {k : ℕ} {fs : Frames} {σ : Stack State} (es : List Effect) → Agree k fs σ → reportAllFrames es fs ≡ reportAll es σ
+agree-reports [] g = refl
+agree-reports (e ∷ es) g = let a = agree-report e g in let b = agree-reports es (agree-apply e g) in λ i. a i ++ b i
+
+pub agree-use : {k : ℕ} {fs : Frames} {σ : Stack State} (f : Shape → List Effect) → Agree k fs σ → reportAllFrames (f (shapeOf fs)) fs ≡ reportAll (f (shape σ)) σ
+agree-use {fs = fs} {σ = σ} f g = ap (λ (Γ : Shape). reportAllFrames (f Γ) fs) (sym (agree-shape g)) ∙ agree-reports (f (shape σ)) g
 
 -- what is left once the innermost frame is popped
 abbrev pub rest : List (List Var) → List (List Var)
@@ -662,8 +742,8 @@ module _ (T : Tables) where
       let a = decide-agrees t ts false (agree-push g′) in
       let b = decide-agrees u us false (agree-push g′) in
       let q = decide-agrees r p (sureFrom t false && sureFrom u false)
-          (agree-merge (sureFrom t false) (sureFrom u false) (sym (layout-exit t (push gs))) (sym (layout-exit u (push gs))) g′
-          (walk-agrees t (agree-push g′)) (walk-agrees u (agree-push g′))) in
+      (agree-merge (sureFrom t false) (sureFrom u false) (sym (layout-exit t (push gs))) (sym (layout-exit u (push gs))) g′
+      (walk-agrees t (agree-push g′)) (walk-agrees u (agree-push g′))) in
       λ i. ifElse s e ts (a i) us (b i) (q i)
   decide-agrees {fs = fs} (ifThen s e ts t r) p f g =
       let g′ = agree-evaluate e g in
@@ -677,6 +757,65 @@ module _ (T : Tables) where
       λ i. while s e ts (a i) (q i)
   decide-agrees (jump k s r) p f g = ap (jump k s) (decide-agrees r p false g)
 
+  -- every tree: the reports are the same
+  pub report-agrees : {d : ℕ} {fs : Frames} {σ : Stack State} (c : Tree) (at : ℕ) → Agree (suc d) fs σ → reportFrames T c at fs ≡ report T c d at σ
+  report-agrees (done x) at g = refl
+  report-agrees (exprStmt s e y r) at g =
+      let a = agree-use (λ Γ. exprStmtEffects T Γ e) g in let q = report-agrees r (at + 5 + exprBytes e) (agree-expr e g) in
+      λ i. a i ++ (unused (auto T (tyOf e) && isCall (view e)) s e at ++ q i)
+  report-agrees (variable k s n t e r) at g =
+      let a = agree-use (λ Γ. effects T Γ e) g in let q = report-agrees r (at + 9 + exprBytes e) (agree-variable n t e g) in
+      λ i. a i ++ q i
+  report-agrees (assign s e v t x r) at g =
+      let a = agree-use (λ Γ. assignEffects T Γ e v) g in
+      let q = report-agrees r (at + 7 + exprBytes e + exprBytes v) (agree-after e v (agree-before e v g)) in
+      λ i. a i ++ q i
+  report-agrees (return s e t x r) at g =
+      let a = agree-use (λ Γ. effects T Γ e) g in let q = report-agrees r (at + 8 + exprBytes e) (agree-evaluate e g) in
+      λ i. a i ++ q i
+  report-agrees (bareReturn s t r) at g =
+      let q = report-agrees r (at + 8) g in
+      λ i. leftBehind s (agree-return T nobody g i) ++ q i
+  report-agrees (block s c r) at g =
+      let a = report-agrees c (at + 7) (agree-push g) in let q = report-agrees r (at + 7 + codeBytes c) (walk-agrees c (agree-push g)) in
+      λ i. a i ++ q i
+  report-agrees {fs = fs} (ifElse s e ts t us u r) at g =
+      let g′ = agree-evaluate e g in
+      let gs = evaluateFrames T e fs in
+      let o = agree-use (λ Γ. effects T Γ e) g in
+      let a = report-agrees t (at + 11 + exprBytes e) (agree-push g′) in
+      let b = report-agrees u (at + 18 + exprBytes e + codeBytes t) (agree-push g′) in
+      let q = report-agrees r (at + 18 + exprBytes e + codeBytes t + codeBytes u)
+      (agree-merge (sureFrom t false) (sureFrom u false) (sym (layout-exit t (push gs))) (sym (layout-exit u (push gs))) g′
+      (walk-agrees t (agree-push g′)) (walk-agrees u (agree-push g′))) in
+      λ i. o i ++ (a i ++ (b i ++ q i))
+  report-agrees {fs = fs} (ifThen s e ts t r) at g =
+      let g′ = agree-evaluate e g in
+      let o = agree-use (λ Γ. effects T Γ e) g in
+      let a = report-agrees t (at + 11 + exprBytes e) (agree-push g′) in
+      let q = report-agrees r (at + 12 + exprBytes e + codeBytes t)
+      (agree-merge-then (sureFrom t false) false (sym (layout-exit t (push (evaluateFrames T e fs)))) g′ (walk-agrees t (agree-push g′))) in
+      λ i. o i ++ (a i ++ q i)
+  report-agrees {fs = fs} (while s e ts t r) at g =
+      let g′ = agree-evaluate e g in
+      let o = agree-use (λ Γ. effects T Γ e) g in
+      let a = report-agrees t (at + 11 + exprBytes e) (agree-push g′) in
+      let q = report-agrees r (at + 11 + exprBytes e + codeBytes t)
+      (agree-merge-then false false (sym (layout-exit t (push (evaluateFrames T e fs)))) g′ (walk-agrees t (agree-push g′))) in
+      λ i. o i ++ (a i ++ q i)
+  report-agrees (jump k s r) at g = report-agrees r (at + 5) g
+
 -- every body: what the pass decides with mod.rs's frames is what the rules decide
 pub body-agrees : (T : Tables) (x : Entry) (b : Block) → decideBodyFrames T x b ≡ decideBody T x b
 body-agrees T x b = decide-agrees T (b .code) (b .span) false (agree-push (agree-entered T (localsOf x) (agree-push nothing)))
+
+-- every image: what the pass reports with mod.rs's frames is what the rules report
+pub reports-agree : (i : Image) → reportsFrames i ≡ reports i
+reports-agree i =
+    report-agrees (i .tables) (i .body .code) (bodyStart i) (agree-push (agree-entered (i .tables) (localsOf (i .entry)) (agree-push nothing)))
+
+-- The whole: of every image the pass on mod.rs's frames gives the decisions and the reports of the rules on the flat stack. Its steps: agree-local,
+-- agree-state, agree-deleted, agree-moved, agree-consumed, agree-revived, agree-hand, agree-register, agree-push, agree-pop, agree-merge, agree-merge-then, agree-return,
+-- agree-tail, agree-assign, walk-agrees; the empty stacks agree by `nothing`.
+pub frames-agree : (i : Image) → (decideBodyFrames (i .tables) (i .entry) (i .body) ≡ decideBody (i .tables) (i .entry) (i .body)) × (reportsFrames i ≡ reports i)
+frames-agree i = (body-agrees (i .tables) (i .entry) (i .body), reports-agree i)

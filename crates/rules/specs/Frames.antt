@@ -1,7 +1,7 @@
 -- The scope stack as mod.rs keeps it: frames, innermost first, each with its locals and a map from names to states. What the pass
 -- does to them, and the rules of Rules.antt on them.
-use Prim.Native.Nat.{ℕ}
-use mathlib.Core.Bool.{Bool, true, false, not, _&&_, _||_, cond}
+use Prim.Native.Nat.{ℕ, _+_}
+use mathlib.Core.Bool.{Bool, true, false, not, _&&_, cond}
 use mathlib.Core.List.{List, [], _∷_, _++_}
 use mathlib.Core.Option.{Option, none, some}
 use lib.ListN.{length}
@@ -10,12 +10,14 @@ use Rattle.tables.specs.Signature.{Param, Entry}
 use Rattle.tables.specs.Tables.{Tables}
 use Rattle.body.specs.Expr.{Expr}
 use Rattle.body.specs.Stmt.{Code, Tree, Block, done, exprStmt, variable, assign, return, bareReturn, block, ifElse, ifThen, while, jump}
-use Rattle.rules.specs.Questions.{auto}
+use Rattle.image.specs.Image.{Image}
+use Rattle.rules.specs.Questions.{auto, isTempOf}
 use Rattle.rules.specs.Expr.{Named, nobody, called, view, identIn, nameIn, isCall, tyOf}
-use Rattle.rules.specs.Stack.{Static, Shape}
-use Rattle.rules.specs.State.{Kind, deleted, moved, consumed, State, alive, gone, isAlive, joinState}
+use Rattle.rules.specs.Stack.{Shape}
+use Rattle.rules.specs.State.{deleted, moved, consumed, State, alive, gone, isAlive, joinState}
 use Rattle.rules.specs.Effects.{Effect, use′, kill, hand, badMove, globalMove, effects, exprStmtEffects, takeOver, assignEffects, assignTakes}
 use Rattle.rules.specs.Rules.{Drop, dropOf, Decided, sureFrom, excludes, localsOf}
+use Rattle.rules.specs.Report.{Report, error, badUse, unused, leftBehind, exprBytes, codeBytes, bodyStart}
 
 -- LocalVar; is_compiler_temp is a question to its name
 pub record Var : Type 0 where
@@ -116,6 +118,10 @@ moveIf false n p fs = fs
 abbrev pub handTemp : ℕ → ℕ → Frames → Frames
 handTemp n p fs = moveIf (isLive (findState n fs)) n p fs
 
+-- mark_compiler_temp_consumed, of a name
+abbrev pub handLocal : Tables → ℕ → ℕ → Frames → Frames
+handLocal T n p fs = cond (isSome (findLocal n fs) && isTempOf T n) (handTemp n p fs) fs
+
 -- merge_control_flow_states, of one name: does then, does else surely return; base, then, else
 abbrev pub mergeState : Bool → Bool → State → State → State → State
 mergeState true true a b c = a
@@ -177,6 +183,22 @@ applyFrames (globalMove s g) fs = fs
 abbrev pub applyAllFrames : List Effect → Frames → Frames
 applyAllFrames [] fs = fs
 applyAllFrames (e ∷ es) fs = applyAllFrames es (applyFrames e fs)
+
+-- validate_identifier_use, of what find_state gives
+abbrev pub useFrames : ℕ → Option State → List Report
+useFrames s none = []
+useFrames s (some a) = badUse s a
+
+abbrev pub reportFrame : Effect → Frames → List Report
+reportFrame (use′ n s) fs = useFrames s (findState n fs)
+reportFrame (kill k n s) fs = []
+reportFrame (hand n s) fs = []
+reportFrame (badMove s h) fs = error 7 s h [] ∷ []
+reportFrame (globalMove s g) fs = error 8 s 0 (g ∷ []) ∷ []
+
+abbrev pub reportAllFrames : List Effect → Frames → List Report
+reportAllFrames [] fs = []
+reportAllFrames (e ∷ es) fs = reportFrame e fs ++ reportAllFrames es (applyFrames e fs)
 
 abbrev pub doingFrames : (Shape → List Effect) → Frames → Frames
 doingFrames f fs = applyAllFrames (f (shapeOf fs)) fs
@@ -273,6 +295,44 @@ module _ (T : Tables) where
       (decideFrames r p false (mergeFrames false false (evaluateFrames e fs) (exitFrames t (push (evaluateFrames e fs))) none))
   decideFrames (jump k s r) p f fs = jump k s (decideFrames r p false fs)
 
+  -- transform_block: what is reported of the statements that stand at a position, in walking order
+  abbrev pub reportFrames : Tree → ℕ → Frames → List Report
+  reportFrames (done x) at fs = []
+  reportFrames (exprStmt s e y r) at fs =
+      reportAllFrames (exprStmtEffects T (shapeOf fs) e) fs
+      ++ (unused (auto T (tyOf e) && isCall (view e)) s e at ++ reportFrames r (at + 5 + exprBytes e) (afterExprFrames e fs))
+  reportFrames (variable k s n t e r) at fs =
+      reportAllFrames (effects T (shapeOf fs) e) fs ++ reportFrames r (at + 9 + exprBytes e) (afterVariableFrames n t e fs)
+  reportFrames (assign s e v t x r) at fs =
+      reportAllFrames (assignEffects T (shapeOf fs) e v) fs
+      ++ reportFrames r (at + 7 + exprBytes e + exprBytes v) (afterAssignFrames e v (beforeAssignFrames e v fs))
+  reportFrames (return s e t x r) at fs =
+      reportAllFrames (effects T (shapeOf fs) e) fs ++ reportFrames r (at + 8 + exprBytes e) (evaluateFrames e fs)
+  reportFrames (bareReturn s t r) at fs = leftBehind s (scopeDrops nobody fs) ++ reportFrames r (at + 8) fs
+  reportFrames (block s c r) at fs = reportFrames c (at + 7) (push fs) ++ reportFrames r (at + 7 + codeBytes c) (exitFrames c (push fs))
+  reportFrames (ifElse s e ts t us u r) at fs =
+      reportAllFrames (effects T (shapeOf fs) e) fs
+      ++ (reportFrames t (at + 11 + exprBytes e) (push (evaluateFrames e fs))
+      ++ (reportFrames u (at + 18 + exprBytes e + codeBytes t) (push (evaluateFrames e fs))
+      ++ reportFrames r (at + 18 + exprBytes e + codeBytes t + codeBytes u)
+      (mergeFrames (sureFrom t false) (sureFrom u false) (evaluateFrames e fs) (exitFrames t (push (evaluateFrames e fs)))
+      (some (exitFrames u (push (evaluateFrames e fs)))))))
+  reportFrames (ifThen s e ts t r) at fs =
+      reportAllFrames (effects T (shapeOf fs) e) fs
+      ++ (reportFrames t (at + 11 + exprBytes e) (push (evaluateFrames e fs))
+      ++ reportFrames r (at + 12 + exprBytes e + codeBytes t)
+      (mergeFrames (sureFrom t false) false (evaluateFrames e fs) (exitFrames t (push (evaluateFrames e fs))) none))
+  reportFrames (while s e ts t r) at fs =
+      reportAllFrames (effects T (shapeOf fs) e) fs
+      ++ (reportFrames t (at + 11 + exprBytes e) (push (evaluateFrames e fs))
+      ++ reportFrames r (at + 11 + exprBytes e + codeBytes t)
+      (mergeFrames false false (evaluateFrames e fs) (exitFrames t (push (evaluateFrames e fs))) none))
+  reportFrames (jump k s r) at fs = reportFrames r (at + 5) fs
+
 -- run_ownership_for_method_body, run_ownership_for_body: from vec![ScopeFrame::default()]
 abbrev pub decideBodyFrames : Tables → Entry → Block → Decided
 decideBodyFrames T x b = decideFrames T (b .code) (b .span) false (push (enteredFrames (localsOf x) (push [])))
+
+-- what is reported of an image
+abbrev pub reportsFrames : Image → List Report
+reportsFrames i = reportFrames (i .tables) (i .body .code) (bodyStart i) (push (enteredFrames (localsOf (i .entry)) (push [])))

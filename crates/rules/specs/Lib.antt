@@ -4,8 +4,8 @@ pub mod Stack
 pub mod State
 pub mod Effects
 pub mod Rules
-pub mod Frames
 pub mod Report
+pub mod Frames
 pub mod Run
 pub mod Room
 pub mod Nodes
