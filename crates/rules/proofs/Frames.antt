@@ -805,16 +805,16 @@ module _ (T : Tables) where
       λ i. o i ++ (a i ++ q i)
   report-agrees (jump k s r) at g = report-agrees r (at + 5) g
 
--- every body: what the pass decides with mod.rs's frames is what the rules decide
+-- every body: on mod.rs's frames the rules decide what they decide on the flat stack
 pub body-agrees : (T : Tables) (x : Entry) (b : Block) → decideBodyFrames T x b ≡ decideBody T x b
 body-agrees T x b = decide-agrees T (b .code) (b .span) false (agree-push (agree-entered T (localsOf x) (agree-push nothing)))
 
--- every image: what the pass reports with mod.rs's frames is what the rules report
+-- every image: on mod.rs's frames the rules report what they report on the flat stack
 pub reports-agree : (i : Image) → reportsFrames i ≡ reports i
 reports-agree i =
     report-agrees (i .tables) (i .body .code) (bodyStart i) (agree-push (agree-entered (i .tables) (localsOf (i .entry)) (agree-push nothing)))
 
--- The whole: of every image the pass on mod.rs's frames gives the decisions and the reports of the rules on the flat stack. Its steps: agree-local,
+-- The whole: of every image the rules give the same decisions and the same reports on mod.rs's frames and on the flat stack. Its steps: agree-local,
 -- agree-state, agree-deleted, agree-moved, agree-consumed, agree-revived, agree-hand, agree-register, agree-push, agree-pop, agree-merge, agree-merge-then, agree-return,
 -- agree-tail, agree-assign, walk-agrees; the empty stacks agree by `nothing`.
 pub frames-agree : (i : Image) → (decideBodyFrames (i .tables) (i .entry) (i .body) ≡ decideBody (i .tables) (i .entry) (i .body)) × (reportsFrames i ≡ reports i)
