@@ -7,6 +7,7 @@ pub mod Worked
 pub mod Needed
 pub mod Bools
 pub mod Relate
+pub mod Frames
 pub mod Shapes
 pub mod Order
 pub mod Through

@@ -5,6 +5,7 @@ pub mod State
 pub mod Effects
 pub mod Rules
 pub mod Report
+pub mod Frames
 pub mod Run
 pub mod Room
 pub mod Nodes
