@@ -3,7 +3,7 @@ pub mod Rows
 pub mod EffectRows
 pub mod WalkRows
 pub mod OnBytes
-pub mod Worked
+pub mod UnusedResult
 pub mod Needed
 pub mod Bools
 pub mod Relate

@@ -1,4 +1,4 @@
--- Document 01's worked example, from its 81 bytes to what is given back, and an unused result with the place of its callee.
+-- An unused result with the place of its callee, by computation.
 -- Assumes nothing.
 use mathlib.Core.Path.{_≡_, refl, _∙_, ap}
 use mathlib.Core.List.{[], _∷_}
@@ -22,35 +22,18 @@ use Rattle.rules.specs.Expr.{calleeAt}
 use Rattle.rules.specs.Effects.{takes, handed, finish, effects, exprStmtEffects, takeOver, assignEffects, assignTakes}
 use Rattle.rules.specs.Report.{error, warning, returnedImage, reports, withCode}
 
--- accepted 81 1 0 0, error 1 15 0 13: what is read of the bytes, what is reported, and the bytes given back
-pub record Worked : Type 0 where
-  pub read : decode version1 bytes ≡ accepted tree
-  pub reported : reports tree ≡ error 1 15 0 (13 ∷ []) ∷ []
-  pub written : encode version1 (returnedImage tree) ≡ bytes
-
-worked-tree : returnedImage tree ≡ tree
-unfolding sameBytes startsWith firstFrom andThen orElse inside structNamed structShaped structOfGeneric structOfTy structOf hasDestructor shouldAutoDelete classOfTy classOf modifierIn modifierOf isConsuming globalOf countWidth through auto isTempOf isMoveOf consumes globalIn takes handed finish effects exprStmtEffects takeOver assignEffects assignTakes
-worked-tree = refl
-
-worked-reports : reports tree ≡ error 1 15 0 (13 ∷ []) ∷ []
-unfolding sameBytes startsWith firstFrom andThen orElse inside structNamed structShaped structOfGeneric structOfTy structOf hasDestructor shouldAutoDelete classOfTy classOf modifierIn modifierOf isConsuming globalOf countWidth through auto isTempOf isMoveOf consumes globalIn takes handed finish effects exprStmtEffects takeOver assignEffects assignTakes
-worked-reports = refl
-
-pub worked : Worked
-worked = record { read = example-read; reported = worked-reports; written = ap (encode version1) worked-tree ∙ example-written }
-
--- the same tables with two statements, `x;` and `x();` in a unary without an operator: the second's result is unused
+-- the tables of document 01's example with two statements, `x;` and `x();` in a unary without an operator: the second's result is unused
 abbrev pub unusedResult : Image
 unusedResult = withCode tree (exprStmt 11 (ident 12 1 1) tt (exprStmt 13 (unary 14 1 0 (call 15 1 (ident 16 1 1) none)) tt end))
 
 -- a warning with the statement's span and where the callee's tag, that of an Ident, stands
-pub record Warned : Type 0 where
+pub record Unused : Type 0 where
   pub reported : reports unusedResult ≡ warning 13 80 ∷ []
   pub stands : getD (encode version1 unusedResult) 80 0 ≡ 1
   pub span : getD (encode version1 unusedResult) 84 0 ≡ 16
   pub returned : returnedImage unusedResult
       ≡ withCode tree (exprStmt 11 (ident 12 1 1) tt (exprStmt 13 (delete 13 (unary 14 1 0 (call 15 1 (ident 16 1 1) none))) tt end))
 
-pub warned : Warned
+pub unused-result : Unused
 unfolding sameBytes startsWith firstFrom andThen orElse inside structNamed structShaped structOfGeneric structOfTy structOf hasDestructor shouldAutoDelete classOfTy classOf modifierIn modifierOf isConsuming globalOf countWidth through auto isTempOf isMoveOf consumes globalIn takes handed finish effects exprStmtEffects takeOver assignEffects assignTakes calleeAt twoBytes fourBytes numberBytes eachBytes ofWidth shapeWidth argWidth lastWidth encodeName encodeType encodeMethod encodeStruct encodeGlobal encodeParam encodeEntry encodeTables encodeExpr size encodeCode encodeBlock encode
-warned = record { reported = refl; stands = refl; span = refl; returned = refl }
+unused-result = record { reported = refl; stands = refl; span = refl; returned = refl }
