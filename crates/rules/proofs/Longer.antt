@@ -16,6 +16,8 @@ use Rattle.encoding.specs.Tables.{encodeTables, encodeEntry}
 use Rattle.rules.specs.Rules.{Drop, dropOf, Decided, decideBody}
 use Rattle.rules.specs.Report.{deleteNode, identNode, inserts, flatten, strike, withCode, returnedImage}
 use Rattle.rules.specs.Run.{code}
+use native.Mathlib.Nat.{le-refl}
+use Rattle.rules.specs.Verdict.{RoomFor}
 use Rattle.rules.specs.Room.{added, roomBound}
 use Rattle.rules.proofs.Strike.{strike-body}
 use Rattle.rules.proofs.RoomBound.{room}
@@ -192,3 +194,7 @@ room-image L i =
     let h = longer-image L i in
     let r = room (i .tables) (i .entry) (i .body) in
     omega arith
+
+-- so the room entry can answer the bytes that are written
+pub room-met : (L : Limits) (i : Image) → RoomFor L i (length (encode L (returnedImage i)))
+room-met L i = record { enough = le-refl _; most = room-image L i }
