@@ -2,7 +2,7 @@
 
 mod common;
 
-use common::{case, generated, stored, Random};
+use common::{case, generated, repository, stored, Random};
 use image_text::tree::{Expr, Kind, Node, Statement};
 use image_text::{print::blocks, print_image, read_image, read_text, Limits, RETURNED, SUBMITTED};
 use std::collections::BTreeSet;
@@ -191,4 +191,24 @@ fn returned_limits() {
     }
     assert!(read_text(deep(24).as_bytes(), SUBMITTED).is_ok());
     assert!(read_text(deep(26).as_bytes(), RETURNED).is_err());
+}
+
+// What tools/README.md shows is read, and its first example is the stored one.
+#[test]
+fn readme() {
+    let readme = String::from_utf8(repository("tools/README.md")).unwrap();
+    let example = String::from_utf8(case("example.txt")).unwrap();
+    let indented: Vec<String> = example.lines().map(|line| format!("    {line}").trim_end().to_string()).collect();
+    assert!(readme.contains(&indented.join("\n")));
+    let context = "image version 1 names { \"this\" x y f v T } types { plain T [T] *T } structs { } globals { } entry no receiver () body @1 {";
+    let (_, tables) = readme.split_once("| statements |").unwrap();
+    let mut read = 0;
+    for form in tables.lines().filter(|line| line.starts_with('|')).flat_map(|line| line.split('`').skip(1).step_by(2)) {
+        let form = form.replace("...", "");
+        let statement = if form.starts_with('@') { form } else { format!("@9 {form};") };
+        let found = read_text(format!("{context} {statement} }}").as_bytes(), SUBMITTED);
+        assert!(found.is_ok(), "{statement}: {found:?}");
+        read += 1;
+    }
+    assert_eq!(read, 35);
 }
