@@ -11,14 +11,15 @@ use Rattle.lookup.specs.First.{firstFrom, andThen, orElse}
 use Rattle.lookup.specs.Ty.{inside, structNamed, structShaped, structOfGeneric, structOfTy, structOf, hasDestructor, shouldAutoDelete, classOfTy, classOf}
 use Rattle.lookup.specs.Signature.{modifierIn, modifierOf, isConsuming, globalOf}
 use Rattle.body.specs.Expr.{Expr, countWidth, through, none}
-use Rattle.body.specs.Stmt.{Tree, Block, variable, assign, return, ifThen, while, exprStmt}
+use Rattle.body.specs.Stmt.{Tree, Block, variable, assign, return, block, ifElse, ifThen, while, exprStmt}
 use Rattle.rules.specs.Nodes.{one, ident, literal, call, field, moving, deletion, end, tables}
+use Rattle.rules.specs.Expr.{called}
 use Rattle.rules.specs.Questions.{auto, isTempOf, isMoveOf, consumes, globalIn}
 use Rattle.rules.specs.Stack.{Local, local}
 use Rattle.rules.specs.Effects.{takes, handed, finish, effects, exprStmtEffects, takeOver, assignEffects, assignTakes}
 use Rattle.rules.specs.Rules.{dropOf, localsOf, PlainBody, decideBody}
 use Rattle.rules.specs.Report.{flatten}
-use Rattle.rules.specs.Run.{Moment, Reached, start, next, atEnd, Demand3}
+use Rattle.rules.specs.Run.{Moment, Reached, start, next, into, atEnd, atReturn, atAssign, Demand3}
 use Rattle.rules.proofs.Count.{after, after-steps}
 use Rattle.rules.proofs.Project.{demand3}
 
@@ -92,3 +93,80 @@ example-lost =
     let choices : List Bool = true ∷ false ∷ true ∷ false ∷ [] in
     let c = start tables (localsOf consuming) (decideBody tables consuming body) choices in
     record { choices = choices; config = after tables 21 c; steps = after-steps tables 21 c; stands = refl }
+
+-- the return in the branch, `v` held or not: `this` is held and deleted, `v` passed over, the returned `w` not concerned
+abbrev pub atItsReturn : Bool → Moment
+atItsReturn b = record {
+  path = next ∷ next ∷ next ∷ next ∷ into ∷ [];
+  place = atReturn (called 2 37);
+  drops = dropOf 0 0 1 ∷ [];
+  held = known 2 1 true ∷ known 1 1 b ∷ known 0 0 true ∷ [];
+}
+
+pub return-kept : Reached tables (localsOf consuming) (decideBody tables consuming body) (atItsReturn true)
+unfolding sameBytes startsWith firstFrom andThen orElse inside structNamed structShaped structOfGeneric structOfTy structOf hasDestructor shouldAutoDelete classOfTy classOf modifierIn modifierOf isConsuming globalOf countWidth through auto isTempOf isMoveOf consumes globalIn takes handed finish effects exprStmtEffects takeOver assignEffects assignTakes
+return-kept =
+    let choices : List Bool = false ∷ false ∷ true ∷ [] in
+    let c = start tables (localsOf consuming) (decideBody tables consuming body) choices in
+    record { choices = choices; config = after tables 6 c; steps = after-steps tables 6 c; stands = refl }
+
+pub return-lost : Reached tables (localsOf consuming) (decideBody tables consuming body) (atItsReturn false)
+unfolding sameBytes startsWith firstFrom andThen orElse inside structNamed structShaped structOfGeneric structOfTy structOf hasDestructor shouldAutoDelete classOfTy classOf modifierIn modifierOf isConsuming globalOf countWidth through auto isTempOf isMoveOf consumes globalIn takes handed finish effects exprStmtEffects takeOver assignEffects assignTakes
+return-lost =
+    let choices : List Bool = false ∷ true ∷ true ∷ [] in
+    let c = start tables (localsOf consuming) (decideBody tables consuming body) choices in
+    record { choices = choices; config = after tables 10 c; steps = after-steps tables 10 c; stands = refl }
+
+-- Assignments: let v, w: T; if .. { std::move(v); } else {} { v = ..; w = ..; }
+abbrev pub plainEntry : Entry
+plainEntry = record { receiver = 0; this = 0; params = [] }
+
+abbrev pub assigns : Block
+assigns = record {
+  span = 10;
+  code =
+      first (ifElse 30 literal 31 (moving 32 (v 33) end) 34 end
+      (block 35 (assign 36 (v 37) literal 1 tt (assign 38 (ident 39 1 2) literal 1 tt end)) end));
+}
+
+pub assigns-plain : PlainBody tables plainEntry assigns
+unfolding sameBytes startsWith firstFrom andThen orElse inside structNamed structShaped structOfGeneric structOfTy structOf hasDestructor shouldAutoDelete classOfTy classOf modifierIn modifierOf isConsuming globalOf countWidth through auto isTempOf isMoveOf consumes globalIn takes handed finish effects exprStmtEffects takeOver assignEffects assignTakes
+assigns-plain = (tt, (tt, (tt, (tt, tt, (λ x. absurd x), (tt, (λ x. tt), tt)))))
+
+-- where `v` is assigned it is passed over, held or not; where `w` is assigned it is held and deleted
+abbrev pub atAssignment : Bool → Moment
+atAssignment b = record {
+  path = next ∷ next ∷ next ∷ into ∷ [];
+  place = atAssign (called 1 37);
+  drops = [];
+  held = known 2 1 true ∷ known 1 1 b ∷ [];
+}
+
+abbrev pub atSecond : Moment
+atSecond = record {
+  path = next ∷ next ∷ next ∷ into ∷ next ∷ [];
+  place = atAssign (called 2 39);
+  drops = dropOf 38 2 1 ∷ [];
+  held = known 2 1 true ∷ known 1 1 true ∷ [];
+}
+
+pub assign-kept : Reached tables [] (decideBody tables plainEntry assigns) (atAssignment true)
+unfolding sameBytes startsWith firstFrom andThen orElse inside structNamed structShaped structOfGeneric structOfTy structOf hasDestructor shouldAutoDelete classOfTy classOf modifierIn modifierOf isConsuming globalOf countWidth through auto isTempOf isMoveOf consumes globalIn takes handed finish effects exprStmtEffects takeOver assignEffects assignTakes
+assign-kept =
+    let choices : List Bool = false ∷ [] in
+    let c = start tables [] (decideBody tables plainEntry assigns) choices in
+    record { choices = choices; config = after tables 8 c; steps = after-steps tables 8 c; stands = refl }
+
+pub assign-lost : Reached tables [] (decideBody tables plainEntry assigns) (atAssignment false)
+unfolding sameBytes startsWith firstFrom andThen orElse inside structNamed structShaped structOfGeneric structOfTy structOf hasDestructor shouldAutoDelete classOfTy classOf modifierIn modifierOf isConsuming globalOf countWidth through auto isTempOf isMoveOf consumes globalIn takes handed finish effects exprStmtEffects takeOver assignEffects assignTakes
+assign-lost =
+    let choices : List Bool = true ∷ [] in
+    let c = start tables [] (decideBody tables plainEntry assigns) choices in
+    record { choices = choices; config = after tables 9 c; steps = after-steps tables 9 c; stands = refl }
+
+pub assign-deletes : Reached tables [] (decideBody tables plainEntry assigns) atSecond
+unfolding sameBytes startsWith firstFrom andThen orElse inside structNamed structShaped structOfGeneric structOfTy structOf hasDestructor shouldAutoDelete classOfTy classOf modifierIn modifierOf isConsuming globalOf countWidth through auto isTempOf isMoveOf consumes globalIn takes handed finish effects exprStmtEffects takeOver assignEffects assignTakes
+assign-deletes =
+    let choices : List Bool = false ∷ [] in
+    let c = start tables [] (decideBody tables plainEntry assigns) choices in
+    record { choices = choices; config = after tables 12 c; steps = after-steps tables 12 c; stands = refl }

@@ -23,6 +23,5 @@ pub mod Count
 pub mod Offsets
 pub mod Longer
 pub mod Examples
-pub mod Uniform
-pub mod Hands
 pub mod ByTag
+pub mod Pieces

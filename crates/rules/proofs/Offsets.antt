@@ -28,9 +28,9 @@ use Rattle.rules.specs.Questions.{auto}
 use Rattle.rules.specs.Stack.{Local, local, Stack, shape, lookup}
 use Rattle.rules.specs.State.{State, alive, gone, deleted, moved, consumed}
 use Rattle.rules.specs.Effects.{Effect, use′, kill, hand, badMove, globalMove, effects, exprStmtEffects, assignEffects}
-use Rattle.rules.specs.Rules.{Drop, dropOf, states, apply, collect, joins, merge, sureFrom, evaluate, afterExpr, afterVariable, beforeAssign, afterAssign, exit, entered, localsOf}
+use Rattle.rules.specs.Rules.{Drop, dropOf, states, apply, returnDrops, joins, merge, sureFrom, evaluate, afterExpr, afterVariable, beforeAssign, afterAssign, exit, entered, localsOf}
 use Rattle.rules.specs.Report.{Report, error, warning, left, badUse, useOf, reportOf, reportAll, unused, leftBehind, exprBytes, codeBytes, report, bodyStart, reports}
-use Rattle.rules.specs.Expr.{tyOf, View, anIdent, aThis, aField, aDelete, aCall, other, viewOf, view, fieldView, deleteView, callView, calleeAt, calleeIn, isCall}
+use Rattle.rules.specs.Expr.{nobody, tyOf, View, anIdent, aThis, aField, aDelete, aCall, other, viewOf, view, fieldView, deleteView, callView, calleeAt, calleeIn, isCall}
 
 -- an expression's encoding stands there
 pub record Stood (s : List ℕ) (at : ℕ) (e : Expr) : Type 0 where
@@ -229,7 +229,7 @@ report-warned T s (return p e t x r) d at q σ g =
 report-warned T s (bareReturn p t r) d at q σ g =
     let w = behind 2 p (0 ∷ (twoBytes t ++ encodeCode r)) g in
     let w1 = skip (0 ∷ twoBytes t) (encodeCode r) (at + 8) (omega arith) w in
-    both s _ _ (of-left s p (collect states T (λ l. true) 0 σ)) (report-warned T s r d (at + 8) q σ w1)
+    both s _ _ (of-left s p (returnDrops states T nobody σ)) (report-warned T s r d (at + 8) q σ w1)
 report-warned T s (block p b r) d at q σ g =
     let w = skip (1 ∷ []) (withCount p (size b) (encodeCode b) ++ encodeCode r) (at + 1) refl g in
     let i = inside p (size b) (encodeCode b) (encodeCode r) (at + 7) (omega arith) w in

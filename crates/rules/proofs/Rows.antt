@@ -74,6 +74,9 @@ corners =
     ∷ asIs (param 1 ∷ []) (ifElse 21 literal 22 (moving 25 (v 26) end) 27 (moving 25 (v 26) end) end) [] (gone false moved (26 ∷ []) ∷ [])
     -- K6: both branches return
     ∷ asIs (param 1 ∷ []) (ifElse 21 literal 22 (moving 25 (v 26) (bareReturn 27 0 end)) 28 (bareReturn 29 0 end) end) (left 29 1 ∷ []) (alive ∷ [])
+    -- K6: what stays is the state after the condition
+    ∷ asIs (param 1 ∷ []) (ifElse 21 (move 40 (one (v 41))) 22 (assign 42 (v 43) literal 1 tt (bareReturn 27 0 end)) 28 (bareReturn 29 0 end) end)
+      (error 2 43 0 (41 ∷ []) ∷ left 27 1 ∷ []) (gone false moved (41 ∷ []) ∷ [])
     -- K7: a loop joins, even if its body returns
     ∷ asIs (param 1 ∷ []) (while 21 literal 22 (moving 25 (v 26) end) end) [] (gone true moved (26 ∷ []) ∷ [])
     ∷ asIs (param 1 ∷ []) (while 21 literal 22 (moving 25 (v 26) (bareReturn 27 0 end)) end) [] (gone true moved (26 ∷ []) ∷ [])

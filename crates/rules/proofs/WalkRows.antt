@@ -3,11 +3,11 @@
 -- Assumes nothing.
 use Prim.Native.Nat.{ℕ}
 use mathlib.Core.Path.{_≡_, refl}
-use mathlib.Core.Bool.{false}
+use mathlib.Core.Bool.{true, false, _&&_}
 use mathlib.Core.List.{List, [], _∷_, map}
 use mathlib.Core.Option.{Option, some}
 use Rattle.fields.specs.Table.{member}
-use Rattle.tables.specs.Limits.{Limits}
+use Rattle.tables.specs.Limits.{Limits, version1}
 use Rattle.tables.specs.Name.{sameBytes, startsWith}
 use Rattle.tables.specs.Signature.{Param}
 use Rattle.lookup.specs.First.{firstFrom, andThen, orElse}
@@ -16,12 +16,14 @@ use Rattle.lookup.specs.Signature.{modifierIn, modifierOf, isConsuming, globalO
 use Rattle.body.specs.Expr.{Expr, countWidth, through}
 use Rattle.body.specs.Stmt.{Tree, variable, assign, return, bareReturn, block, ifElse, ifThen, while}
 use Rattle.encoding.specs.Body.{size}
-use Rattle.image.specs.Image.{Image, accepted}
-use Rattle.rules.specs.Nodes.{ident, literal, moving, end, tables, param}
+use Rattle.image.specs.Image.{Image, accepted, refused}
+use Rattle.rules.specs.Nodes.{one, ident, literal, move, moving, end, tables, param}
 use Rattle.rules.specs.Questions.{auto, isTempOf, isMoveOf, consumes, globalIn}
 use Rattle.rules.specs.Effects.{takes, handed, finish, effects, exprStmtEffects, takeOver, assignEffects, assignTakes}
 use Rattle.rules.specs.Walk.{crowded, walkFault, imageFault}
-use Rattle.rules.specs.Verdict.{Lent, Answer, Verdict, refuses, answers, countsFit, listsFit, fitted, walked}
+use Rattle.rules.specs.Verdict.{Lent, Answer, Verdict, refuses, answers, entryOf, countsFit, imageCountsFit, outputFits, fitted, walked, roomFaultOf}
+use Rattle.rules.specs.Report.{error, warning, left, returnedImage}
+use lib.Dec.{leb}
 
 abbrev small : Limits
 small = record {
@@ -69,6 +71,10 @@ bodies =
     ∷ with (param 1 ∷ []) (ifElse 21 literal 22 (moving 23 (v 24) (bareReturn 28 0 end)) 25 (moving 26 (v 27) end) end)
     -- a join inside a branch that returns counts
     ∷ with (param 1 ∷ []) (ifThen 31 literal 32 (bothMove (bareReturn 33 0 end)) end)
+    -- nor does an if without else whose branch returns
+    ∷ with (param 1 ∷ []) (moving 21 (v 22) (ifThen 23 literal 24 (moving 25 (v 26) (bareReturn 27 0 end)) end))
+    -- a loop joins with what is after its condition
+    ∷ with (param 1 ∷ []) (while 21 (move 22 (one (v 23))) 24 (moving 25 (v 26) end) end)
     -- the first in walking order
     ∷ with (param 1 ∷ []) (bothMove (new 2 (new 5 end))) ∷ with (param 1 ∷ []) (new 2 (new 5 (bothMove end)))
     -- the then branch comes before the else branch, and both before their join
@@ -77,7 +83,7 @@ bodies =
     ∷ []
 
 pub walk-faults : map (imageFault small) bodies
-    ≡ Option.none ∷ some 12 ∷ some 12 ∷ some 12 ∷ Option.none ∷ some 12 ∷ some 13 ∷ some 13 ∷ Option.none ∷ Option.none ∷ some 13 ∷ some 13 ∷ some 12 ∷ some 13 ∷ some 12 ∷ []
+    ≡ Option.none ∷ some 12 ∷ some 12 ∷ some 12 ∷ Option.none ∷ some 12 ∷ some 13 ∷ some 13 ∷ Option.none ∷ Option.none ∷ some 13 ∷ Option.none ∷ some 13 ∷ some 13 ∷ some 12 ∷ some 13 ∷ some 12 ∷ []
 unfolding member sameBytes startsWith firstFrom andThen orElse inside structNamed structShaped structOfGeneric structOfTy structOf hasDestructor shouldAutoDelete classOfTy classOf modifierIn modifierOf isConsuming globalOf countWidth through auto isTempOf isMoveOf consumes globalIn takes handed finish effects exprStmtEffects takeOver assignEffects assignTakes crowded walkFault imageFault
 walk-faults = refl
 
@@ -100,3 +106,27 @@ last-rows = refl
 -- faults 12 and 13 before both
 pub walk-first : walked small (lent 0 0 0 0) (with [] end) (some 13) ≡ refuses 13
 walk-first = refl
+
+-- the room entry gives the reader's faults and those of the walk
+pub room-faults : (roomFaultOf small (refused 7) ≡ some 7) × (roomFaultOf small (accepted (with [] (new 1 (new 2 (new 5 end))))) ≡ some 12)
+unfolding member sameBytes startsWith firstFrom andThen orElse inside structNamed structShaped structOfGeneric structOfTy structOf hasDestructor shouldAutoDelete classOfTy classOf modifierIn modifierOf isConsuming globalOf countWidth through auto isTempOf isMoveOf consumes globalIn takes handed finish effects exprStmtEffects takeOver assignEffects assignTakes crowded walkFault imageFault
+room-faults = (refl, refl)
+
+-- an error has room for as many other places as the limit says; a warning has span and offset, a left-behind entry span and name
+pub entry-numbers : map (entryOf version1) (error 6 15 0 (13 ∷ 12 ∷ []) ∷ warning 21 80 ∷ left 23 4 ∷ [])
+    ≡ (6 ∷ 15 ∷ 0 ∷ 2 ∷ 13 ∷ 12 ∷ 0 ∷ 0 ∷ 0 ∷ 0 ∷ 0 ∷ 0 ∷ []) ∷ (21 ∷ 80 ∷ []) ∷ (23 ∷ 4 ∷ []) ∷ []
+entry-numbers = refl
+
+-- blocks of two statements where one is the most: the body, a block, then, else, a loop
+abbrev two : Tree
+two = bareReturn 1 0 (bareReturn 1 0 end)
+
+pub counts : map (imageCountsFit 1) (with [] two ∷ with [] (block 1 two end) ∷ with [] (ifElse 1 literal 1 two 1 end end) ∷ with [] (ifElse 1 literal 1 end 1 two end)
+    ∷ with [] (ifThen 1 literal 1 two end) ∷ with [] (while 1 literal 1 two end) ∷ with [] (while 1 literal 1 (block 1 two end) end) ∷ with [] (ifElse 1 literal 1 end 1 (bareReturn 1 0 end) end) ∷ [])
+    ≡ false ∷ false ∷ false ∷ false ∷ false ∷ false ∷ false ∷ true ∷ []
+unfolding size countsFit
+counts = refl
+
+-- and 65,535 is the most
+pub most-counted : outputFits (lent 3 0 0 0) (with [] end) some3 ≡ (leb 3 3 && imageCountsFit 65535 (returnedImage (with [] end)))
+most-counted = refl

@@ -57,7 +57,7 @@ module _ (T : Tables) (Γ : Shape) where
   receiver none = []
   receiver (more f fs) = fieldCall (through f)
 
-  -- validate_move_argument; hints: 1 no local's name, 2 no such local, 3 a temporary
+  -- validate_move_argument; hints: 1 an expression, 2 no such local, 3 a temporary
   abbrev pub moveLocal : ℕ → ℕ → Effect
   moveLocal n p = cond (has n Γ) (cond (isTempOf T n) (badMove p 3) (kill moved n p)) (badMove p 2)
 

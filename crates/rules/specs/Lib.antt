@@ -11,4 +11,4 @@ pub mod Room
 pub mod Nodes
 pub mod Walk
 pub mod Verdict
-pub mod Newest
+pub mod Pieces

@@ -12,11 +12,11 @@ use Rattle.encoding.specs.Tables.{encodeTables, encodeEntry}
 use Rattle.encoding.specs.Body.{encodeExpr, encodeCode}
 use Rattle.image.specs.Image.{Image}
 use Rattle.rules.specs.Questions.{auto}
-use Rattle.rules.specs.Expr.{view, isCall, tyOf, calleeAt}
+use Rattle.rules.specs.Expr.{nobody, view, isCall, tyOf, calleeAt}
 use Rattle.rules.specs.Stack.{Local, local, Stack, shape, lookup}
 use Rattle.rules.specs.State.{State, alive, gone, deleted, moved, consumed}
 use Rattle.rules.specs.Effects.{Effect, use′, kill, hand, badMove, globalMove, effects, exprStmtEffects, assignEffects}
-use Rattle.rules.specs.Rules.{Drop, dropOf, Decided, states, apply, joins, merge, sureFrom, collect, evaluate, afterExpr, afterVariable, beforeAssign, afterAssign, exit, entered, localsOf, decideBody}
+use Rattle.rules.specs.Rules.{Drop, dropOf, Decided, states, apply, joins, merge, sureFrom, returnDrops, evaluate, afterExpr, afterVariable, beforeAssign, afterAssign, exit, entered, localsOf, decideBody}
 
 -- a Delete, of type 0
 abbrev pub deleteNode : ℕ → Expr → Expr
@@ -139,7 +139,7 @@ module _ (T : Tables) where
       reportAll (assignEffects T (shape σ) e v) σ
       ++ report r d (at + 7 + exprBytes e + exprBytes v) (afterAssign states T e v (beforeAssign states T e v σ))
   report (return s e t x r) d at σ = reportAll (effects T (shape σ) e) σ ++ report r d (at + 8 + exprBytes e) (evaluate states T e σ)
-  report (bareReturn s t r) d at σ = leftBehind s (collect states T (λ l. true) 0 σ) ++ report r d (at + 8) σ
+  report (bareReturn s t r) d at σ = leftBehind s (returnDrops states T nobody σ) ++ report r d (at + 8) σ
   report (block s c r) d at σ = report c (suc d) (at + 7) σ ++ report r d (at + 7 + codeBytes c) (exit states T c (suc d) σ)
   report (ifElse s e ts t us u r) d at σ =
       reportAll (effects T (shape σ) e) σ

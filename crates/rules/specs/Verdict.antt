@@ -52,22 +52,22 @@ answerOf L i = record {
   leftNumbers = entriesOf L (lefts (reports i));
 }
 
--- every block counts at most 65,535 statements
-unfoldable pub countsFit : Tree → Bool
-countsFit (done x) = true
-countsFit (exprStmt s e y r) = countsFit r
-countsFit (variable k s n t e r) = countsFit r
-countsFit (assign s e v t x r) = countsFit r
-countsFit (return s e t x r) = countsFit r
-countsFit (bareReturn s t r) = countsFit r
-countsFit (block s c r) = leb (size c) 65535 && countsFit c && countsFit r
-countsFit (ifElse s e ts t us u r) = leb (size t) 65535 && leb (size u) 65535 && countsFit t && countsFit u && countsFit r
-countsFit (ifThen s e ts t r) = leb (size t) 65535 && countsFit t && countsFit r
-countsFit (while s e ts t r) = leb (size t) 65535 && countsFit t && countsFit r
-countsFit (jump k s r) = countsFit r
+-- every block counts at most so many statements
+unfoldable pub countsFit : ℕ → Tree → Bool
+countsFit m (done x) = true
+countsFit m (exprStmt s e y r) = countsFit m r
+countsFit m (variable k s n t e r) = countsFit m r
+countsFit m (assign s e v t x r) = countsFit m r
+countsFit m (return s e t x r) = countsFit m r
+countsFit m (bareReturn s t r) = countsFit m r
+countsFit m (block s c r) = leb (size c) m && countsFit m c && countsFit m r
+countsFit m (ifElse s e ts t us u r) = leb (size t) m && leb (size u) m && countsFit m t && countsFit m u && countsFit m r
+countsFit m (ifThen s e ts t r) = leb (size t) m && countsFit m t && countsFit m r
+countsFit m (while s e ts t r) = leb (size t) m && countsFit m t && countsFit m r
+countsFit m (jump k s r) = countsFit m r
 
-abbrev pub imageCountsFit : Image → Bool
-imageCountsFit i = leb (size (i .body .code)) 65535 && countsFit (i .body .code)
+abbrev pub imageCountsFit : ℕ → Image → Bool
+imageCountsFit m i = leb (size (i .body .code)) m && countsFit m (i .body .code)
 
 pub data Verdict : Type 0 where
   refuses : ℕ → Verdict
@@ -77,9 +77,9 @@ pub data Verdict : Type 0 where
 abbrev pub listsFit : Lent → Answer → Bool
 listsFit lent a = leb (a .errorCount) (lent .errors) && leb (a .warningCount) (lent .warnings) && leb (a .leftCount) (lent .lefts)
 
--- 15: the image does not fit the bytes lent, or a block would count too many statements
+-- 15: the image does not fit the bytes lent, or a block would count over 65,535 statements
 abbrev pub outputFits : Lent → Image → Answer → Bool
-outputFits lent i a = leb (length (a .output)) (lent .bytes) && imageCountsFit (returnedImage i)
+outputFits lent i a = leb (length (a .output)) (lent .bytes) && imageCountsFit 65535 (returnedImage i)
 
 -- lists, then output
 abbrev pub fitted : Lent → Image → Answer → Verdict
