@@ -1,0 +1,17 @@
+use borrow.Author.Needs.{needs}
+use Rattle.scope.proofs.Stack.new.Statement.{statement}
+use Rattle.scope.proofs.Stack.new.Tie as tie
+use Rattle.scope.proofs.Stack.new.Reads as reads
+use Rattle.scope.proofs.Stack.new.Lts as lts
+use Rattle.scope.proofs.Places.none.Reads as none-reads
+
+-- src/lib.rt:344:13
+none-requires : tie.Need-none-requires
+none-requires c κs = search needs
+
+-- src/lib.rt:341:5
+returns : tie.Need-returns
+returns c = ?
+
+pub new-spec : {M : Type 1} → statement M
+new-spec = tie.close (tie.spec none-requires returns)

@@ -1,0 +1,17 @@
+use borrow.Author.Needs.{needs}
+use Rattle.scope.proofs.State.alive.Statement.{statement}
+use Rattle.scope.proofs.State.alive.Tie as tie
+use Rattle.scope.proofs.State.alive.Reads as reads
+use Rattle.scope.proofs.State.alive.Lts as lts
+use Rattle.scope.proofs.Places.none.Reads as none-reads
+
+-- src/lib.rt:210:21
+none-requires : tie.Need-none-requires
+none-requires c κs = search needs
+
+-- src/lib.rt:205:5
+returns : tie.Need-returns
+returns c = ?
+
+pub alive-spec : {M : Type 1} → statement M
+alive-spec = tie.close (tie.spec none-requires returns)

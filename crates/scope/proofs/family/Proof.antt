@@ -1,0 +1,25 @@
+use borrow.Author.Needs.{needs}
+use Rattle.scope.proofs.family.Statement.{statement}
+use Rattle.scope.proofs.family.Tie as tie
+use Rattle.scope.proofs.family.Reads as reads
+use Rattle.scope.proofs.family.Lts as lts
+use Rattle.scope.proofs.base.Reads as base-reads
+
+-- src/lib.rt:197:9
+base-requires : tie.Need-base-requires
+base-requires c κs = search needs
+
+-- src/lib.rt:198:13
+base-requires-2 : tie.Need-base-requires-2
+base-requires-2 c κs = search needs
+
+-- src/lib.rt:199:9
+returns : tie.Need-returns
+returns c = ?
+
+-- src/lib.rt:194:1
+returns-2 : tie.Need-returns-2
+returns-2 c = ?
+
+pub family-spec : {M : Type 1} → statement M
+family-spec = tie.close (tie.spec base-requires base-requires-2 returns returns-2)

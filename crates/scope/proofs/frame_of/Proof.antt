@@ -1,0 +1,62 @@
+use Rattle.scope.proofs.frame_of.Statement.{statement}
+use Rattle.scope.proofs.frame_of.Tie as tie
+use Rattle.scope.proofs.frame_of.Reads as reads
+use Rattle.scope.proofs.frame_of.Lts as lts
+
+abbrev Inv-loop : tie.InvT-loop
+Inv-loop names depths count name i₀ i = ?
+
+abbrev μ-loop : tie.MeasureT-loop
+μ-loop names depths count name i₀ i = ?
+
+-- src/lib.rt:298:5
+loop-holds : tie.Need-loop-holds Inv-loop μ-loop
+loop-holds c = ?
+
+-- src/lib.rt:299:17
+sub-j : tie.Need-sub-j Inv-loop μ-loop
+sub-j c = ?
+
+-- src/lib.rt:300:12
+mul-if1 : tie.Need-mul-if1 Inv-loop μ-loop
+mul-if1 c = ?
+
+-- src/lib.rt:300:12
+element-copy-out-if1 : tie.Need-element-copy-out-if1 Inv-loop μ-loop
+element-copy-out-if1 c = ?
+
+-- src/lib.rt:301:20
+element-copy-out-result : tie.Need-element-copy-out-result Inv-loop μ-loop
+element-copy-out-result c = ?
+
+-- src/lib.rt:301:13
+returns : tie.Need-returns Inv-loop μ-loop
+returns c = ?
+
+-- src/lib.rt:298:5
+loop-less : tie.Need-loop-less Inv-loop μ-loop
+loop-less c = ?
+
+-- src/lib.rt:298:5
+loop-again : tie.Need-loop-again Inv-loop μ-loop
+loop-again c = ?
+
+-- src/lib.rt:293:1
+returns-2 : tie.Need-returns-2 Inv-loop μ-loop
+returns-2 c = ?
+
+pub frame-of-spec : {M : Type 1} → statement M
+frame-of-spec =
+    tie.close
+    (tie.spec
+    Inv-loop
+    μ-loop
+    loop-holds
+    sub-j
+    mul-if1
+    element-copy-out-if1
+    element-copy-out-result
+    returns
+    loop-less
+    loop-again
+    returns-2)

@@ -1,0 +1,23 @@
+use Rattle.scope.proofs.is_marked.Statement.{statement}
+use Rattle.scope.proofs.is_marked.Tie as tie
+use Rattle.scope.proofs.is_marked.Reads as reads
+use Rattle.scope.proofs.is_marked.Lts as lts
+
+-- src/lib.rt:329:9
+returns : tie.Need-returns
+returns c = ?
+
+-- src/lib.rt:332:9
+returns-2 : tie.Need-returns-2
+returns-2 c = ?
+
+-- src/lib.rt:335:9
+returns-3 : tie.Need-returns-3
+returns-3 c = ?
+
+-- src/lib.rt:325:1
+returns-4 : tie.Need-returns-4
+returns-4 c = ?
+
+pub is-marked-spec : {M : Type 1} → statement M
+is-marked-spec = tie.close (tie.spec returns returns-2 returns-3 returns-4)
