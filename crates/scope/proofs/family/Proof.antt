@@ -1,3 +1,7 @@
+use Prim.Native.Nat.{ℕ, _≤_, _<_, _-_, _+_}
+use mathlib.Core.Path.{_≡_, refl, sym, _∙_, ap}
+use native.Mathlib.Omega.{arith}
+use borrow.Author.Tests.{eq-eqb, ne-eqb}
 use borrow.Author.Needs.{needs}
 use Rattle.scope.proofs.family.Statement.{statement}
 use Rattle.scope.proofs.family.Tie as tie
@@ -15,11 +19,11 @@ base-requires-2 c κs = search needs
 
 -- src/lib.rt:199:9
 returns : tie.Need-returns
-returns c = ?
+returns c = search needs
 
 -- src/lib.rt:194:1
 returns-2 : tie.Need-returns-2
-returns-2 c = ?
+returns-2 c = search needs
 
 pub family-spec : {M : Type 1} → statement M
 family-spec = tie.close (tie.spec base-requires base-requires-2 returns returns-2)

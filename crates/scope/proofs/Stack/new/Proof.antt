@@ -1,3 +1,7 @@
+use Rattle.scope.proofs.Seen.{seen-none}
+use Prim.Native.Nat.{ℕ, _≤_, _<_, _-_, _+_}
+use mathlib.Core.Path.{_≡_, refl, sym, _∙_, ap}
+use native.Mathlib.Omega.{arith}
 use borrow.Author.Needs.{needs}
 use Rattle.scope.proofs.Stack.new.Statement.{statement}
 use Rattle.scope.proofs.Stack.new.Tie as tie
@@ -11,7 +15,7 @@ none-requires c κs = search needs
 
 -- src/lib.rt:341:5
 returns : tie.Need-returns
-returns c = ?
+returns c = (record { small = omega arith; nameRoom = refl; typeRoom = refl; depthRoom = refl; kindRoom = refl; placeRoom = refl; made = λ i l. absurd (omega arith) }, seen-none 0 _ (omega arith))
 
 pub new-spec : {M : Type 1} → statement M
 new-spec = tie.close (tie.spec none-requires returns)

@@ -1,0 +1,52 @@
+use borrow.Author.Needs.{needs}
+use Rattle.scope.proofs.Places.add.Statement.{statement}
+use Rattle.scope.proofs.Places.add.Tie as tie
+use Rattle.scope.proofs.Places.add.Reads as reads
+use Rattle.scope.proofs.Places.add.Lts as lts
+use Rattle.scope.proofs.Places.has.Reads as has-reads
+use Rattle.scope.proofs.wide.Reads as wide-reads
+
+-- src/lib.rt:100:12
+has-requires : tie.Need-has-requires
+has-requires c κs = search needs
+
+-- src/lib.rt:101:13
+returns : tie.Need-returns
+returns c = ?
+
+-- src/lib.rt:108:13
+returns-2 : tie.Need-returns-2
+returns-2 c = ?
+
+-- src/lib.rt:114:13
+wide-requires : tie.Need-wide-requires
+wide-requires c κs = search needs
+
+-- src/lib.rt:115:9
+mul-out : tie.Need-mul-out
+mul-out c = search needs
+
+-- src/lib.rt:115:9
+element-write-out : tie.Need-element-write-out
+element-write-out c = search needs
+
+-- src/lib.rt:116:21
+add-out : tie.Need-add-out
+add-out c = search needs
+
+-- src/lib.rt:96:5
+returns-3 : tie.Need-returns-3
+returns-3 c = ?
+
+pub add-spec : {M : Type 1} → statement M
+add-spec =
+    tie.close
+    (tie.spec
+    has-requires
+    returns
+    returns-2
+    wide-requires
+    mul-out
+    element-write-out
+    add-out
+    returns-3)

@@ -1,0 +1,22 @@
+use borrow.Author.Needs.{needs}
+use Rattle.scope.proofs.Stack.mark_consumed.Statement.{statement}
+use Rattle.scope.proofs.Stack.mark_consumed.Tie as tie
+use Rattle.scope.proofs.Stack.mark_consumed.Reads as reads
+use Rattle.scope.proofs.Stack.mark_consumed.Lts as lts
+use Rattle.scope.proofs.Stack.mark.Reads as mark-reads
+use Rattle.scope.proofs.State.at.Reads as at-reads
+
+-- src/lib.rt:402:25
+at-requires : tie.Need-at-requires
+at-requires c κs = search needs
+
+-- src/lib.rt:402:9
+mark-requires : tie.Need-mark-requires
+mark-requires c κs = search needs
+
+-- src/lib.rt:398:5
+returns : tie.Need-returns
+returns c = ?
+
+pub mark-consumed-spec : {M : Type 1} → statement M
+mark-consumed-spec = tie.close (tie.spec at-requires mark-requires returns)

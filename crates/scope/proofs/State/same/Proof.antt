@@ -1,0 +1,21 @@
+use borrow.Author.Needs.{needs}
+use Rattle.scope.proofs.State.same.Statement.{statement}
+use Rattle.scope.proofs.State.same.Tie as tie
+use Rattle.scope.proofs.State.same.Reads as reads
+use Rattle.scope.proofs.State.same.Lts as lts
+use Rattle.scope.proofs.Places.same.Reads as same-reads
+
+-- src/lib.rt:230:13
+returns : tie.Need-returns
+returns c = ?
+
+-- src/lib.rt:234:9
+same-requires : tie.Need-same-requires
+same-requires c κs = search needs
+
+-- src/lib.rt:225:5
+returns-2 : tie.Need-returns-2
+returns-2 c = ?
+
+pub same-spec : {M : Type 1} → statement M
+same-spec = tie.close (tie.spec returns same-requires returns-2)
