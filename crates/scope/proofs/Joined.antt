@@ -105,7 +105,7 @@ module _ (s t : Stack) where
 
   crowd-next : (i : ℕ) → crowded version1 (joined i) ≡ true → crowded version1 (joined (i + 1)) ≡ true
   unfolding crowded
-  crowd-next i e = rw (joined-more i, e) (sym (or-true _))
+  crowd-next i e = rw (joined-more i, e) (sym (or-true (ltb 8 (length (placesOf (joinAt i))))))
 
   crowd-up : (i k : ℕ) → crowded version1 (joined i) ≡ true → crowded version1 (joined (k + i)) ≡ true
   crowd-up i zero e = let z : 0 + i ≡ i = omega arith in rw z e

@@ -62,7 +62,7 @@ same-length (x ∷ xs) [] h = refl
 same-length (x ∷ xs) (y ∷ ys) h = rw (same-length xs ys (λ e. h (ap suc e))) (both-false (eqb x y))
 
 pub counts-differ : (n m : ℕ) (a b : List ℕ) → n ≤ length a → m ≤ length b → (n ≡ m → ⊥) → placesEq (take n a) (take m b) ≡ false
-counts-differ n m a b la lb h = same-length _ _ (λ e. h (sym (length-take-le n a la) ∙ e ∙ length-take-le m b lb))
+counts-differ n m a b la lb h = same-length (take n a) (take m b) (λ e. h (sym (length-take-le n a la) ∙ e ∙ length-take-le m b lb))
 
 add-grows : (b : Bool) (p : ℕ) (ps : List ℕ) → length ps ≤ length (cond b ps (ps ++ (p ∷ [])))
 add-grows true p ps = omega arith

@@ -86,7 +86,7 @@ module _ (s : Stack) (i : ℕ) (T : Tables) (q : Static → Bool) (p : ℕ) wher
   drop-hit h e = rw (seen-pos i s h, eq-eqb _ _ e, and-id (q (staticAt s (i - 1))))
 
   pub drop-miss : 0 < i → (getD (s .kinds) (i - 1) 0 ≡ 0 → ⊥) → collect states T q p (seen i s) ≡ collect states T q p (seen (i - 1) s)
-  drop-miss h e = rw (seen-pos i s h, ne-eqb _ _ e) (drop-none _ _ _ _)
+  drop-miss h e = rw (seen-pos i s h, ne-eqb _ _ e) (drop-none (q (staticAt s (i - 1))) (auto T (staticAt s (i - 1) .ty)) (dropOf p (staticAt s (i - 1) .name) (staticAt s (i - 1) .ty)) (collect states T q p (seen (i - 1) s)))
 
   pub drop-end : i ≤ 0 → collect states T q p (seen i s) ≡ []
   drop-end h = rw (seen-none i s h)
@@ -114,8 +114,8 @@ stored-sound s i k p h l m = record {
   nameRoom = h .nameRoom;
   typeRoom = h .typeRoom;
   depthRoom = h .depthRoom;
-  kindRoom = length-set _ i k ∙ h .kindRoom;
-  placeRoom = length-set _ i p ∙ h .placeRoom;
+  kindRoom = length-set (s .kinds) i k ∙ h .kindRoom;
+  placeRoom = length-set (s .places) i p ∙ h .placeRoom;
   made = λ j lj. ⊎-elim (λ (e : eqb j i ≡ true). same j (eqb-true j i e)) (λ (e : eqb j i ≡ false). other j lj (eqb-false j i e)) (split (eqb j i));
 }
   where
@@ -235,11 +235,11 @@ module _ (s : Stack) (n name ty depth k : ℕ) (p : Places) (h : Sound s) (l : n
   pub pushed-sound : s .count ≡ n → Made k p → Sound (pushed s n name ty depth k p)
   pushed-sound is m = record {
     small = omega arith;
-    nameRoom = length-set _ n name ∙ h .nameRoom;
-    typeRoom = length-set _ n ty ∙ h .typeRoom;
-    depthRoom = length-set _ n depth ∙ h .depthRoom;
-    kindRoom = length-set _ n k ∙ h .kindRoom;
-    placeRoom = length-set _ n p ∙ h .placeRoom;
+    nameRoom = length-set (s .names) n name ∙ h .nameRoom;
+    typeRoom = length-set (s .types) n ty ∙ h .typeRoom;
+    depthRoom = length-set (s .depths) n depth ∙ h .depthRoom;
+    kindRoom = length-set (s .kinds) n k ∙ h .kindRoom;
+    placeRoom = length-set (s .places) n p ∙ h .placeRoom;
     made = pushed-made is m;
   }
 

@@ -1,3 +1,5 @@
+use mathlib.Core.List.{List}
+use lib.ListN.{getD}
 use Prim.Native.Nat.{ℕ, _≤_, _<_, _-_, _+_}
 use mathlib.Core.Path.{_≡_, refl, sym, _∙_, ap}
 use borrow.Author.Needs.{needs}
@@ -38,7 +40,7 @@ element-copy-out-result c = search needs
 
 -- src/lib.rt:301:13
 returns : tie.Need-returns Inv-loop μ-loop
-returns c = λ s e f e′. rw f at (sym (depth-hit s _ _ (c .before .before .before .loop-test .taken) (rw e (c .before .if1 .taken))) ∙ c .before .before .before .before .loop .inv .1 s e e′)
+returns c = λ s e f e′. ap (λ (xs : List ℕ). getD xs (c .before .before .before .before .loop .i - 1) 0) (sym f) ∙ sym (depth-hit s _ (c .before .before .before .before .loop .i) (c .before .before .before .loop-test .taken) (rw e (c .before .if1 .taken))) ∙ c .before .before .before .before .loop .inv .1 s e e′
 
 -- src/lib.rt:298:5
 loop-less : tie.Need-loop-less Inv-loop μ-loop

@@ -1,3 +1,10 @@
+use Prim.Native.Nat.{ℕ, _≤_, _<_, _-_, _+_}
+use mathlib.Core.Path.{_≡_, refl, sym, _∙_, ap}
+use borrow.Author.Needs.{needs}
+use native.Mathlib.Omega.{arith}
+use Rattle.scope.specs.Kinds.{put, said}
+use Rattle.scope.specs.View.{listed, seen, view, Sound}
+use Rattle.scope.proofs.Seen.{Done, done-none, done-skip, done-put, stored-sound}
 use Rattle.scope.proofs.Stack.in_frame.Statement.{statement}
 use Rattle.scope.proofs.Stack.in_frame.Tie as tie
 use Rattle.scope.proofs.Stack.in_frame.Reads as reads
@@ -5,54 +12,54 @@ use Rattle.scope.proofs.Stack.in_frame.Lts as lts
 use Rattle.scope.proofs.is_marked.Reads as is-marked-reads
 
 abbrev Inv-loop : tie.InvT-loop
-Inv-loop name depth only-alive self₀ k ps n i₀ self i = ?
+Inv-loop name depth only-alive self₀ k ps n i₀ self i = (i ≤ n) × (self .count ≡ self₀ .count) × Sound self × Done name depth (put only-alive (said k (listed ps))) i self self₀
 
 abbrev μ-loop : tie.MeasureT-loop
-μ-loop name depth only-alive self₀ k ps n i₀ self i = ?
+μ-loop name depth only-alive self₀ k ps n i₀ self i = n - i
 
 -- src/lib.rt:364:9
 loop-holds : tie.Need-loop-holds Inv-loop μ-loop
-loop-holds c = ?
+loop-holds c = (search needs, refl, c .before .pre .0, done-none _ _ _ _)
 
 -- src/lib.rt:365:26
 mul-is-marked : tie.Need-mul-is-marked Inv-loop μ-loop
-mul-is-marked c = ?
+mul-is-marked c = search needs
 
 -- src/lib.rt:365:26
 element-copy-out-is-marked : tie.Need-element-copy-out-is-marked Inv-loop μ-loop
-element-copy-out-is-marked c = ?
+element-copy-out-is-marked c = search needs
 
 -- src/lib.rt:365:47
 element-copy-out-is-marked-2 : tie.Need-element-copy-out-is-marked-2 Inv-loop μ-loop
-element-copy-out-is-marked-2 c = ?
+element-copy-out-is-marked-2 c = search needs
 
 -- src/lib.rt:365:82
 element-copy-out-is-marked-3 : tie.Need-element-copy-out-is-marked-3 Inv-loop μ-loop
-element-copy-out-is-marked-3 c = ?
+element-copy-out-is-marked-3 c = search needs
 
 -- src/lib.rt:365:16
 is-marked-requires : tie.Need-is-marked-requires Inv-loop μ-loop
-is-marked-requires c κs = ?
+is-marked-requires c κs = search needs
 
 -- src/lib.rt:366:17
 element-write-self : tie.Need-element-write-self Inv-loop μ-loop
-element-write-self c = ?
+element-write-self c = search needs
 
 -- src/lib.rt:367:17
 mul-ps : tie.Need-mul-ps Inv-loop μ-loop
-mul-ps c = ?
+mul-ps c = search needs
 
 -- src/lib.rt:367:17
 element-set-from-ps : tie.Need-element-set-from-ps Inv-loop μ-loop
-element-set-from-ps c = ?
+element-set-from-ps c = search needs
 
 -- src/lib.rt:369:13
 add-i : tie.Need-add-i Inv-loop μ-loop
-add-i c = ?
+add-i c = search needs
 
 -- src/lib.rt:364:9
 loop-less : tie.Need-loop-less Inv-loop μ-loop
-loop-less c = ?
+loop-less c = search needs
 
 -- src/lib.rt:364:9
 loop-again : tie.Need-loop-again Inv-loop μ-loop
