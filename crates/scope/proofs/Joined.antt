@@ -5,14 +5,14 @@ use mathlib.Core.Path.{_≡_, refl, sym, ap, _∙_, subst}
 use mathlib.Core.Bool.{Bool, true, false, cond, not, _&&_, _||_}
 use mathlib.Core.List.{List, [], _∷_}
 use mathlib.Core.Logic.{_≢_}
-use borrow.Author.Tests.{ne-eqb, le-ltb}
+use borrow.Author.Tests.{eqb-true, eq-eqb, ne-eqb, le-ltb}
 use native.Mathlib.Numerals.{add-one}
 use native.Mathlib.Omega.{arith}
 use lib.Dec.{eqb, ltb}
 use lib.ListN.{length, getD}
 use Rattle.fields.proofs.Tests.{or-true}
 use Rattle.tables.specs.Limits.{version1}
-use Rattle.rules.specs.State.{Kind, State as Status, alive, gone, joinState}
+use Rattle.rules.specs.State.{Kind, State as Status, alive, gone, placesEq, combine, joinState}
 use Rattle.rules.specs.Stack.{Static, Local, local, Stack as Scope}
 use Rattle.rules.specs.Rules.{states, joins}
 use Rattle.rules.specs.Walk.{placesOf, crowded}
@@ -21,9 +21,10 @@ use Rattle.scope.specs.declared.State.{State}
 use Rattle.scope.specs.declared.Stack.{Stack}
 use Rattle.scope.specs.declared.NextPlaces.{NextPlaces}
 use Rattle.scope.specs.declared.NextState.{NextState}
-use Rattle.scope.specs.Kinds.{said, kindOf}
+use Rattle.scope.specs.Kinds.{said, kindOf, conditional, family}
 use Rattle.scope.specs.View.{listed, stateOf, staticAt, stateAt, localAt, seen, view, Roomy, Made, Sound, Fits, Joins}
-use Rattle.scope.proofs.Listed.{listed-length}
+use Rattle.scope.proofs.Listed.{listed-length, combine-grows}
+use Rattle.scope.proofs.Numbers.{join-given, join-then, join-else, conditional-given, conditional-known, family-given, family-known}
 use Rattle.scope.proofs.Seen.{seen-more, seen-none, stored, stored-at, stored-other, seen-stored}
 
 said-short : (k : ℕ) (p : Places) → Roomy p → length (placesOf (said k (listed p))) ≤ 8
@@ -57,6 +58,59 @@ joins-fits r ps k f g l m = record {
     record { known = l; roomy = f .is t .1; given = g ∙ sym (given-more (r .places) ps (f .is t .0) (f .is t .1) m) },
   );
 }
+
+pos : (a : ℕ) → (a ≡ 0 → ⊥) → 0 < a
+pos a ne = omega arith
+
+module _ (s t : State) (m : Made (s .kind) (s .places)) (n : Made (t .kind) (t .places)) where
+  pub join-then-alive : (k : ℕ) → s .kind ≡ 0 → k ≡ conditional (t .kind)
+      → Joins (record { ok = true; state = record { kind = k; places = t .places } }) (joinState (stateOf s) (stateOf t))
+  join-then-alive k z e =
+      joins-ok (record { kind = k; places = t .places }) (joinState (stateOf s) (stateOf t))
+      (ap (λ (x : ℕ). said x (listed (t .places))) e
+        ∙ sym (join-then (t .kind) (listed (t .places)) (n .known))
+        ∙ ap (λ (b : Bool). joinState (cond b alive (gone (ltb 3 (s .kind)) (kindOf (s .kind)) (listed (s .places)))) (stateOf t)) (sym (eq-eqb (s .kind) 0 z)))
+      (rw e (record { known = conditional-known (t .kind) (n .known); roomy = n .roomy; given = conditional-given (t .kind) (n .known) ∙ n .given }))
+
+  pub join-else-alive : (k : ℕ) → t .kind ≡ 0 → k ≡ conditional (s .kind)
+      → Joins (record { ok = true; state = record { kind = k; places = s .places } }) (joinState (stateOf s) (stateOf t))
+  join-else-alive k z e =
+      joins-ok (record { kind = k; places = s .places }) (joinState (stateOf s) (stateOf t))
+      (ap (λ (x : ℕ). said x (listed (s .places))) e
+        ∙ sym (join-else (s .kind) (listed (s .places)) (m .known) ∙ join-then (s .kind) (listed (s .places)) (m .known))
+        ∙ ap (λ (b : Bool). joinState (stateOf s) (cond b alive (gone (ltb 3 (t .kind)) (kindOf (t .kind)) (listed (t .places))))) (sym (eq-eqb (t .kind) 0 z)))
+      (rw e (record { known = conditional-known (s .kind) (m .known); roomy = m .roomy; given = conditional-given (s .kind) (m .known) ∙ m .given }))
+
+  module _ (a : s .kind ≡ 0 → ⊥) (b : t .kind ≡ 0 → ⊥) where
+    both-given : (x : Bool) → (eqb (s .kind) (t .kind) && placesEq (listed (s .places)) (listed (t .places))) ≡ x
+        → joinState (stateOf s) (stateOf t) ≡ cond x (stateOf s) (said (family (s .kind) (t .kind)) (combine (listed (s .places)) (listed (t .places))))
+    both-given x e =
+        join-given (s .kind) (t .kind) (pos _ a) (m .known) (pos _ b) (n .known) (listed (s .places)) (listed (t .places))
+        ∙ ap (λ (y : Bool). cond y (stateOf s) (said (family (s .kind) (t .kind)) (combine (listed (s .places)) (listed (t .places))))) e
+
+    pub join-same : (eqb (s .kind) (t .kind) && placesEq (listed (s .places)) (listed (t .places))) ≡ true
+        → Joins (record { ok = true; state = s }) (joinState (stateOf s) (stateOf t))
+    join-same e = joins-ok s (joinState (stateOf s) (stateOf t)) (sym (both-given true e)) m
+
+    places-some : 0 < length (combine (listed (s .places)) (listed (t .places)))
+    places-some =
+        let c : s .places .count ≡ 0 → ⊥ = λ q. a (eqb-true (s .kind) 0 (m .given ∙ eq-eqb (s .places .count) 0 q)) in
+        let e = listed-length (s .places) (m .roomy) in
+        let l = pos (s .places .count) c in
+        let g = combine-grows (listed (s .places)) (listed (t .places)) in
+        omega (arith, e, l, g)
+
+    pub join-differ : (eqb (s .kind) (t .kind) && placesEq (listed (s .places)) (listed (t .places))) ≡ false → (k : ℕ) → k ≡ family (s .kind) (t .kind)
+        → (r : NextPlaces) → Fits r (combine (listed (s .places)) (listed (t .places)))
+        → Joins (record { ok = r .ok; state = record { kind = k; places = r .places } }) (joinState (stateOf s) (stateOf t))
+    join-differ e k ek r f =
+        joins-eq (record { ok = r .ok; state = record { kind = k; places = r .places } }) (said (family (s .kind) (t .kind)) (combine (listed (s .places)) (listed (t .places))))
+        (joinState (stateOf s) (stateOf t))
+        (sym (both-given false e))
+        (rw ek
+          (joins-fits r (combine (listed (s .places)) (listed (t .places))) (family (s .kind) (t .kind)) f
+          (family-given (s .kind) (t .kind) (pos _ a) (m .known) (pos _ b) (n .known))
+          (family-known (s .kind) (t .kind) (pos _ a) (m .known) (pos _ b) (n .known)) places-some))
 
 abbrev staticOf′ : Local Status → Static
 staticOf′ (local s a) = s

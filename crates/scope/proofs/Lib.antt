@@ -4,3 +4,4 @@ pub mod Numbers
 pub mod Seen
 pub mod Frames
 pub mod Joined
+pub mod Registered

@@ -1,7 +1,7 @@
 -- Laws of the view of a stack.
 -- Assumes nothing.
 use Prim.Native.Nat.{ℕ, zero, suc, _+_, _-_, _≤_, _<_}
-use mathlib.Core.Path.{_≡_, refl, sym, ap, _∙_}
+use mathlib.Core.Path.{_≡_, refl, sym, ap, _∙_, subst}
 use mathlib.Core.Bool.{Bool, true, false, cond, not, _&&_}
 use mathlib.Core.List.{List, [], _∷_}
 use mathlib.Core.Logic.{_≢_, ⊎-elim}
@@ -187,6 +187,24 @@ module _ (n d : ℕ) (o : Bool) (new : Status) (i : ℕ) (s old : Stack) (h : Do
       ∙ sym (at-test true on);
     rest = λ j le. let ne : j ≢ i = λ e. omega arith in stored-other s i k p j ne ∙ h .rest j (omega arith);
   }
+
+-- the loop of a frame that marks, with what its stack meets
+pub record Marking (n d : ℕ) (o : Bool) (new : Status) (i : ℕ) (s old : Stack) : Type 0 where
+  pub same : s .count ≡ old .count
+  pub sound : Sound s
+  pub done : Done n d (put o new) i s old
+
+module _ (n d : ℕ) (o : Bool) (new : Status) (i : ℕ) (s old : Stack) (h : Marking n d o new i s old) (t : Stack) where
+  pub marking-skip : hits n d o new i s old (h .done) ≡ false → t ≡ s → Marking n d o new (i + 1) t old
+  marking-skip off e =
+      subst (λ (x : Stack). Marking n d o new (i + 1) x old) (sym e)
+      (record { same = h .same; sound = h .sound; done = done-skip n d o new i s old (h .done) off })
+
+  pub marking-put : (k : ℕ) (p : Places) → i < 64 → said k (listed p) ≡ new → Made k p → hits n d o new i s old (h .done) ≡ true → t ≡ stored s i k p
+      → Marking n d o new (i + 1) t old
+  marking-put k p l is m on e =
+      subst (λ (x : Stack). Marking n d o new (i + 1) x old) (sym e)
+      (record { same = h .same; sound = stored-sound s i k p (h .sound) l m; done = done-put n d o new i s old (h .done) k p (h .sound) l is on })
 
 -- a store of a new local after the first n
 abbrev pub pushed : Stack → ℕ → ℕ → ℕ → ℕ → ℕ → Places → Stack

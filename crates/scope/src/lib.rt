@@ -468,10 +468,12 @@ impl Stack {
         let mut out = self;
         let mut i = 0;
         while i < n {
+            let x = self.kinds[i];
             let p = self.places[i];
+            let y = other.kinds[i];
             let q = other.places[i];
-            let a = State { kind: self.kinds[i], places: p };
-            let b = State { kind: other.kinds[i], places: q };
+            let a = State { kind: x, places: p };
+            let b = State { kind: y, places: q };
             let r = a.join(b);
             if !r.ok {
                 return Next {

@@ -1,10 +1,13 @@
+use Rattle.rules.specs.Stack.{inFrame}
+use Rattle.scope.specs.View.{stateOf}
+use mathlib.Core.Logic.{⊎-elim}
 use Prim.Native.Nat.{ℕ, _≤_, _<_, _-_, _+_}
 use mathlib.Core.Path.{_≡_, refl, sym, _∙_, ap}
 use borrow.Author.Needs.{needs}
 use native.Mathlib.Omega.{arith}
 use Rattle.scope.specs.Kinds.{put, said}
 use Rattle.scope.specs.View.{listed, seen, view, Sound}
-use Rattle.scope.proofs.Seen.{Done, done-none, done-skip, done-put, stored-sound}
+use Rattle.scope.proofs.Seen.{Marking, done-none, marking-skip, marking-put}
 use Rattle.scope.proofs.Stack.in_frame.Statement.{statement}
 use Rattle.scope.proofs.Stack.in_frame.Tie as tie
 use Rattle.scope.proofs.Stack.in_frame.Reads as reads
@@ -12,14 +15,14 @@ use Rattle.scope.proofs.Stack.in_frame.Lts as lts
 use Rattle.scope.proofs.is_marked.Reads as is-marked-reads
 
 abbrev Inv-loop : tie.InvT-loop
-Inv-loop name depth only-alive self₀ k ps n i₀ self i = (i ≤ n) × (self .count ≡ self₀ .count) × Sound self × Done name depth (put only-alive (said k (listed ps))) i self self₀
+Inv-loop name depth only-alive self₀ k ps n i₀ self i = (i ≤ n) × Marking name depth only-alive (said k (listed ps)) i self self₀
 
 abbrev μ-loop : tie.MeasureT-loop
 μ-loop name depth only-alive self₀ k ps n i₀ self i = n - i
 
 -- src/lib.rt:364:9
 loop-holds : tie.Need-loop-holds Inv-loop μ-loop
-loop-holds c = (search needs, refl, c .before .pre .0, done-none _ _ _ _)
+loop-holds c = (search needs, record { same = refl; sound = c .before .pre .0; done = done-none _ _ _ _ })
 
 -- src/lib.rt:365:26
 mul-is-marked : tie.Need-mul-is-marked Inv-loop μ-loop
@@ -63,11 +66,24 @@ loop-less c = search needs
 
 -- src/lib.rt:364:9
 loop-again : tie.Need-loop-again Inv-loop μ-loop
-loop-again c = ?
+loop-again c = (
+      search needs,
+      ⊎-elim
+      (λ x. marking-put _ _ _ _ _ _ _ (c .before .before .before .before .before .before .loop .inv .1) _ _ _ (search needs) refl (c .before .before .before .before .before .before .before .before .pre .1) (sym (c .before .is-marked .ensures) ∙ x .0 .taken) (x .1))
+      (λ x. marking-skip _ _ _ _ _ _ _ (c .before .before .before .before .before .before .loop .inv .1) _ (sym (c .before .is-marked .ensures) ∙ x .0 .left) (x .1))
+      (c .if1 .came),
+    )
 
 -- src/lib.rt:356:5
 returns : tie.Need-returns Inv-loop μ-loop
-returns c = ?
+returns c = let inv = c .before .loop .inv .1 in
+    let end : c .before .loop .i ≡ c .before .before .before .args .t1 .count = omega (arith, c .before .loop .inv .0, c .loop-test .left) in (
+      inv .sound,
+      inv .same,
+      ap (λ (k : ℕ). seen k (c .before .loop .self)) (inv .same ∙ sym end)
+      ∙ inv .done .first
+      ∙ ap (λ (k : ℕ). inFrame (c .before .before .before .args .name) (c .before .before .before .args .depth) (put (c .before .before .before .args .only-alive) (stateOf (c .before .before .before .args .state))) (seen k (c .before .before .before .args .t1))) end,
+    )
 
 pub in-frame-spec : {M : Type 1} → statement M
 in-frame-spec =

@@ -1,3 +1,16 @@
+use Prim.Native.Nat.{ℕ, _≤_, _<_, _-_, _+_}
+use mathlib.Core.Path.{_≡_, refl, sym, _∙_, ap}
+use borrow.Author.Needs.{needs}
+use native.Mathlib.Omega.{arith}
+use mathlib.Core.Bool.{Bool, true, false}
+use borrow.Author.Tests.{not-true, not-false}
+use Rattle.fields.proofs.Tests.{false-true}
+use Rattle.tables.specs.Limits.{version1}
+use Rattle.rules.specs.Rules.{states, joins}
+use Rattle.rules.specs.Walk.{crowded}
+use Rattle.scope.specs.View.{seen, view, Sound}
+use Rattle.scope.proofs.Seen.{stored-sound}
+use Rattle.scope.proofs.Joined.{Joining, joined, joining-none, joining-more, crowd-any}
 use Rattle.scope.proofs.Stack.join.Statement.{statement}
 use Rattle.scope.proofs.Stack.join.Tie as tie
 use Rattle.scope.proofs.Stack.join.Reads as reads
@@ -5,74 +18,74 @@ use Rattle.scope.proofs.Stack.join.Lts as lts
 use Rattle.scope.proofs.State.join.Reads as join-reads
 
 abbrev Inv-loop : tie.InvT-loop
-Inv-loop self other n out₀ i₀ out i = ?
+Inv-loop self other n out₀ i₀ out i = (i ≤ n) × (out .count ≡ self .count) × Sound out × Joining self other i out
 
 abbrev μ-loop : tie.MeasureT-loop
-μ-loop self other n out₀ i₀ out i = ?
+μ-loop self other n out₀ i₀ out i = n - i
 
 -- src/lib.rt:470:9
 loop-holds : tie.Need-loop-holds Inv-loop μ-loop
-loop-holds c = ?
+loop-holds c = (search needs, refl, c .pre .0, joining-none _ _)
 
 -- src/lib.rt:471:21
+element-copy-out-x : tie.Need-element-copy-out-x Inv-loop μ-loop
+element-copy-out-x c = search needs
+
+-- src/lib.rt:472:21
 mul-p : tie.Need-mul-p Inv-loop μ-loop
-mul-p c = ?
+mul-p c = search needs
 
--- src/lib.rt:471:21
+-- src/lib.rt:472:21
 element-copy-out-p : tie.Need-element-copy-out-p Inv-loop μ-loop
-element-copy-out-p c = ?
+element-copy-out-p c = search needs
 
--- src/lib.rt:472:21
+-- src/lib.rt:473:21
+element-copy-out-y : tie.Need-element-copy-out-y Inv-loop μ-loop
+element-copy-out-y c = search needs
+
+-- src/lib.rt:474:21
 mul-q : tie.Need-mul-q Inv-loop μ-loop
-mul-q c = ?
+mul-q c = search needs
 
--- src/lib.rt:472:21
+-- src/lib.rt:474:21
 element-copy-out-q : tie.Need-element-copy-out-q Inv-loop μ-loop
-element-copy-out-q c = ?
-
--- src/lib.rt:473:35
-element-copy-out-t25 : tie.Need-element-copy-out-t25 Inv-loop μ-loop
-element-copy-out-t25 c = ?
-
--- src/lib.rt:474:35
-element-copy-out-t25-2 : tie.Need-element-copy-out-t25-2 Inv-loop μ-loop
-element-copy-out-t25-2 c = ?
-
--- src/lib.rt:475:17
-join-requires : tie.Need-join-requires Inv-loop μ-loop
-join-requires c κs = ?
+element-copy-out-q c = search needs
 
 -- src/lib.rt:477:17
+join-requires : tie.Need-join-requires Inv-loop μ-loop
+join-requires c κs = search needs
+
+-- src/lib.rt:479:17
 returns : tie.Need-returns Inv-loop μ-loop
-returns c = ?
-
--- src/lib.rt:484:13
-element-write-out : tie.Need-element-write-out Inv-loop μ-loop
-element-write-out c = ?
-
--- src/lib.rt:485:13
-mul-ps : tie.Need-mul-ps Inv-loop μ-loop
-mul-ps c = ?
-
--- src/lib.rt:485:13
-element-set-from-ps : tie.Need-element-set-from-ps Inv-loop μ-loop
-element-set-from-ps c = ?
+returns c = search needs
 
 -- src/lib.rt:486:13
+element-write-out : tie.Need-element-write-out Inv-loop μ-loop
+element-write-out c = search needs
+
+-- src/lib.rt:487:13
+mul-ps : tie.Need-mul-ps Inv-loop μ-loop
+mul-ps c = search needs
+
+-- src/lib.rt:487:13
+element-set-from-ps : tie.Need-element-set-from-ps Inv-loop μ-loop
+element-set-from-ps c = search needs
+
+-- src/lib.rt:488:13
 add-i : tie.Need-add-i Inv-loop μ-loop
-add-i c = ?
+add-i c = search needs
 
 -- src/lib.rt:470:9
 loop-less : tie.Need-loop-less Inv-loop μ-loop
-loop-less c = ?
+loop-less c = search needs
 
 -- src/lib.rt:470:9
 loop-again : tie.Need-loop-again Inv-loop μ-loop
-loop-again c = ?
+loop-again c = search needs
 
 -- src/lib.rt:463:5
 returns-2 : tie.Need-returns-2 Inv-loop μ-loop
-returns-2 c = ?
+returns-2 c = search needs
 
 pub join-spec : {M : Type 1} → statement M
 join-spec =
@@ -81,12 +94,12 @@ join-spec =
     Inv-loop
     μ-loop
     loop-holds
+    element-copy-out-x
     mul-p
     element-copy-out-p
+    element-copy-out-y
     mul-q
     element-copy-out-q
-    element-copy-out-t25
-    element-copy-out-t25-2
     join-requires
     returns
     element-write-out

@@ -1,3 +1,16 @@
+use Prim.Native.Nat.{ℕ, _≤_, _<_, _-_, _+_}
+use mathlib.Core.Path.{_≡_, refl, sym, _∙_, ap}
+use native.Mathlib.Omega.{arith}
+use mathlib.Core.Bool.{false}
+use mathlib.Core.List.{[], _∷_}
+use borrow.Author.Tests.{eq-eqb, le-ltb, lt-ltb}
+use lib.ListN.{length}
+use Rattle.rules.specs.State.{State, alive}
+use Rattle.rules.specs.Stack.{inFrame}
+use Rattle.scope.specs.Kinds.{put}
+use Rattle.scope.specs.View.{seen, view}
+use Rattle.scope.proofs.Seen.{pushed-view, pushed-sound}
+use Rattle.scope.proofs.Registered.{registers-ok, registers-no}
 use borrow.Author.Needs.{needs}
 use Rattle.scope.proofs.Stack.register_local.Statement.{statement}
 use Rattle.scope.proofs.Stack.register_local.Tie as tie
@@ -9,7 +22,7 @@ use Rattle.scope.proofs.State.alive.Reads as alive-reads
 
 -- src/lib.rt:426:13
 returns : tie.Need-returns
-returns c = ?
+returns c = registers-no (c .before .args .self) (c .before .args .name) (c .before .args .ty) (c .before .args .depth) (c .if1 .taken)
 
 -- src/lib.rt:431:50
 alive-requires : tie.Need-alive-requires
@@ -17,7 +30,7 @@ alive-requires c κs = search needs
 
 -- src/lib.rt:431:23
 in-frame-requires : tie.Need-in-frame-requires
-in-frame-requires c κs = search needs
+in-frame-requires c κs = (c .before .before .pre, c .alive .ensures .1)
 
 -- src/lib.rt:432:13
 none-requires : tie.Need-none-requires
@@ -61,7 +74,9 @@ add-out c = search needs
 
 -- src/lib.rt:420:5
 returns-2 : tie.Need-returns-2
-returns-2 c = ?
+returns-2 c = registers-ok (c .before .before .before .before .args .self) (c .before .before .before .before .args .name) (c .before .before .before .before .args .ty) (c .before .before .before .before .args .depth) (c .before .before .before .if1 .left) (c .before .in-frame .result) (c .before .in-frame .ensures .0) (c .before .in-frame .ensures .1)
+    (c .before .in-frame .ensures .2 ∙ ap (λ (s : State). inFrame (c .before .before .before .before .args .name) (c .before .before .before .before .args .depth) (put false s) (view (c .before .before .before .before .args .self))) (c .before .before .alive .ensures .0))
+    (c .none .result) (c .none .ensures .0) (record { known = omega arith; roomy = c .none .ensures .1; given = sym (eq-eqb _ _ (c .none .ensures .2)) })
 
 pub register-local-spec : {M : Type 1} → statement M
 register-local-spec =
