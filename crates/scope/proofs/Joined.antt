@@ -10,7 +10,7 @@ use native.Mathlib.Numerals.{add-one}
 use native.Mathlib.Omega.{arith}
 use lib.Dec.{eqb, ltb}
 use lib.ListN.{length, getD}
-use Rattle.fields.proofs.Tests.{or-true}
+use Rattle.fields.proofs.Tests.{or-true, false-true}
 use Rattle.tables.specs.Limits.{version1}
 use Rattle.rules.specs.State.{Kind, State as Status, alive, gone, placesEq, combine, joinState}
 use Rattle.rules.specs.Stack.{Static, Local, local, Stack as Scope}
@@ -22,7 +22,7 @@ use Rattle.scope.specs.declared.Stack.{Stack}
 use Rattle.scope.specs.declared.NextPlaces.{NextPlaces}
 use Rattle.scope.specs.declared.NextState.{NextState}
 use Rattle.scope.specs.Kinds.{said, kindOf, conditional, family}
-use Rattle.scope.specs.View.{listed, stateOf, staticAt, stateAt, localAt, seen, view, Roomy, Made, Sound, Fits, Joins}
+use Rattle.scope.specs.View.{listed, stateOf, staticAt, stateAt, localAt, seen, view, Roomy, Made, Sound, Fits, Joins, JoinsAll}
 use Rattle.scope.proofs.Listed.{listed-length, combine-grows}
 use Rattle.scope.proofs.Numbers.{join-given, join-then, join-else, conditional-given, conditional-known, family-given, family-known}
 use Rattle.scope.proofs.Seen.{seen-more, seen-none, stored, stored-at, stored-other, seen-stored}
@@ -172,3 +172,16 @@ module _ (s t : Stack) where
   crowd-any i n h e =
       let z : (n - (i + 1)) + (i + 1) ≡ n = omega arith in
       rw z at (crowd-up (i + 1) (n - (i + 1)) (crowd-here i e))
+
+  module _ (alike : s .count ≡ t .count) where
+    joined-view : joined (s .count) ≡ joins states (view s) (view t)
+    joined-view = ap (λ (k : ℕ). joins states (view s) (seen k t)) alike
+
+    pub all-no : crowded version1 (joined (s .count)) ≡ true → JoinsAll (record { ok = false; stack = s }) (joins states (view s) (view t))
+    all-no e = subst (λ (σ : Scope Status). JoinsAll (record { ok = false; stack = s }) σ) joined-view (record { ok = sym (ap not e); is = λ q. false-true q })
+
+    pub all-ok : (i : ℕ) (out : Stack) → i ≡ s .count → out .count ≡ s .count → Sound out → Joining i out
+        → JoinsAll (record { ok = true; stack = out }) (joins states (view s) (view t))
+    all-ok i out end same g h =
+        subst (λ (σ : Scope Status). JoinsAll (record { ok = true; stack = out }) σ) (ap joined end ∙ joined-view)
+        (record { ok = sym (ap not (h .calm)); is = λ q. (ap (λ (k : ℕ). seen k out) (same ∙ sym end) ∙ h .first, g) })

@@ -4,7 +4,8 @@ use Prim.Native.Nat.{ℕ, suc, _+_, _≤_, _<_}
 use mathlib.Core.Path.{_≡_, refl, sym, ap, _∙_}
 use mathlib.Core.List.{List, [], _∷_, _++_}
 use mathlib.Core.Bool.{Bool, true, false, cond, not, _&&_}
-use borrow.Author.Tests.{eq-eqb, ne-eqb, le-ltb, lt-ltb}
+use borrow.Author.Tests.{eq-eqb, ne-eqb, ltb-true, le-ltb, lt-ltb}
+use native.Mathlib.Nat.{lt-of-lt-of-le}
 use native.Mathlib.Numerals.{add-one}
 use native.Mathlib.Omega.{arith}
 use lib.Dec.{eqb, ltb}
@@ -79,6 +80,14 @@ combine-next ps a i n h le = rw (rest-cons a i n h le)
 
 pub combine-end : (ps a : List ℕ) (i n : ℕ) → n ≤ i → combine ps (drop i (take n a)) ≡ ps
 combine-end ps a i n h = rw (rest-end a i n h)
+
+-- a 9th place now is one in the end
+pub combine-crowd : (ps a : List ℕ) (i n : ℕ) → i < n → n ≤ length a
+    → ltb 8 (length (cond (member eqb ps (getD a i 0)) ps (ps ++ (getD a i 0 ∷ [])))) ≡ true → 8 < length (combine ps (drop i (take n a)))
+combine-crowd ps a i n h le e =
+    rw (combine-next ps a i n h le)
+    (lt-of-lt-of-le (ltb-true 8 (length (cond (member eqb ps (getD a i 0)) ps (ps ++ (getD a i 0 ∷ [])))) e)
+      (combine-grows (cond (member eqb ps (getD a i 0)) ps (ps ++ (getD a i 0 ∷ []))) (drop (i + 1) (take n a))))
 
 -- a place stored after the first n
 pub take-add : (n : ℕ) (a : List ℕ) (p : ℕ) → n < length a → take (n + 1) (set a n p) ≡ take n a ++ (p ∷ [])

@@ -1,15 +1,15 @@
+use mathlib.Core.Path.{_≡_, refl, sym, _∙_, ap, subst}
 use Prim.Native.Nat.{ℕ, _≤_, _<_, _-_, _+_}
-use mathlib.Core.Path.{_≡_, refl, sym, _∙_, ap}
+use mathlib.Core.Path.{_≡_, refl, sym, _∙_, ap, subst}
 use borrow.Author.Needs.{needs}
 use native.Mathlib.Omega.{arith}
-use native.Mathlib.Nat.{lt-of-lt-of-le}
 use mathlib.Core.Bool.{Bool, true, false, cond}
 use mathlib.Core.List.{List, [], _∷_, _++_}
-use borrow.Author.Tests.{ltb-true, not-true, not-false}
+use borrow.Author.Tests.{not-true, not-false}
 use lib.ListN.{length, take, drop}
 use Rattle.rules.specs.State.{combine}
 use Rattle.scope.specs.View.{listed, Roomy}
-use Rattle.scope.proofs.Listed.{combine-grows, combine-next, combine-end, fits-ok, fits-no}
+use Rattle.scope.proofs.Listed.{combine-crowd, combine-next, combine-end, fits-ok, fits-no}
 use Rattle.scope.proofs.Places.combine.Statement.{statement}
 use Rattle.scope.proofs.Places.combine.Tie as tie
 use Rattle.scope.proofs.Places.combine.Reads as reads
@@ -46,10 +46,10 @@ add-requires c κs = c .before .before .loop .inv .2
 -- src/lib.rt:135:17
 returns : tie.Need-returns Inv-loop μ-loop
 returns c = let off : c .before .before .add .result .ok ≡ false = not-true _ (c .if1 .taken) in
-    let big = ltb-true 8 _ (not-false _ (sym (c .before .before .add .ensures .ok) ∙ off)) in
     let other = c .before .before .before .before .before .before .before .args .t2 in
-    let next = combine-next (listed (c .before .before .before .before .before .loop .out)) (other .list) (c .before .before .before .before .before .loop .i) (other .count) (omega (arith, c .before .before .before .before .loop-test .taken, c .before .before .before .before .before .loop .inv .1)) (omega (arith, c .before .before .before .before .before .before .before .pre .1 .most, c .before .before .before .before .before .before .before .pre .1 .room)) in
-    fits-no _ _ (rw (sym (c .before .before .before .before .before .loop .inv .3) ∙ next) (lt-of-lt-of-le big (combine-grows _ _)))
+    fits-no _ _
+    (subst (λ (l : List ℕ). 8 < length l) (c .before .before .before .before .before .loop .inv .3)
+    (combine-crowd (listed (c .before .before .before .before .before .loop .out)) (other .list) (c .before .before .before .before .before .loop .i) (other .count) (omega (arith, c .before .before .before .before .loop-test .taken, c .before .before .before .before .before .loop .inv .1)) (omega (arith, c .before .before .before .before .before .before .before .pre .1 .most, c .before .before .before .before .before .before .before .pre .1 .room)) (not-false _ (sym (c .before .before .add .ensures .ok) ∙ off))))
 
 -- src/lib.rt:141:13
 add-i : tie.Need-add-i Inv-loop μ-loop

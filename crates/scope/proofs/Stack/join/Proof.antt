@@ -10,7 +10,7 @@ use Rattle.rules.specs.Rules.{states, joins}
 use Rattle.rules.specs.Walk.{crowded}
 use Rattle.scope.specs.View.{seen, view, Sound}
 use Rattle.scope.proofs.Seen.{stored-sound}
-use Rattle.scope.proofs.Joined.{Joining, joined, joining-none, joining-more, crowd-any}
+use Rattle.scope.proofs.Joined.{Joining, joining-none, joining-more, crowd-any, all-no, all-ok}
 use Rattle.scope.proofs.Stack.join.Statement.{statement}
 use Rattle.scope.proofs.Stack.join.Tie as tie
 use Rattle.scope.proofs.Stack.join.Reads as reads
@@ -53,11 +53,12 @@ element-copy-out-q c = search needs
 
 -- src/lib.rt:477:17
 join-requires : tie.Need-join-requires Inv-loop μ-loop
-join-requires c κs = search needs
+join-requires c κs = (c .before .before .before .before .before .before .pre .0 .made (c .before .before .before .before .before .loop .i) (search needs), c .before .before .before .before .before .before .pre .1 .made (c .before .before .before .before .before .loop .i) (search needs))
 
 -- src/lib.rt:479:17
 returns : tie.Need-returns Inv-loop μ-loop
-returns c = search needs
+returns c = let off : c .before .before .join .result .ok ≡ false = not-true _ (c .if1 .taken) in
+    all-no (c .before .before .before .before .before .before .before .before .before .args .t1) (c .before .before .before .before .before .before .before .before .before .args .t2) (c .before .before .before .before .before .before .before .before .before .pre .2) (crowd-any (c .before .before .before .before .before .before .before .before .before .args .t1) (c .before .before .before .before .before .before .before .before .before .args .t2) (c .before .before .before .before .before .before .before .before .loop .i) (c .before .before .before .before .before .before .before .before .before .args .t1 .count) (c .before .before .before .before .before .before .before .loop-test .taken) (not-false _ (sym (c .before .before .join .ensures .ok) ∙ off)))
 
 -- src/lib.rt:486:13
 element-write-out : tie.Need-element-write-out Inv-loop μ-loop
@@ -81,11 +82,19 @@ loop-less c = search needs
 
 -- src/lib.rt:470:9
 loop-again : tie.Need-loop-again Inv-loop μ-loop
-loop-again c = search needs
+loop-again c = let on : c .before .before .before .before .join .result .ok ≡ true = not-false _ (c .before .before .if1 .left) in
+    let new = c .before .before .before .before .join .ensures .is on in
+    let inv = c .before .before .before .before .before .before .before .before .before .before .loop .inv in (
+      search needs,
+      inv .1,
+      stored-sound (c .before .before .before .before .before .before .before .before .before .before .loop .out) (c .before .before .before .before .before .before .before .before .before .before .loop .i) _ _ (inv .2) (search needs) (new .1),
+      joining-more (c .before .before .before .before .before .before .before .before .before .before .before .args .t1) (c .before .before .before .before .before .before .before .before .before .before .before .args .t2) (c .before .before .before .before .before .before .before .before .before .before .loop .i) (c .before .before .before .before .before .before .before .before .before .before .loop .out) _ _ (inv .2) (search needs) (inv .3) (new .0) (not-true _ (sym (c .before .before .before .before .join .ensures .ok) ∙ on)),
+    )
 
 -- src/lib.rt:463:5
 returns-2 : tie.Need-returns-2 Inv-loop μ-loop
-returns-2 c = search needs
+returns-2 c = let inv = c .before .loop .inv in
+    all-ok (c .before .before .args .t1) (c .before .before .args .t2) (c .before .before .pre .2) (c .before .loop .i) (c .before .loop .out) (omega (arith, inv .0, c .loop-test .left)) (inv .1) (inv .2) (inv .3)
 
 pub join-spec : {M : Type 1} → statement M
 join-spec =
