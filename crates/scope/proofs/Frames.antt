@@ -10,9 +10,9 @@ use lib.Dec.{eqb}
 use lib.ListN.{getD}
 use Rattle.rules.specs.State.{State as Status, alive, gone, moved, handState}
 use Rattle.rules.specs.Stack.{Static, Local, local, Shape, shape, inFrame, mark, pop, Stack as Scope}
-use Rattle.rules.specs.Rules.{states, register}
+use Rattle.rules.specs.Rules.{states, register, joins}
 use Rattle.rules.proofs.Bools.{eqb-self}
-use Rattle.rules.proofs.Shapes.{popS, shape-frame}
+use Rattle.rules.proofs.Shapes.{popS, shape-frame, shape-mark, shape-pop, shape-joins}
 use Rattle.scope.specs.declared.Stack.{Stack}
 use Rattle.scope.specs.Kinds.{put}
 use Rattle.scope.specs.View.{localAt, seen, Nested, depthOf}
@@ -79,7 +79,7 @@ module _ (s : Stack) (d i : ℕ) where
   pub leave-end : i ≤ 0 → leave d (seen i s) ≡ seen i s
   leave-end h = rw (seen-none i s h)
 
--- What keeps frames nested: marks and joins keep the shape; a registration in the innermost block, the start and the end of a block.
+-- What keeps frames nested: the start of a block, a registration in the innermost block, marks, joins and the end of a block.
 pub nested-deeper : (d e : ℕ) (Γ : Shape) → d ≤ e → Nested d Γ → Nested e Γ
 nested-deeper d e [] l h = tt
 nested-deeper d e (s ∷ Γ) l h = (omega (arith, h .0), h .1)
@@ -101,7 +101,16 @@ pop-step false d s Γ e le h ih =
     let lt : s .depth < suc d = below (s .depth) (suc d) le (eqb-false _ _ e) in
     (omega arith, subst (Nested (s .depth)) (sym (nested-keeps (s .depth) (suc d) Γ h lt)) h)
 
-pub nested-pop : (d : ℕ) (Γ : Shape) → Nested (suc d) Γ → Nested d (popS (suc d) Γ)
+nested-pop : (d : ℕ) (Γ : Shape) → Nested (suc d) Γ → Nested d (popS (suc d) Γ)
 nested-pop d [] h = tt
 nested-pop d (s ∷ Γ) h =
     pop-step (eqb (s .depth) (suc d)) d s Γ refl (h .0) (h .1) (λ q. nested-pop d Γ (subst (λ (k : ℕ). Nested k Γ) q (h .1)))
+
+pub nested-mark : (d n : ℕ) (f : Status → Status) (σ : Scope Status) → Nested d (shape σ) → Nested d (shape (mark n f σ))
+nested-mark d n f σ h = subst (Nested d) (sym (shape-mark n f σ)) h
+
+pub nested-joins : (d : ℕ) (σ τ : Scope Status) → Nested d (shape σ) → Nested d (shape (joins states σ τ))
+nested-joins d σ τ h = subst (Nested d) (sym (shape-joins states σ τ)) h
+
+pub nested-leave : (d : ℕ) (σ : Scope Status) → Nested (suc d) (shape σ) → Nested d (shape (pop (suc d) σ))
+nested-leave d σ h = subst (Nested d) (sym (shape-pop (suc d) σ)) (nested-pop d (shape σ) h)

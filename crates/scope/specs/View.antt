@@ -12,7 +12,7 @@ use Rattle.lookup.specs.declared.Found.{Found}
 use Rattle.lookup.specs.declared.Found.the-variants.{At, Nothing}
 use Rattle.rules.specs.Questions.{auto}
 use Rattle.rules.specs.State.{State as Status}
-use Rattle.rules.specs.Stack.{Static, Local, local, Shape, lookup, Stack as Scope}
+use Rattle.rules.specs.Stack.{Static, Local, local, Shape, shape, lookup, Stack as Scope}
 use Rattle.rules.specs.Rules.{states, Drop, dropOf, collect}
 use Rattle.rules.specs.Walk.{placesOf, crowded}
 use Rattle.scope.specs.declared.Places.{Places}
@@ -75,6 +75,17 @@ pub record Sound (s : Stack) : Type 0 where
 abbrev pub Nested : ℕ → Shape → Type 0
 Nested d [] = Unit {0}
 Nested d (s ∷ Γ) = (s .depth ≤ d) × Nested (s .depth) Γ
+
+-- a stack in a block of depth d
+pub record Framed (d : ℕ) (s : Stack) : Type 0 where
+  pub sound : Sound s
+  pub nested : Nested d (shape (view s))
+
+-- the stacks of two branches: they hold as many locals
+pub record Branches (s t : Stack) : Type 0 where
+  pub sound : Sound s
+  pub other : Sound t
+  pub alike : s .count ≡ t .count
 
 -- the depth of the newest local of a name
 abbrev pub depthOf : ℕ → Scope Status → ℕ

@@ -6,10 +6,10 @@ ghost use Prim.Native.Nat.{ℕ, _≤_, _<_};
 ghost use lib.Dec.{eqb};
 ghost use Rattle.fields.specs.Table.{member};
 ghost use Rattle.rules.specs.State.{deleted, moved, consumed, alive, handState, placesEq, combine as combined, joinState};
-ghost use Rattle.rules.specs.Stack.{shape, inFrame, mark as marked, pop};
+ghost use Rattle.rules.specs.Stack.{inFrame, mark as marked, pop};
 ghost use Rattle.rules.specs.Rules.{states, register, joins};
 ghost use Rattle.scope.specs.Kinds.{said, baseOf, conditional as conditionalOf, family as familyOf, put};
-ghost use Rattle.scope.specs.View.{listed, stateOf, seen, view, Roomy, Made, Sound, Nested, depthOf, Finds, Lives, Fits, Joins, JoinsAll, Registers};
+ghost use Rattle.scope.specs.View.{listed, stateOf, view, Roomy, Made, Sound, Framed, Branches, depthOf, Finds, Lives, Fits, Joins, JoinsAll, Registers};
 use lookup::Found;
 
 // Where a name was given up: the first count of the list.
@@ -444,7 +444,7 @@ impl Stack {
 
     // The end of a block: its frame, the newest locals, goes.
     pub fn leave_block(mut self, depth: u8) -> Stack
-        requires { ⌜ Sound self × Nested depth (shape (view self)) ⌝ }
+        requires { ⌜ Framed depth self ⌝ }
         ensures { λ r. ⌜ Sound r × (view r ≡ pop depth (view self)) ⌝ }
     {
         let mut i = self.count;
@@ -461,7 +461,7 @@ impl Stack {
 
     // The stack after two branches, this one then's.
     pub fn join(self, other: Stack) -> Next
-        requires { ⌜ Sound self × Sound other × (self .count ≡ other .count) ⌝ }
+        requires { ⌜ Branches self other ⌝ }
         ensures { λ r. ⌜ JoinsAll r (joins states (view self) (view other)) ⌝ }
     {
         let n = self.count;

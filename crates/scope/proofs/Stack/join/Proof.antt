@@ -25,7 +25,7 @@ abbrev μ-loop : tie.MeasureT-loop
 
 -- src/lib.rt:470:9
 loop-holds : tie.Need-loop-holds Inv-loop μ-loop
-loop-holds c = (search needs, refl, c .pre .0, joining-none _ _)
+loop-holds c = (search needs, refl, c .pre .sound, joining-none _ _)
 
 -- src/lib.rt:471:21
 element-copy-out-x : tie.Need-element-copy-out-x Inv-loop μ-loop
@@ -53,12 +53,12 @@ element-copy-out-q c = search needs
 
 -- src/lib.rt:477:17
 join-requires : tie.Need-join-requires Inv-loop μ-loop
-join-requires c κs = (c .before .before .before .before .before .before .pre .0 .made (c .before .before .before .before .before .loop .i) (search needs), c .before .before .before .before .before .before .pre .1 .made (c .before .before .before .before .before .loop .i) (search needs))
+join-requires c κs = (c .before .before .before .before .before .before .pre .sound .made (c .before .before .before .before .before .loop .i) (search needs), c .before .before .before .before .before .before .pre .other .made (c .before .before .before .before .before .loop .i) (search needs))
 
 -- src/lib.rt:479:17
 returns : tie.Need-returns Inv-loop μ-loop
 returns c = let off : c .before .before .join .result .ok ≡ false = not-true _ (c .if1 .taken) in
-    all-no (c .before .before .before .before .before .before .before .before .before .args .t1) (c .before .before .before .before .before .before .before .before .before .args .t2) (c .before .before .before .before .before .before .before .before .before .pre .2) (crowd-any (c .before .before .before .before .before .before .before .before .before .args .t1) (c .before .before .before .before .before .before .before .before .before .args .t2) (c .before .before .before .before .before .before .before .before .loop .i) (c .before .before .before .before .before .before .before .before .before .args .t1 .count) (c .before .before .before .before .before .before .before .loop-test .taken) (not-false _ (sym (c .before .before .join .ensures .ok) ∙ off)))
+    all-no (c .before .before .before .before .before .before .before .before .before .args .t1) (c .before .before .before .before .before .before .before .before .before .args .t2) (c .before .before .before .before .before .before .before .before .before .pre .alike) (crowd-any (c .before .before .before .before .before .before .before .before .before .args .t1) (c .before .before .before .before .before .before .before .before .before .args .t2) (c .before .before .before .before .before .before .before .before .loop .i) (c .before .before .before .before .before .before .before .before .before .args .t1 .count) (c .before .before .before .before .before .before .before .loop-test .taken) (not-false _ (sym (c .before .before .join .ensures .ok) ∙ off)))
 
 -- src/lib.rt:486:13
 element-write-out : tie.Need-element-write-out Inv-loop μ-loop
@@ -94,7 +94,7 @@ loop-again c = let on : c .before .before .before .before .join .result .ok ≡ 
 -- src/lib.rt:463:5
 returns-2 : tie.Need-returns-2 Inv-loop μ-loop
 returns-2 c = let inv = c .before .loop .inv in
-    all-ok (c .before .before .args .t1) (c .before .before .args .t2) (c .before .before .pre .2) (c .before .loop .i) (c .before .loop .out) (omega (arith, inv .0, c .loop-test .left)) (inv .1) (inv .2) (inv .3)
+    all-ok (c .before .before .args .t1) (c .before .before .args .t2) (c .before .before .pre .alike) (c .before .loop .i) (c .before .loop .out) (omega (arith, inv .0, c .loop-test .left)) (inv .1) (inv .2) (inv .3)
 
 pub join-spec : {M : Type 1} → statement M
 join-spec =

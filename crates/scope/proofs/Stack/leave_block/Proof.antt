@@ -38,11 +38,11 @@ loop-again c = (search needs, sym (leave-more _ _ _ (c .before .before .loop-tes
 
 -- src/lib.rt:446:5
 returns : tie.Need-returns Inv-loop μ-loop
-returns c = (counted-sound (c .before .before .args .t1) (c .before .loop .i) (c .before .before .pre .0) (c .before .loop .inv .0), counted-view (c .before .before .args .t1) (c .before .loop .i) ∙ sym (leave-end (c .before .before .args .t1) (c .before .before .args .depth) (c .before .loop .i) (c .loop-test .left)) ∙ c .before .loop .inv .1 ∙ leave-pop (c .before .before .args .depth) (view (c .before .before .args .t1)) (c .before .before .pre .1))
+returns c = (counted-sound (c .before .before .args .t1) (c .before .loop .i) (c .before .before .pre .sound) (c .before .loop .inv .0), counted-view (c .before .before .args .t1) (c .before .loop .i) ∙ sym (leave-end (c .before .before .args .t1) (c .before .before .args .depth) (c .before .loop .i) (c .loop-test .left)) ∙ c .before .loop .inv .1 ∙ leave-pop (c .before .before .args .depth) (view (c .before .before .args .t1)) (c .before .before .pre .nested))
 
 -- src/lib.rt:446:5
 returns-2 : tie.Need-returns-2 Inv-loop μ-loop
-returns-2 c = (counted-sound (c .before .before .before .before .args .t1) (c .before .before .before .loop .i) (c .before .before .before .before .pre .0) (c .before .before .before .loop .inv .0), counted-view (c .before .before .before .before .args .t1) (c .before .before .before .loop .i) ∙ sym (leave-stop (c .before .before .before .before .args .t1) (c .before .before .before .before .args .depth) (c .before .before .before .loop .i) (c .before .before .loop-test .taken) (c .if1 .taken)) ∙ c .before .before .before .loop .inv .1 ∙ leave-pop (c .before .before .before .before .args .depth) (view (c .before .before .before .before .args .t1)) (c .before .before .before .before .pre .1))
+returns-2 c = (counted-sound (c .before .before .before .before .args .t1) (c .before .before .before .loop .i) (c .before .before .before .before .pre .sound) (c .before .before .before .loop .inv .0), counted-view (c .before .before .before .before .args .t1) (c .before .before .before .loop .i) ∙ sym (leave-stop (c .before .before .before .before .args .t1) (c .before .before .before .before .args .depth) (c .before .before .before .loop .i) (c .before .before .loop-test .taken) (c .if1 .taken)) ∙ c .before .before .before .loop .inv .1 ∙ leave-pop (c .before .before .before .before .args .depth) (view (c .before .before .before .before .args .t1)) (c .before .before .before .before .pre .nested))
 
 pub leave-block-spec : {M : Type 1} → statement M
 leave-block-spec =
