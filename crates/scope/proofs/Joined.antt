@@ -68,8 +68,8 @@ module _ (s t : State) (m : Made (s .kind) (s .places)) (n : Made (t .kind) (t .
   join-then-alive k z e =
       joins-ok (record { kind = k; places = t .places }) (joinState (stateOf s) (stateOf t))
       (ap (λ (x : ℕ). said x (listed (t .places))) e
-        ∙ sym (join-then (t .kind) (listed (t .places)) (n .known))
-        ∙ ap (λ (b : Bool). joinState (cond b alive (gone (ltb 3 (s .kind)) (kindOf (s .kind)) (listed (s .places)))) (stateOf t)) (sym (eq-eqb (s .kind) 0 z)))
+      ∙ sym (join-then (t .kind) (listed (t .places)) (n .known))
+      ∙ ap (λ (b : Bool). joinState (cond b alive (gone (ltb 3 (s .kind)) (kindOf (s .kind)) (listed (s .places)))) (stateOf t)) (sym (eq-eqb (s .kind) 0 z)))
       (rw e (record { known = conditional-known (t .kind) (n .known); roomy = n .roomy; given = conditional-given (t .kind) (n .known) ∙ n .given }))
 
   pub join-else-alive : (k : ℕ) → t .kind ≡ 0 → k ≡ conditional (s .kind)
@@ -77,8 +77,8 @@ module _ (s t : State) (m : Made (s .kind) (s .places)) (n : Made (t .kind) (t .
   join-else-alive k z e =
       joins-ok (record { kind = k; places = s .places }) (joinState (stateOf s) (stateOf t))
       (ap (λ (x : ℕ). said x (listed (s .places))) e
-        ∙ sym (join-else (s .kind) (listed (s .places)) (m .known) ∙ join-then (s .kind) (listed (s .places)) (m .known))
-        ∙ ap (λ (b : Bool). joinState (stateOf s) (cond b alive (gone (ltb 3 (t .kind)) (kindOf (t .kind)) (listed (t .places))))) (sym (eq-eqb (t .kind) 0 z)))
+      ∙ sym (join-else (s .kind) (listed (s .places)) (m .known) ∙ join-then (s .kind) (listed (s .places)) (m .known))
+      ∙ ap (λ (b : Bool). joinState (stateOf s) (cond b alive (gone (ltb 3 (t .kind)) (kindOf (t .kind)) (listed (t .places))))) (sym (eq-eqb (t .kind) 0 z)))
       (rw e (record { known = conditional-known (s .kind) (m .known); roomy = m .roomy; given = conditional-given (s .kind) (m .known) ∙ m .given }))
 
   module _ (a : s .kind ≡ 0 → ⊥) (b : t .kind ≡ 0 → ⊥) where
@@ -108,9 +108,9 @@ module _ (s t : State) (m : Made (s .kind) (s .places)) (n : Made (t .kind) (t .
         (joinState (stateOf s) (stateOf t))
         (sym (both-given false e))
         (rw ek
-          (joins-fits r (combine (listed (s .places)) (listed (t .places))) (family (s .kind) (t .kind)) f
-          (family-given (s .kind) (t .kind) (pos _ a) (m .known) (pos _ b) (n .known))
-          (family-known (s .kind) (t .kind) (pos _ a) (m .known) (pos _ b) (n .known)) places-some))
+        (joins-fits r (combine (listed (s .places)) (listed (t .places))) (family (s .kind) (t .kind)) f
+        (family-given (s .kind) (t .kind) (pos _ a) (m .known) (pos _ b) (n .known))
+        (family-known (s .kind) (t .kind) (pos _ a) (m .known) (pos _ b) (n .known)) places-some))
 
 abbrev staticOf′ : Local Status → Static
 staticOf′ (local s a) = s
@@ -144,11 +144,11 @@ module _ (s t : Stack) where
       → ltb 8 (length (placesOf (joinAt i))) ≡ false → Joining (i + 1) (stored out i k p)
   joining-more i out k p g l h is e = record {
     first =
-      seen-more i (stored out i k p)
-      ∙ ap (λ (x : Local Status). x ∷ seen i (stored out i k p)) (stored-at out i k p g l ∙ ap (λ (a : Status). local (staticAt out i) a) is)
-      ∙ ap (λ (x : Static). local x (joinAt i) ∷ seen i (stored out i k p)) (ap staticOf′ (h .rest i (omega arith)))
-      ∙ ap (λ (σ : Scope Status). local (staticAt s i) (joinAt i) ∷ σ) (seen-stored out i k p ∙ h .first)
-      ∙ sym (joined-more i);
+        seen-more i (stored out i k p)
+        ∙ ap (λ (x : Local Status). x ∷ seen i (stored out i k p)) (stored-at out i k p g l ∙ ap (λ (a : Status). local (staticAt out i) a) is)
+        ∙ ap (λ (x : Static). local x (joinAt i) ∷ seen i (stored out i k p)) (ap staticOf′ (h .rest i (omega arith)))
+        ∙ ap (λ (σ : Scope Status). local (staticAt s i) (joinAt i) ∷ σ) (seen-stored out i k p ∙ h .first)
+        ∙ sym (joined-more i);
     rest = λ j le. let ne : j ≢ i = λ q. omega arith in stored-other out i k p j ne ∙ h .rest j (omega arith);
     calm = calm-more i (h .calm) e;
   }

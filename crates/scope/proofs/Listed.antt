@@ -87,7 +87,7 @@ pub combine-crowd : (ps a : List ℕ) (i n : ℕ) → i < n → n ≤ length a
 combine-crowd ps a i n h le e =
     rw (combine-next ps a i n h le)
     (lt-of-lt-of-le (ltb-true 8 (length (cond (member eqb ps (getD a i 0)) ps (ps ++ (getD a i 0 ∷ [])))) e)
-      (combine-grows (cond (member eqb ps (getD a i 0)) ps (ps ++ (getD a i 0 ∷ []))) (drop (i + 1) (take n a))))
+    (combine-grows (cond (member eqb ps (getD a i 0)) ps (ps ++ (getD a i 0 ∷ []))) (drop (i + 1) (take n a))))
 
 -- a place stored after the first n
 pub take-add : (n : ℕ) (a : List ℕ) (p : ℕ) → n < length a → take (n + 1) (set a n p) ≡ take n a ++ (p ∷ [])

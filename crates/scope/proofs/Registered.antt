@@ -39,7 +39,7 @@ module _ (s : Stack) (name ty depth : ℕ) where
       ok = let l : length (register states name ty depth (view s)) ≤ 64 = rw registered-length (omega arith) in rw (le-ltb 64 _ l);
       is = λ e. (
         pushed-view t (s .count) name ty depth 0 p g h
-        ∙ ap (λ (σ : Scope Status). local (record { name = name; ty = ty; depth = depth }) alive ∷ σ) (ap (λ (k : ℕ). seen k t) (sym same) ∙ is),
+            ∙ ap (λ (σ : Scope Status). local (record { name = name; ty = ty; depth = depth }) alive ∷ σ) (ap (λ (k : ℕ). seen k t) (sym same) ∙ is),
         pushed-sound t (s .count) name ty depth 0 p g h same m,
       );
     }

@@ -81,8 +81,8 @@ module _ (s : Stack) (i : ℕ) (T : Tables) (q : Static → Bool) (p : ℕ) wher
   pub drop-hit : 0 < i → getD (s .kinds) (i - 1) 0 ≡ 0
       → collect states T q p (seen i s)
       ≡ cond (q (staticAt s (i - 1)) && auto T (staticAt s (i - 1) .ty))
-          (dropOf p (staticAt s (i - 1) .name) (staticAt s (i - 1) .ty) ∷ collect states T q p (seen (i - 1) s))
-          (collect states T q p (seen (i - 1) s))
+      (dropOf p (staticAt s (i - 1) .name) (staticAt s (i - 1) .ty) ∷ collect states T q p (seen (i - 1) s))
+      (collect states T q p (seen (i - 1) s))
   drop-hit h e = rw (seen-pos i s h, eq-eqb _ _ e, and-id (q (staticAt s (i - 1))))
 
   pub drop-miss : 0 < i → (getD (s .kinds) (i - 1) 0 ≡ 0 → ⊥) → collect states T q p (seen i s) ≡ collect states T q p (seen (i - 1) s)
@@ -124,6 +124,7 @@ stored-sound s i k p h l m = record {
         let a : getD (set (s .kinds) i k) i 0 ≡ k = getD-set-same (s .kinds) i k 0 (omega (arith, h .kindRoom)) in
         let b : getD (set (s .places) i p) i nowhere ≡ p = getD-set-same (s .places) i p nowhere (omega (arith, h .placeRoom)) in
         rw (e, a, b) m
+
     other : (j : ℕ) → j < s .count → j ≢ i → Made (getD (set (s .kinds) i k) j 0) (getD (set (s .places) i p) j nowhere)
     other j lj ne =
         let a : getD (set (s .kinds) i k) j 0 ≡ getD (s .kinds) j 0 = getD-set-other (s .kinds) i j k 0 ne in
@@ -181,10 +182,10 @@ module _ (n d : ℕ) (o : Bool) (new : Status) (i : ℕ) (s old : Stack) (h : Do
   pub done-put : (k : ℕ) (p : Places) → Sound s → i < 64 → said k (listed p) ≡ new → hits ≡ true → Done n d (put o new) (i + 1) (stored s i k p) old
   done-put k p g l is on = record {
     first =
-      seen-more i (stored s i k p)
-      ∙ ap (λ (x : Local Status). x ∷ seen i (stored s i k p)) (stored-at s i k p g l ∙ ap (λ (a : Status). local (staticAt s i) a) is)
-      ∙ ap (λ (σ : Scope Status). local (staticAt s i) new ∷ σ) (seen-stored s i k p)
-      ∙ sym (at-test true on);
+        seen-more i (stored s i k p)
+        ∙ ap (λ (x : Local Status). x ∷ seen i (stored s i k p)) (stored-at s i k p g l ∙ ap (λ (a : Status). local (staticAt s i) a) is)
+        ∙ ap (λ (σ : Scope Status). local (staticAt s i) new ∷ σ) (seen-stored s i k p)
+        ∙ sym (at-test true on);
     rest = λ j le. let ne : j ≢ i = λ e. omega arith in stored-other s i k p j ne ∙ h .rest j (omega arith);
   }
 
@@ -239,11 +240,13 @@ module _ (s : Stack) (n name ty depth k : ℕ) (p : Places) (h : Sound s) (l : n
     where
       less : (a b c : ℕ) → c ≡ b → a < b + 1 → (a ≡ b → ⊥) → a < c
       less a b c e l ne = omega arith
+
       top : j ≡ n → Made (getD (set (s .kinds) n k) j 0) (getD (set (s .places) n p) j nowhere)
       top e =
           let a : getD (set (s .kinds) n k) n 0 ≡ k = getD-set-same (s .kinds) n k 0 (omega (arith, h .kindRoom)) in
           let b : getD (set (s .places) n p) n nowhere ≡ p = getD-set-same (s .places) n p nowhere (omega (arith, h .placeRoom)) in
           rw (e, a, b) m
+
       older : j ≢ n → Made (getD (set (s .kinds) n k) j 0) (getD (set (s .places) n p) j nowhere)
       older ne =
           let a : getD (set (s .kinds) n k) j 0 ≡ getD (s .kinds) j 0 = getD-set-other (s .kinds) n j k 0 ne in

@@ -312,11 +312,11 @@ pub fn next_alive(kinds: &[u8; 64], below: usize) -> Found
 {
     let mut i = below;
     while 0 < i {
-        let j = i - 1;
-        if kinds[j] == 0 {
-            return Found::At(j);
+        let k = i - 1;
+        if kinds[k] == 0 {
+            return Found::At(k);
         }
-        i = j;
+        i = k;
     }
     Found::Nothing
 }
@@ -360,13 +360,20 @@ impl Stack {
         let k = state.kind;
         let ps = state.places;
         let n = self.count;
-        let mut i = 0;
-        while i < n {
-            if is_marked(self.names[i], name, self.depths[i], depth, only_alive, self.kinds[i]) {
-                self.kinds[i] = k;
-                self.places[i] = ps;
+        let mut at = 0;
+        while at < n {
+            if is_marked(
+                self.names[at],
+                name,
+                self.depths[at],
+                depth,
+                only_alive,
+                self.kinds[at],
+            ) {
+                self.kinds[at] = k;
+                self.places[at] = ps;
             }
-            i += 1;
+            at += 1;
         }
         self
     }

@@ -25,8 +25,8 @@ loop-holds : tie.Need-loop-holds Inv-loop μ-loop
 loop-holds c = (search needs, λ s e T q p. refl)
 
 -- src/lib.rt:315:17
-sub-j : tie.Need-sub-j Inv-loop μ-loop
-sub-j c = search needs
+sub-k : tie.Need-sub-k Inv-loop μ-loop
+sub-k c = search needs
 
 -- src/lib.rt:316:12
 element-copy-out-if1 : tie.Need-element-copy-out-if1 Inv-loop μ-loop
@@ -55,7 +55,7 @@ next-alive-spec =
     Inv-loop
     μ-loop
     loop-holds
-    sub-j
+    sub-k
     element-copy-out-if1
     returns
     loop-less

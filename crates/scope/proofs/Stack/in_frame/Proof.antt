@@ -15,10 +15,10 @@ use Rattle.scope.proofs.Stack.in_frame.Lts as lts
 use Rattle.scope.proofs.is_marked.Reads as is-marked-reads
 
 abbrev Inv-loop : tie.InvT-loop
-Inv-loop name depth only-alive self₀ k ps n i₀ self i = (i ≤ n) × Marking name depth only-alive (said k (listed ps)) i self self₀
+Inv-loop name depth only-alive self₀ k ps n at₀ self at = (at ≤ n) × Marking name depth only-alive (said k (listed ps)) at self self₀
 
 abbrev μ-loop : tie.MeasureT-loop
-μ-loop name depth only-alive self₀ k ps n i₀ self i = n - i
+μ-loop name depth only-alive self₀ k ps n at₀ self at = n - at
 
 -- src/lib.rt:364:9
 loop-holds : tie.Need-loop-holds Inv-loop μ-loop
@@ -57,8 +57,8 @@ element-set-from-ps : tie.Need-element-set-from-ps Inv-loop μ-loop
 element-set-from-ps c = search needs
 
 -- src/lib.rt:369:13
-add-i : tie.Need-add-i Inv-loop μ-loop
-add-i c = search needs
+add-at : tie.Need-add-at Inv-loop μ-loop
+add-at c = search needs
 
 -- src/lib.rt:364:9
 loop-less : tie.Need-loop-less Inv-loop μ-loop
@@ -67,22 +67,22 @@ loop-less c = search needs
 -- src/lib.rt:364:9
 loop-again : tie.Need-loop-again Inv-loop μ-loop
 loop-again c = (
-      search needs,
-      ⊎-elim
+  search needs,
+  ⊎-elim
       (λ x. marking-put _ _ _ _ _ _ _ (c .before .before .before .before .before .before .loop .inv .1) _ _ _ (search needs) refl (c .before .before .before .before .before .before .before .before .pre .1) (sym (c .before .is-marked .ensures) ∙ x .0 .taken) (x .1))
       (λ x. marking-skip _ _ _ _ _ _ _ (c .before .before .before .before .before .before .loop .inv .1) _ (sym (c .before .is-marked .ensures) ∙ x .0 .left) (x .1))
       (c .if1 .came),
-    )
+)
 
 -- src/lib.rt:356:5
 returns : tie.Need-returns Inv-loop μ-loop
 returns c = let inv = c .before .loop .inv .1 in
-    let end : c .before .loop .i ≡ c .before .before .before .args .t1 .count = omega (arith, c .before .loop .inv .0, c .loop-test .left) in (
+    let end : c .before .loop .at ≡ c .before .before .before .args .t1 .count = omega (arith, c .before .loop .inv .0, c .loop-test .left) in (
       inv .sound,
       inv .same,
       ap (λ (k : ℕ). seen k (c .before .loop .self)) (inv .same ∙ sym end)
-      ∙ inv .done .first
-      ∙ ap (λ (k : ℕ). inFrame (c .before .before .before .args .name) (c .before .before .before .args .depth) (put (c .before .before .before .args .only-alive) (stateOf (c .before .before .before .args .state))) (seen k (c .before .before .before .args .t1))) end,
+          ∙ inv .done .first
+          ∙ ap (λ (k : ℕ). inFrame (c .before .before .before .args .name) (c .before .before .before .args .depth) (put (c .before .before .before .args .only-alive) (stateOf (c .before .before .before .args .state))) (seen k (c .before .before .before .args .t1))) end,
     )
 
 pub in-frame-spec : {M : Type 1} → statement M
@@ -100,7 +100,7 @@ in-frame-spec =
     element-write-self
     mul-ps
     element-set-from-ps
-    add-i
+    add-at
     loop-less
     loop-again
     returns)

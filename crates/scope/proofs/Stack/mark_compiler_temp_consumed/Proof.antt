@@ -27,11 +27,11 @@ mark-requires c κs = (c .before .pre, c .at .ensures .1)
 -- src/lib.rt:413:5
 returns : tie.Need-returns
 returns c = (
-        c .mark .ensures .0,
-        c .mark .ensures .1
-        ∙ ap (λ (s : State). mark (c .before .before .args .name) (put true s) (view (c .before .before .args .self))) (c .before .at .ensures .0)
-        ∙ mark-same (c .before .before .args .name) (put true (gone false moved (c .before .before .args .place ∷ []))) (handState (c .before .before .args .place)) (hand-put (c .before .before .args .place)) (view (c .before .before .args .self)),
-      )
+  c .mark .ensures .0,
+  c .mark .ensures .1
+      ∙ ap (λ (s : State). mark (c .before .before .args .name) (put true s) (view (c .before .before .args .self))) (c .before .at .ensures .0)
+      ∙ mark-same (c .before .before .args .name) (put true (gone false moved (c .before .before .args .place ∷ []))) (handState (c .before .before .args .place)) (hand-put (c .before .before .args .place)) (view (c .before .before .args .self)),
+)
 
 pub mark-compiler-temp-consumed-spec : {M : Type 1} → statement M
 mark-compiler-temp-consumed-spec = tie.close (tie.spec at-requires mark-requires returns)

@@ -17,16 +17,16 @@ one-requires c κs = search needs
 -- src/lib.rt:215:5
 returns : tie.Need-returns
 returns c = (
-        ap (said (c .before .args .kind)) (c .one .ensures .0),
-        record {
-          known = c .before .pre .1;
-          roomy = c .one .ensures .1;
-          given =
-            let a : c .before .args .kind ≡ 0 → ⊥ = λ e. omega (arith, c .before .pre .0) in
-            let b : c .one .result .count ≡ 0 → ⊥ = λ e. omega (arith, c .one .ensures .2) in
-            ne-eqb _ 0 a ∙ sym (ne-eqb _ 0 b);
-        },
-      )
+  ap (said (c .before .args .kind)) (c .one .ensures .0),
+  record {
+    known = c .before .pre .1;
+    roomy = c .one .ensures .1;
+    given =
+        let a : c .before .args .kind ≡ 0 → ⊥ = λ e. omega (arith, c .before .pre .0) in
+        let b : c .one .result .count ≡ 0 → ⊥ = λ e. omega (arith, c .one .ensures .2) in
+        ne-eqb _ 0 a ∙ sym (ne-eqb _ 0 b);
+  },
+)
 
 pub at-spec : {M : Type 1} → statement M
 at-spec = tie.close (tie.spec one-requires returns)

@@ -38,7 +38,7 @@ returns-3 c = join-same (c .before .before .before .before .before .before .args
 
 -- src/lib.rt:266:13
 combine-requires : tie.Need-combine-requires
-combine-requires c κs = (c .before .before .before .before .before .before .pre .0 .roomy, c .before .before .before .before .before .before .pre .1 .roomy)
+combine-requires c κs = search needs
 
 -- src/lib.rt:269:19
 family-requires : tie.Need-family-requires
