@@ -1,0 +1,502 @@
+// The scope stack of the ownership pass, by value: mod.rs's frames of locals and states. Every operation equals its rule, through `view`.
+ghost use mathlib.Core.Path.{_≡_};
+ghost use mathlib.Core.Bool.{cond, not, _&&_};
+ghost use mathlib.Core.List.{[], _∷_, _++_};
+ghost use Prim.Native.Nat.{ℕ, _≤_, _<_};
+ghost use lib.Dec.{eqb};
+ghost use Rattle.fields.specs.Table.{member};
+ghost use Rattle.rules.specs.State.{deleted, moved, consumed, alive, handState, placesEq, combine as combined, joinState};
+ghost use Rattle.rules.specs.Stack.{inFrame, mark as marked, pop};
+ghost use Rattle.rules.specs.Rules.{states, register, joins};
+ghost use Rattle.scope.specs.Kinds.{said, baseOf, conditional as conditionalOf, family as familyOf, put};
+ghost use Rattle.scope.specs.View.{listed, stateOf, view, Roomy, Made, Sound, Framed, Branches, depthOf, Finds, Lives, Fits, Joins, JoinsAll, Registers};
+use lookup::Found;
+
+// Where a name was given up: the first count of the list.
+pub struct Places {
+    pub count: u8,
+    pub list: [u32; 8],
+}
+
+// The state of a name: 0 Alive, else the kind of error that a use of it reports.
+pub struct State {
+    pub kind: u8,
+    pub places: Places,
+}
+
+// The locals registered, oldest first: the first count of each array.
+pub struct Stack {
+    pub count: usize,
+    pub names: [u16; 64],
+    pub types: [u16; 64],
+    pub depths: [u8; 64],
+    pub kinds: [u8; 64],
+    pub places: [Places; 64],
+}
+
+// What comes next, or ok false: a 9th place, or a 65th local.
+pub struct NextPlaces {
+    pub ok: bool,
+    pub places: Places,
+}
+
+pub struct NextState {
+    pub ok: bool,
+    pub state: State,
+}
+
+pub struct Next {
+    pub ok: bool,
+    pub stack: Stack,
+}
+
+fn wide(x: u8) -> usize
+    ensures { λ r. ⌜ r ≡ x ⌝ }
+{
+    x as usize
+}
+
+impl Places {
+    fn none() -> Places
+        ensures { λ r. ⌜ (listed r ≡ []) × Roomy r × (r .count ≡ 0) ⌝ }
+    {
+        Places {
+            count: 0,
+            list: [0; 8],
+        }
+    }
+
+    fn one(place: u32) -> Places
+        ensures { λ r. ⌜ (listed r ≡ place ∷ []) × Roomy r × (r .count ≡ 1) ⌝ }
+    {
+        let mut list = [0; 8];
+        list[0] = place;
+        Places {
+            count: 1,
+            list: list,
+        }
+    }
+
+    fn has(self, place: u32) -> bool
+        requires { ⌜ Roomy self ⌝ }
+        ensures { λ r. ⌜ r ≡ member eqb (listed self) place ⌝ }
+    {
+        let n = wide(self.count);
+        let mut i = 0;
+        while i < n {
+            if self.list[i] == place {
+                return true;
+            }
+            i += 1;
+        }
+        false
+    }
+
+    // One place more, unless it is there.
+    fn add(self, place: u32) -> NextPlaces
+        requires { ⌜ Roomy self ⌝ }
+        ensures { λ r. ⌜ Fits r (cond (member eqb (listed self) place) (listed self) (listed self ++ (place ∷ []))) ⌝ }
+    {
+        if self.has(place) {
+            return NextPlaces {
+                ok: true,
+                places: self,
+            };
+        }
+        let n = self.count;
+        if 8 <= n {
+            return NextPlaces {
+                ok: false,
+                places: self,
+            };
+        }
+        let mut out = self;
+        let at = wide(n);
+        out.list[at] = place;
+        out.count = n + 1;
+        NextPlaces {
+            ok: true,
+            places: out,
+        }
+    }
+
+    // combine_spans: these places, then the other's new ones.
+    fn combine(self, other: Places) -> NextPlaces
+        requires { ⌜ Roomy self × Roomy other ⌝ }
+        ensures { λ r. ⌜ Fits r (combined (listed self) (listed other)) ⌝ }
+    {
+        let n = wide(other.count);
+        let mut out = self;
+        let mut i = 0;
+        while i < n {
+            let p = other.list[i];
+            let r = out.add(p);
+            if !r.ok {
+                return NextPlaces {
+                    ok: false,
+                    places: self,
+                };
+            }
+            out = r.places;
+            i += 1;
+        }
+        NextPlaces {
+            ok: true,
+            places: out,
+        }
+    }
+
+    // Whether both are the same places in the same order.
+    fn same(self, other: Places) -> bool
+        requires { ⌜ Roomy self × Roomy other ⌝ }
+        ensures { λ r. ⌜ r ≡ placesEq (listed self) (listed other) ⌝ }
+    {
+        let n = wide(self.count);
+        if n != wide(other.count) {
+            return false;
+        }
+        let mut i = 0;
+        while i < n {
+            if self.list[i] != other.list[i] {
+                return false;
+            }
+            i += 1;
+        }
+        true
+    }
+}
+
+// The number of the same kind, surely.
+fn base(kind: u8) -> u8
+    ensures { λ r. ⌜ r ≡ baseOf kind ⌝ }
+{
+    if 3 < kind {
+        return kind - 3;
+    }
+    kind
+}
+
+// conditionalize_state
+fn conditional(kind: u8) -> u8
+    requires { ⌜ kind < 7 ⌝ }
+    ensures { λ r. ⌜ r ≡ conditionalOf kind ⌝ }
+{
+    if kind == 0 {
+        return 0;
+    }
+    if 3 < kind {
+        return kind;
+    }
+    kind + 3
+}
+
+// Of two states of one family that family's number, else that of Consumed.
+fn family(a: u8, b: u8) -> u8
+    ensures { λ r. ⌜ r ≡ familyOf a b ⌝ }
+{
+    let x = base(a);
+    if x == base(b) {
+        return x;
+    }
+    3
+}
+
+impl State {
+    fn alive() -> State
+        ensures { λ r. ⌜ (stateOf r ≡ alive) × Made (r .kind) (r .places) ⌝ }
+    {
+        State {
+            kind: 0,
+            places: Places::none(),
+        }
+    }
+
+    // Given up at one place.
+    fn at(kind: u8, place: u32) -> State
+        requires { ⌜ (0 < kind) × (kind < 7) ⌝ }
+        ensures { λ r. ⌜ (stateOf r ≡ said kind (place ∷ [])) × Made (r .kind) (r .places) ⌝ }
+    {
+        State {
+            kind: kind,
+            places: Places::one(place),
+        }
+    }
+
+    fn same(self, other: State) -> bool
+        requires { ⌜ Made (self .kind) (self .places) × Made (other .kind) (other .places) ⌝ }
+        ensures { λ r. ⌜ r ≡ (eqb (self .kind) (other .kind) && placesEq (listed (self .places)) (listed (other .places))) ⌝ }
+    {
+        if self.kind != other.kind {
+            return false;
+        }
+        let p = self.places;
+        let q = other.places;
+        p.same(q)
+    }
+
+    // merge_join_state: the state after two branches, this one then's.
+    pub fn join(self, other: State) -> NextState
+        requires { ⌜ Made (self .kind) (self .places) × Made (other .kind) (other .places) ⌝ }
+        ensures { λ r. ⌜ Joins r (joinState (stateOf self) (stateOf other)) ⌝ }
+    {
+        let a = self.kind;
+        let b = other.kind;
+        let p = self.places;
+        let q = other.places;
+        if a == 0 {
+            let s = State {
+                kind: conditional(b),
+                places: q,
+            };
+            return NextState { ok: true, state: s };
+        }
+        if b == 0 {
+            let s = State {
+                kind: conditional(a),
+                places: p,
+            };
+            return NextState { ok: true, state: s };
+        }
+        if self.same(other) {
+            return NextState {
+                ok: true,
+                state: self,
+            };
+        }
+        let r = p.combine(q);
+        let ps = r.places;
+        let s = State {
+            kind: family(a, b),
+            places: ps,
+        };
+        NextState { ok: r.ok, state: s }
+    }
+}
+
+// find_local: the number of the newest local of a name. The names are lent, so that no stack is copied.
+pub fn find_local(names: &[u16; 64], count: usize, name: u16) -> Found
+    requires { ⌜ count ≤ 64 ⌝ }
+    ensures { λ r. ⌜ ((s : Stack) → s .names ≡ now (names .entry) → s .count ≡ count → Finds name s r) ⌝ }
+{
+    let mut i = count;
+    while 0 < i {
+        let j = i - 1;
+        if names[j] == name {
+            return Found::At(j);
+        }
+        i = j;
+    }
+    Found::Nothing
+}
+
+// The depth of the newest local of a name, or 0.
+fn frame_of<'a>(names: &'a [u16; 64], depths: &'a [u8; 64], count: usize, name: u16) -> u8
+    requires { ⌜ count ≤ 64 ⌝ }
+    ensures { λ r. ⌜ ((s : Stack) → s .names ≡ now (names .entry) → s .depths ≡ now (depths .entry) → s .count ≡ count → r ≡ depthOf name (view s)) ⌝ }
+{
+    let mut i = count;
+    while 0 < i {
+        let j = i - 1;
+        if names[j] == name {
+            return depths[j];
+        }
+        i = j;
+    }
+    0
+}
+
+// The number of the newest living local below a number: what a drop list asks, from the newest down.
+pub fn next_alive(kinds: &[u8; 64], below: usize) -> Found
+    requires { ⌜ below ≤ 64 ⌝ }
+    ensures { λ r. ⌜ ((s : Stack) → s .kinds ≡ now (kinds .entry) → Lives s below r) ⌝ }
+{
+    let mut i = below;
+    while 0 < i {
+        let k = i - 1;
+        if kinds[k] == 0 {
+            return Found::At(k);
+        }
+        i = k;
+    }
+    Found::Nothing
+}
+
+// Whether a local of the name a, depth d and this kind is marked where the frame of that depth marks a name.
+fn is_marked(a: u16, name: u16, d: u8, depth: u8, only_alive: bool, kind: u8) -> bool
+    ensures { λ r. ⌜ r ≡ ((eqb a name && eqb d depth) && not («only_alive» && not (eqb kind 0))) ⌝ }
+{
+    if a != name {
+        return false;
+    }
+    if d != depth {
+        return false;
+    }
+    if only_alive {
+        return kind == 0;
+    }
+    true
+}
+
+impl Stack {
+    pub fn new() -> Stack
+        ensures { λ r. ⌜ Sound r × (view r ≡ []) ⌝ }
+    {
+        let p = Places::none();
+        Stack {
+            count: 0,
+            names: [0; 64],
+            types: [0; 64],
+            depths: [0; 64],
+            kinds: [0; 64],
+            places: [p; 64],
+        }
+    }
+
+    // A frame gives its locals of a name a state; where `only_alive`, those that live.
+    fn in_frame(mut self, name: u16, depth: u8, state: State, only_alive: bool) -> Stack
+        requires { ⌜ Sound self × Made (state .kind) (state .places) ⌝ }
+        ensures { λ r. ⌜ Sound r × (r .count ≡ self .count) × (view r ≡ inFrame name depth (put «only_alive» (stateOf state)) (view self)) ⌝ }
+    {
+        let k = state.kind;
+        let ps = state.places;
+        let n = self.count;
+        let mut at = 0;
+        while at < n {
+            if is_marked(
+                self.names[at],
+                name,
+                self.depths[at],
+                depth,
+                only_alive,
+                self.kinds[at],
+            ) {
+                self.kinds[at] = k;
+                self.places[at] = ps;
+            }
+            at += 1;
+        }
+        self
+    }
+
+    // The innermost frame that has the name marks it.
+    fn mark(self, name: u16, state: State, only_alive: bool) -> Stack
+        requires { ⌜ Sound self × Made (state .kind) (state .places) ⌝ }
+        ensures { λ r. ⌜ Sound r × (view r ≡ marked name (put «only_alive» (stateOf state)) (view self)) ⌝ }
+    {
+        let count = self.count;
+        let depth = frame_of(&self.names, &self.depths, count, name);
+        self.in_frame(name, depth, state, only_alive)
+    }
+
+    pub fn mark_deleted(self, name: u16, place: u32) -> Stack
+        requires { ⌜ Sound self ⌝ }
+        ensures { λ r. ⌜ Sound r × (view r ≡ marked name (states .killed deleted place) (view self)) ⌝ }
+    {
+        self.mark(name, State::at(1, place), false)
+    }
+
+    pub fn mark_moved(self, name: u16, place: u32) -> Stack
+        requires { ⌜ Sound self ⌝ }
+        ensures { λ r. ⌜ Sound r × (view r ≡ marked name (states .killed moved place) (view self)) ⌝ }
+    {
+        self.mark(name, State::at(2, place), false)
+    }
+
+    pub fn mark_consumed(self, name: u16, place: u32) -> Stack
+        requires { ⌜ Sound self ⌝ }
+        ensures { λ r. ⌜ Sound r × (view r ≡ marked name (states .killed consumed place) (view self)) ⌝ }
+    {
+        self.mark(name, State::at(3, place), false)
+    }
+
+    pub fn mark_assigned_alive(self, name: u16) -> Stack
+        requires { ⌜ Sound self ⌝ }
+        ensures { λ r. ⌜ Sound r × (view r ≡ marked name (λ a. alive) (view self)) ⌝ }
+    {
+        self.mark(name, State::alive(), false)
+    }
+
+    // Moves what is Alive only.
+    pub fn mark_compiler_temp_consumed(self, name: u16, place: u32) -> Stack
+        requires { ⌜ Sound self ⌝ }
+        ensures { λ r. ⌜ Sound r × (view r ≡ marked name (handState place) (view self)) ⌝ }
+    {
+        self.mark(name, State::at(2, place), true)
+    }
+
+    pub fn register_local(self, name: u16, ty: u16, depth: u8) -> Next
+        requires { ⌜ Sound self ⌝ }
+        ensures { λ r. ⌜ Registers r (register states name ty depth (view self)) ⌝ }
+    {
+        let n = self.count;
+        if 64 <= n {
+            return Next {
+                ok: false,
+                stack: self,
+            };
+        }
+        let mut out = self.in_frame(name, depth, State::alive(), false);
+        let p = Places::none();
+        out.names[n] = name;
+        out.types[n] = ty;
+        out.depths[n] = depth;
+        out.kinds[n] = 0;
+        out.places[n] = p;
+        out.count = n + 1;
+        Next {
+            ok: true,
+            stack: out,
+        }
+    }
+
+    // The end of a block: its frame, the newest locals, goes.
+    pub fn leave_block(mut self, depth: u8) -> Stack
+        requires { ⌜ Framed depth self ⌝ }
+        ensures { λ r. ⌜ Sound r × (view r ≡ pop depth (view self)) ⌝ }
+    {
+        let mut i = self.count;
+        while 0 < i {
+            let j = i - 1;
+            if self.depths[j] != depth {
+                break;
+            }
+            i = j;
+        }
+        self.count = i;
+        self
+    }
+
+    // The stack after two branches, this one then's.
+    pub fn join(self, other: Stack) -> Next
+        requires { ⌜ Branches self other ⌝ }
+        ensures { λ r. ⌜ JoinsAll r (joins states (view self) (view other)) ⌝ }
+    {
+        let n = self.count;
+        let mut out = self;
+        let mut i = 0;
+        while i < n {
+            let x = self.kinds[i];
+            let p = self.places[i];
+            let y = other.kinds[i];
+            let q = other.places[i];
+            let a = State { kind: x, places: p };
+            let b = State { kind: y, places: q };
+            let r = a.join(b);
+            if !r.ok {
+                return Next {
+                    ok: false,
+                    stack: self,
+                };
+            }
+            let s = r.state;
+            let ps = s.places;
+            out.kinds[i] = s.kind;
+            out.places[i] = ps;
+            i += 1;
+        }
+        Next {
+            ok: true,
+            stack: out,
+        }
+    }
+}
