@@ -1,0 +1,3 @@
+-- What the proofs of several functions use, and the laws that a caller needs.
+pub mod Resolved
+mod Laws

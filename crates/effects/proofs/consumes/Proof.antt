@@ -1,0 +1,30 @@
+use borrow.Author.Needs.{needs}
+use Rattle.effects.proofs.consumes.Statement.{statement}
+use Rattle.effects.proofs.consumes.Tie as tie
+use Rattle.effects.proofs.consumes.Reads as reads
+use Rattle.effects.proofs.consumes.Lts as lts
+use Rattle.lookup.proofs.method_modifier.Reads as method-modifier-reads
+
+-- src/lib.rt:131:11
+method-modifier-requires : tie.Need-method-modifier-requires
+method-modifier-requires c κs = search needs
+
+-- src/lib.rt:132:27
+enum-known-k : tie.Need-enum-known-k
+enum-known-k c = search needs
+
+-- src/lib.rt:133:35
+enum-told : tie.Need-enum-told
+enum-told c = search needs
+
+-- src/lib.rt:126:1
+returns : tie.Need-returns
+returns c = ?
+
+-- src/lib.rt:126:1
+returns-2 : tie.Need-returns-2
+returns-2 c = ?
+
+pub consumes-spec : {M : Type 1} → statement M
+consumes-spec =
+    tie.close (tie.spec method-modifier-requires enum-known-k enum-told returns returns-2)

@@ -1,0 +1,27 @@
+use borrow.Author.Needs.{needs}
+use Rattle.effects.proofs.is_temp.Statement.{statement}
+use Rattle.effects.proofs.is_temp.Tie as tie
+use Rattle.effects.proofs.is_temp.Reads as reads
+use Rattle.effects.proofs.is_temp.Lts as lts
+use Rattle.effects.proofs.wide16.Reads as wide16-reads
+use Rattle.lookup.proofs.is_compiler_temp_name.Reads as is-compiler-temp-name-reads
+
+-- src/lib.rt:106:9
+wide16-requires : tie.Need-wide16-requires
+wide16-requires c κs = search needs
+
+-- src/lib.rt:108:9
+is-compiler-temp-name-requires : tie.Need-is-compiler-temp-name-requires
+is-compiler-temp-name-requires c κs = search needs
+
+-- src/lib.rt:108:9
+returns : tie.Need-returns
+returns c = ?
+
+-- src/lib.rt:102:1
+returns-2 : tie.Need-returns-2
+returns-2 c = ?
+
+pub is-temp-spec : {M : Type 1} → statement M
+is-temp-spec =
+    tie.close (tie.spec wide16-requires is-compiler-temp-name-requires returns returns-2)

@@ -1,0 +1,64 @@
+use borrow.Author.Needs.{needs}
+use Rattle.effects.proofs.moves.Statement.{statement}
+use Rattle.effects.proofs.moves.Tie as tie
+use Rattle.effects.proofs.moves.Reads as reads
+use Rattle.effects.proofs.moves.Lts as lts
+use Rattle.effects.proofs.is_move.Reads as is-move-reads
+use Rattle.effects.proofs.name_at.Reads as name-at-reads
+use Rattle.effects.proofs.validate_move_argument.Reads as validate-move-argument-reads
+use Rattle.fields.proofs.peek_two.Reads as peek-two-reads
+
+-- src/lib.rt:242:37
+add-name-at : tie.Need-add-name-at
+add-name-at c = search needs
+
+-- src/lib.rt:242:26
+name-at-requires : tie.Need-name-at-requires
+name-at-requires c κs = search needs
+
+-- src/lib.rt:242:8
+is-move-requires : tie.Need-is-move-requires
+is-move-requires c κs = search needs
+
+-- src/lib.rt:243:28
+add-peek-two : tie.Need-add-peek-two
+add-peek-two c = search needs
+
+-- src/lib.rt:243:16
+peek-two-requires : tie.Need-peek-two-requires
+peek-two-requires c κs = search needs
+
+-- src/lib.rt:244:67
+add-validate-move-argument : tie.Need-add-validate-move-argument
+add-validate-move-argument c = search needs
+
+-- src/lib.rt:244:13
+validate-move-argument-requires : tie.Need-validate-move-argument-requires
+validate-move-argument-requires c κs = search needs
+
+-- src/lib.rt:244:13
+returns : tie.Need-returns
+returns c = ?
+
+-- src/lib.rt:246:9
+returns-2 : tie.Need-returns-2
+returns-2 c = ?
+
+-- src/lib.rt:236:1
+returns-3 : tie.Need-returns-3
+returns-3 c = ?
+
+pub moves-spec : {M : Type 1} → statement M
+moves-spec =
+    tie.close
+    (tie.spec
+    add-name-at
+    name-at-requires
+    is-move-requires
+    add-peek-two
+    peek-two-requires
+    add-validate-move-argument
+    validate-move-argument-requires
+    returns
+    returns-2
+    returns-3)

@@ -1,0 +1,91 @@
+use borrow.Author.Needs.{needs}
+use Rattle.effects.proofs.validate_move_argument.Statement.{statement}
+use Rattle.effects.proofs.validate_move_argument.Tie as tie
+use Rattle.effects.proofs.validate_move_argument.Reads as reads
+use Rattle.effects.proofs.validate_move_argument.Lts as lts
+use Rattle.body.proofs.strip_noop_unary.Reads as strip-noop-unary-reads
+use Rattle.effects.proofs.move_ident.Reads as move-ident-reads
+use Rattle.effects.proofs.move_local.Reads as move-local-reads
+use Rattle.effects.proofs.name_at.Reads as name-at-reads
+use Rattle.effects.proofs.span_at.Reads as span-at-reads
+use Rattle.fields.proofs.peek.Reads as peek-reads
+
+-- src/lib.rt:224:9
+strip-noop-unary-requires : tie.Need-strip-noop-unary-requires
+strip-noop-unary-requires c κs = search needs
+
+-- src/lib.rt:225:9
+peek-requires : tie.Need-peek-requires
+peek-requires c κs = search needs
+
+-- src/lib.rt:227:62
+add-name-at : tie.Need-add-name-at
+add-name-at c = ?
+
+-- src/lib.rt:227:51
+name-at-requires : tie.Need-name-at-requires
+name-at-requires c κs = ?
+
+-- src/lib.rt:227:81
+add-span-at : tie.Need-add-span-at
+add-span-at c = ?
+
+-- src/lib.rt:227:70
+span-at-requires : tie.Need-span-at-requires
+span-at-requires c κs = ?
+
+-- src/lib.rt:227:9
+move-ident-requires : tie.Need-move-ident-requires
+move-ident-requires c κs = search needs
+
+-- src/lib.rt:227:9
+returns : tie.Need-returns
+returns c = ?
+
+-- src/lib.rt:230:51
+add-span-at-2 : tie.Need-add-span-at-2
+add-span-at-2 c = ?
+
+-- src/lib.rt:230:40
+span-at-requires-2 : tie.Need-span-at-requires-2
+span-at-requires-2 c κs = ?
+
+-- src/lib.rt:230:9
+move-local-requires : tie.Need-move-local-requires
+move-local-requires c κs = search needs
+
+-- src/lib.rt:230:9
+returns-2 : tie.Need-returns-2
+returns-2 c = ?
+
+-- src/lib.rt:232:32
+add-span-at-3 : tie.Need-add-span-at-3
+add-span-at-3 c = search needs
+
+-- src/lib.rt:232:21
+span-at-requires-3 : tie.Need-span-at-requires-3
+span-at-requires-3 c κs = search needs
+
+-- src/lib.rt:218:1
+returns-3 : tie.Need-returns-3
+returns-3 c = ?
+
+pub validate-move-argument-spec : {M : Type 1} → statement M
+validate-move-argument-spec =
+    tie.close
+    (tie.spec
+    strip-noop-unary-requires
+    peek-requires
+    add-name-at
+    name-at-requires
+    add-span-at
+    span-at-requires
+    move-ident-requires
+    returns
+    add-span-at-2
+    span-at-requires-2
+    move-local-requires
+    returns-2
+    add-span-at-3
+    span-at-requires-3
+    returns-3)
