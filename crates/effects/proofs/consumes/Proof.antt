@@ -1,3 +1,5 @@
+use denote.Ref.{now}
+use Rattle.effects.proofs.Asked.{modifier-is, no-modifier}
 use borrow.Author.Needs.{needs}
 use Rattle.effects.proofs.consumes.Statement.{statement}
 use Rattle.effects.proofs.consumes.Tie as tie
@@ -19,11 +21,11 @@ enum-told c = search needs
 
 -- src/lib.rt:126:1
 returns : tie.Need-returns
-returns c = ?
+returns c = λ T et ex. modifier-is (now (c .before .before .before .before .before .before .before .args .s)) (now (c .before .before .before .before .before .before .before .args .types)) (now (c .before .before .before .before .before .before .before .args .structs)) T et ex _ _ (c .before .before .before .method-modifier .ensures) (c .before .k .given .1)
 
 -- src/lib.rt:126:1
 returns-2 : tie.Need-returns-2
-returns-2 c = ?
+returns-2 c = λ T et ex. no-modifier (now (c .before .before .before .before .before .before .args .s)) (now (c .before .before .before .before .before .before .args .types)) (now (c .before .before .before .before .before .before .args .structs)) T et ex _ _ (c .before .before .method-modifier .ensures) (c .enum-told .given .1)
 
 pub consumes-spec : {M : Type 1} → statement M
 consumes-spec =

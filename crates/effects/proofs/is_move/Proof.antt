@@ -1,3 +1,5 @@
+use denote.Ref.{now}
+use Rattle.effects.proofs.Asked.{move-in, move-out}
 use borrow.Author.Needs.{needs}
 use Rattle.effects.proofs.is_move.Statement.{statement}
 use Rattle.effects.proofs.is_move.Tie as tie
@@ -16,11 +18,11 @@ is-move-requires c κs = search needs
 
 -- src/lib.rt:120:9
 returns : tie.Need-returns
-returns c = ?
+returns c = λ T e. move-in (now (c .before .before .before .before .before .args .s)) (now (c .before .before .before .before .before .args .names)) T e (c .before .before .wide16 .ensures) (c .before .if1 .taken) (c .is-move .ensures)
 
 -- src/lib.rt:114:1
 returns-2 : tie.Need-returns-2
-returns-2 c = ?
+returns-2 c = λ T e. move-out (now (c .before .before .before .before .args .s)) (now (c .before .before .before .before .args .names)) T e (c .before .wide16 .ensures) (c .if1 .left)
 
 pub is-move-spec : {M : Type 1} → statement M
 is-move-spec = tie.close (tie.spec wide16-requires is-move-requires returns returns-2)

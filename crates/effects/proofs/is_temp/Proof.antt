@@ -1,3 +1,5 @@
+use denote.Ref.{now}
+use Rattle.effects.proofs.Asked.{temp-in, temp-out}
 use borrow.Author.Needs.{needs}
 use Rattle.effects.proofs.is_temp.Statement.{statement}
 use Rattle.effects.proofs.is_temp.Tie as tie
@@ -16,11 +18,11 @@ is-compiler-temp-name-requires c κs = search needs
 
 -- src/lib.rt:108:9
 returns : tie.Need-returns
-returns c = ?
+returns c = λ T e. temp-in (now (c .before .before .before .before .before .args .s)) (now (c .before .before .before .before .before .args .names)) T e (c .before .before .wide16 .ensures) (c .before .if1 .taken) (c .is-compiler-temp-name .ensures)
 
 -- src/lib.rt:102:1
 returns-2 : tie.Need-returns-2
-returns-2 c = ?
+returns-2 c = λ T e. temp-out (now (c .before .before .before .before .args .s)) (now (c .before .before .before .before .args .names)) T e (c .before .wide16 .ensures) (c .if1 .left)
 
 pub is-temp-spec : {M : Type 1} → statement M
 is-temp-spec =

@@ -1,3 +1,7 @@
+use denote.Ref.{now}
+use mathlib.Core.Path.{_≡_, refl, sym, ap, _∙_}
+use mathlib.Core.List.{[], _∷_}
+use Rattle.effects.proofs.Asked.{a-global, no-global}
 use borrow.Author.Needs.{needs}
 use Rattle.effects.proofs.move_ident.Statement.{statement}
 use Rattle.effects.proofs.move_ident.Tie as tie
@@ -29,11 +33,11 @@ move-local-requires c κs = search needs
 
 -- src/lib.rt:206:1
 returns : tie.Need-returns
-returns c = ?
+returns c = λ T e g. ap (λ x. x ∷ []) (a-global (now (c .before .before .before .before .before .before .before .args .s)) _ _ T g (c .before .before .before .before .wide16 .ensures) (c .before .before .before .before .before .before .before .args .p) (c .before .before .before .global-span .ensures) (c .before .def .given .1))
 
 -- src/lib.rt:206:1
 returns-2 : tie.Need-returns-2
-returns-2 c = ?
+returns-2 c = λ T e g. c .move-local .ensures T e ∙ ap (λ x. x ∷ []) (no-global (now (c .before .before .before .before .before .before .before .args .s)) _ _ T g (c .before .before .before .before .wide16 .ensures) (c .before .before .before .before .before .before .before .args .p) (c .before .before .before .global-span .ensures) (c .before .enum-told .given .1))
 
 pub move-ident-spec : {M : Type 1} → statement M
 move-ident-spec =

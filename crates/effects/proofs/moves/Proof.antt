@@ -1,3 +1,7 @@
+use denote.Ref.{now}
+use Prim.Native.Nat.{ℕ, _≤_, _<_}
+use mathlib.Core.Path.{_≡_, refl, sym, _∙_, subst}
+use Rattle.effects.proofs.Ends.{moves-first, moves-none, moves-other, named-by}
 use borrow.Author.Needs.{needs}
 use Rattle.effects.proofs.moves.Statement.{statement}
 use Rattle.effects.proofs.moves.Tie as tie
@@ -38,15 +42,15 @@ validate-move-argument-requires c κs = search needs
 
 -- src/lib.rt:244:13
 returns : tie.Need-returns
-returns c = ?
+returns c = λ T en eg e next st t. moves-first T (now (c .before .before .before .before .before .before .before .before .args .s)) (c .before .before .before .before .before .before .before .before .args .start) next e st t (named-by T (now (c .before .before .before .before .before .before .before .before .args .s)) (c .before .before .before .before .before .before .before .before .args .start) _ (c .before .before .before .before .before .name-at .ensures) (c .before .before .before .before .is-move .ensures T en) (c .before .before .before .if1 .taken)) (subst (λ x. 0 < x) (c .before .before .peek-two .ensures .0) (c .before .if2 .taken)) _ (c .validate-move-argument .ensures T en eg)
 
 -- src/lib.rt:246:9
 returns-2 : tie.Need-returns-2
-returns-2 c = ?
+returns-2 c = λ T en eg e next st t. moves-none T (now (c .before .before .before .before .before .before .before .args .s)) (c .before .before .before .before .before .before .before .args .start) next e st t (named-by T (now (c .before .before .before .before .before .before .before .args .s)) (c .before .before .before .before .before .before .before .args .start) _ (c .before .before .before .before .name-at .ensures) (c .before .before .before .is-move .ensures T en) (c .before .before .if1 .taken)) (subst (λ x. x ≤ 0) (c .before .peek-two .ensures .0) (c .if2 .left))
 
 -- src/lib.rt:236:1
 returns-3 : tie.Need-returns-3
-returns-3 c = ?
+returns-3 c = λ T en eg e next st t. moves-other T (now (c .before .before .before .before .before .args .s)) (c .before .before .before .before .before .args .start) next e st t (named-by T (now (c .before .before .before .before .before .args .s)) (c .before .before .before .before .before .args .start) _ (c .before .before .name-at .ensures) (c .before .is-move .ensures T en) (c .if1 .left))
 
 pub moves-spec : {M : Type 1} → statement M
 moves-spec =

@@ -1,3 +1,5 @@
+use mathlib.Core.Path.{_≡_, refl, sym, ap, _∙_}
+use borrow.Author.Tests.{eq-eqb, ne-eqb}
 use borrow.Author.Needs.{needs}
 use Rattle.effects.proofs.own.Statement.{statement}
 use Rattle.effects.proofs.own.Tie as tie
@@ -34,7 +36,7 @@ validate-identifier-use-requires c κs = search needs
 
 -- src/lib.rt:167:9
 returns : tie.Need-returns
-returns c = ?
+returns c = λ T e. simp (← c .before .before .before .before .peek .ensures .0, eq-eqb _ _ (c .before .before .before .if1 .taken), ← c .before .before .name-at .ensures, ← c .before .span-at .ensures) (c .validate-identifier-use .ensures T e)
 
 -- src/lib.rt:170:72
 add-span-at-2 : tie.Need-add-span-at-2
@@ -50,11 +52,11 @@ validate-identifier-use-requires-2 c κs = search needs
 
 -- src/lib.rt:170:9
 returns-2 : tie.Need-returns-2
-returns-2 c = ?
+returns-2 c = λ T e. simp (← c .before .before .before .before .peek .ensures .0, ne-eqb _ _ (c .before .before .before .if1 .left), eq-eqb _ _ (c .before .before .if2 .taken), ← c .before .span-at2 .ensures) (c .validate-identifier-use2 .ensures T e)
 
 -- src/lib.rt:160:1
 returns-3 : tie.Need-returns-3
-returns-3 c = ?
+returns-3 c = λ T e. simp (← c .before .before .peek .ensures .0, ne-eqb _ _ (c .before .if1 .left), ne-eqb _ _ (c .if2 .left))
 
 pub own-spec : {M : Type 1} → statement M
 own-spec =

@@ -1,3 +1,11 @@
+use denote.Ref.{now}
+use lib.ListN.{length}
+use Prim.Native.Nat.{ℕ, _<_}
+use mathlib.Core.Path.{_≡_, sym, _∙_}
+use native.Mathlib.Omega.{arith}
+use Rattle.body.specs.Expr.{headOf, through}
+use Rattle.effects.proofs.Laws.{within}
+use Rattle.effects.proofs.Ends.{told-1, told-2, told-3}
 use borrow.Author.Needs.{needs}
 use Rattle.effects.proofs.validate_move_argument.Statement.{statement}
 use Rattle.effects.proofs.validate_move_argument.Tie as tie
@@ -20,19 +28,19 @@ peek-requires c κs = search needs
 
 -- src/lib.rt:227:62
 add-name-at : tie.Need-add-name-at
-add-name-at c = ?
+add-name-at c = let z : c .before .before .strip-noop-unary .result < length (now (c .before .before .before .before .before .args .s)) = within (now (c .before .before .before .before .before .args .s)) _ 1 (sym (c .before .peek .ensures .0) ∙ c .if1 .taken) (omega arith) in omega arith
 
 -- src/lib.rt:227:51
 name-at-requires : tie.Need-name-at-requires
-name-at-requires c κs = ?
+name-at-requires c κs = let z : c .before .before .strip-noop-unary .result < length (now (c .before .before .before .before .before .args .s)) = within (now (c .before .before .before .before .before .args .s)) _ 1 (sym (c .before .peek .ensures .0) ∙ c .if1 .taken) (omega arith) in omega arith
 
 -- src/lib.rt:227:81
 add-span-at : tie.Need-add-span-at
-add-span-at c = ?
+add-span-at c = let z : c .before .before .before .strip-noop-unary .result < length (now (c .before .before .before .before .before .before .args .s)) = within (now (c .before .before .before .before .before .before .args .s)) _ 1 (sym (c .before .before .peek .ensures .0) ∙ c .before .if1 .taken) (omega arith) in omega arith
 
 -- src/lib.rt:227:70
 span-at-requires : tie.Need-span-at-requires
-span-at-requires c κs = ?
+span-at-requires c κs = let z : c .before .before .before .strip-noop-unary .result < length (now (c .before .before .before .before .before .before .args .s)) = within (now (c .before .before .before .before .before .before .args .s)) _ 1 (sym (c .before .before .peek .ensures .0) ∙ c .before .if1 .taken) (omega arith) in omega arith
 
 -- src/lib.rt:227:9
 move-ident-requires : tie.Need-move-ident-requires
@@ -40,15 +48,15 @@ move-ident-requires c κs = search needs
 
 -- src/lib.rt:227:9
 returns : tie.Need-returns
-returns c = ?
+returns c = λ T en eg e next st. told-1 T (now (c .before .before .before .before .before .before .before .before .args .s)) (c .before .before .before .before .before .strip-noop-unary .result) next (headOf e .span) (through e) (c .before .before .before .before .before .strip-noop-unary .ensures e next st) _ (c .before .before .before .before .peek .ensures .0) _ _ (c .before .before .before .if1 .taken) (c .before .before .name-at .ensures) (c .before .span-at .ensures) (c .move-ident .ensures T en eg)
 
 -- src/lib.rt:230:51
 add-span-at-2 : tie.Need-add-span-at-2
-add-span-at-2 c = ?
+add-span-at-2 c = let z : c .before .before .before .strip-noop-unary .result < length (now (c .before .before .before .before .before .before .args .s)) = within (now (c .before .before .before .before .before .before .args .s)) _ 2 (sym (c .before .before .peek .ensures .0) ∙ c .if2 .taken) (omega arith) in omega arith
 
 -- src/lib.rt:230:40
 span-at-requires-2 : tie.Need-span-at-requires-2
-span-at-requires-2 c κs = ?
+span-at-requires-2 c κs = let z : c .before .before .before .strip-noop-unary .result < length (now (c .before .before .before .before .before .before .args .s)) = within (now (c .before .before .before .before .before .before .args .s)) _ 2 (sym (c .before .before .peek .ensures .0) ∙ c .if2 .taken) (omega arith) in omega arith
 
 -- src/lib.rt:230:9
 move-local-requires : tie.Need-move-local-requires
@@ -56,7 +64,7 @@ move-local-requires c κs = search needs
 
 -- src/lib.rt:230:9
 returns-2 : tie.Need-returns-2
-returns-2 c = ?
+returns-2 c = λ T en eg e next st. told-2 T (now (c .before .before .before .before .before .before .before .before .args .s)) (c .before .before .before .before .before .strip-noop-unary .result) next (headOf e .span) (through e) (c .before .before .before .before .before .strip-noop-unary .ensures e next st) _ (c .before .before .before .before .peek .ensures .0) _ (c .before .before .if2 .taken) (c .before .span-at2 .ensures) (c .move-local .ensures T en)
 
 -- src/lib.rt:232:32
 add-span-at-3 : tie.Need-add-span-at-3
@@ -68,7 +76,7 @@ span-at-requires-3 c κs = search needs
 
 -- src/lib.rt:218:1
 returns-3 : tie.Need-returns-3
-returns-3 c = ?
+returns-3 c = λ T en eg e next st. told-3 T (now (c .before .before .before .before .before .before .before .args .s)) (c .before .before .before .before .before .before .before .args .at) (c .before .before .before .before .strip-noop-unary .result) next e _ _ st (c .before .before .before .before .strip-noop-unary .ensures e next st) (c .before .before .before .peek .ensures .0) (c .before .before .if1 .left) (c .before .if2 .left) (c .span-at3 .ensures)
 
 pub validate-move-argument-spec : {M : Type 1} → statement M
 validate-move-argument-spec =
