@@ -122,7 +122,7 @@ rest-items : (T : Tables) (f : Stage) → f .kids ≡ none → rest T f ≡ grou
 unfolding rest group
 rest-items T f e = rw e refl
 
-module _ (T : Tables) (s : List ℕ) (os : List Open) (n p e : ℕ) (frames : List Stage) (lt : 0 < n) (room : length os ≡ 26) (g : Stacked os n frames s p e) (o : Open) (eo : topOf os n ≡ o) where
+module _ (s : List ℕ) (os : List Open) (n p e : ℕ) (frames : List Stage) (lt : 0 < n) (room : length os ≡ 26) (g : Stacked os n frames s p e) (o : Open) (eo : topOf os n ≡ o) where
   abbrev t : Top s os n p e frames
   t = top s os n p e frames lt g
 
@@ -179,9 +179,9 @@ module _ (T : Tables) (s : List ℕ) (os : List Open) (n p e : ℕ) (frames : Li
       (n - 1, t .q, omega arith, getD-set-other os1 n (n - 1) i blank (λ x. omega arith) ∙ getD-set-same os (n - 1) (after-count l .code) blank (omega arith), count-fits l le pos el,
        set-above os1 n i (n - 1) (t .fs) s (t .q) e (omega arith) (set-above os (n - 1) (after-count l .code) (n - 1) (t .fs) s (t .q) e (omega arith) (t .below)))
 
-  count-tells : (l : ℕ) → o .left ≤ 0 → pending T frames ≡ pending T (after-count l ∷ t .fs)
+  count-tells : (T : Tables) (l : ℕ) → o .left ≤ 0 → pending T frames ≡ pending T (after-count l ∷ t .fs)
   unfolding pending rest group
-  count-tells l le =
+  count-tells T l le =
       let et : o .tag ≡ t .f .code .tag = ap (λ x. x .tag) code-of in
       ap (pending T) (t .is) ∙ ap (λ x. x ++ pending T (t .fs)) (rest-items T (t .f) (no-left le)) ∙ ap (λ x. (group T (handed 0 x) (t .f .items) ++ finish T (t .f .whole)) ++ pending T (t .fs)) (sym et)
 
@@ -203,9 +203,9 @@ module _ (T : Tables) (s : List ℕ) (os : List Open) (n p e : ℕ) (frames : Li
       let ek2 : k ≡ getD lastWidth (t .f .code .tag) 0 = ek ∙ ap (λ x. getD lastWidth x 0) et in
       omega arith
 
-  end-tells : o .left ≤ 0 → o .counted ≤ 0 → pending T frames ≡ finish T (t .f .whole) ++ pending T (t .fs)
+  end-tells : (T : Tables) → o .left ≤ 0 → o .counted ≤ 0 → pending T frames ≡ finish T (t .f .whole) ++ pending T (t .fs)
   unfolding pending group
-  end-tells le lc = ap (pending T) (t .is) ∙ ap (λ x. x ++ pending T (t .fs)) (rest-items T (t .f) (no-left le) ∙ ap (λ x. group T (handed 0 (t .f .code .tag)) x ++ finish T (t .f .whole)) (no-items lc))
+  end-tells T le lc = ap (pending T) (t .is) ∙ ap (λ x. x ++ pending T (t .fs)) (rest-items T (t .f) (no-left le) ∙ ap (λ x. group T (handed 0 (t .f .code .tag)) x ++ finish T (t .f .whole)) (no-items lc))
 
   -- the next child begins: it stands at p, and looked through at r
   pub record Child (r : ℕ) : Type 0 where
@@ -324,11 +324,11 @@ module _ (T : Tables) (s : List ℕ) (os : List Open) (n p e : ℕ) (frames : Li
           set-above os1 n (opened-stage tag l ct .code) (n - 1) (t .fs) s (t .q) e (omega arith)
           (set-above os (n - 1) (lower-stage .code) (n - 1) (t .fs) s (t .q) e (omega arith) (t .below))))
 
-    child-tells : (tag l ct : ℕ) (b : Bool) (told : List Raw) → tag ≡ getD s r 0 → ct ≡ getD countWidth tag 0 → b ≡ handed (o .counted) (o .tag)
+    child-tells : (T : Tables) (tag l ct : ℕ) (b : Bool) (told : List Raw) → tag ≡ getD s r 0 → ct ≡ getD countWidth tag 0 → b ≡ handed (o .counted) (o .tag)
         → told ≡ leafOf T b (getD s r 0) (two s (r + 7)) (four s (r + 1))
         → pending T frames ≡ told ++ pending T (opened-stage tag l ct ∷ lower-stage ∷ t .fs)
     unfolding pending rest group
-    child-tells tag l ct b told et ec eb tl =
+    child-tells T tag l ct b told et ec eb tl =
         let e : tag ≡ k .h .tag = et ∙ head .1 .tag in
         let c1 : ct ≡ getD countWidth (k .h .tag) 0 = ec ∙ ap (λ x. getD countWidth x 0) e in
         let op = opened T s b p r (k .mid) (k .c) (k .h) (k .ks) (k .xs) (k .stands) (look (k .c) (k .mid) (k .stands)) (k .is) in
@@ -374,21 +374,21 @@ module _ (T : Tables) (s : List ℕ) (os : List Open) (n p e : ℕ) (frames : Li
            set-above os1 n i (n - 1) (t .fs) s (t .q) e (omega arith)
            (set-above os (n - 1) (lower-stage .code) (n - 1) (t .fs) s (t .q) e (omega arith) (t .below)))
 
-      leaf-rest : (l ct : ℕ) → rest T (opened-stage tag l ct) ≡ []
+      leaf-rest : (T : Tables) (l ct : ℕ) → rest T (opened-stage tag l ct) ≡ []
       unfolding rest group
-      leaf-rest l ct =
+      leaf-rest T l ct =
           ap (λ x. group T (handed ct tag) x ++ (group T (handed 0 tag) (k .xs) ++ finish T (node (k .h) x (k .xs)))) (empty .0)
           ∙ ap (λ x. group T (handed 0 tag) x ++ finish T (node (k .h) none x)) (empty .1)
           ∙ finish-none T (k .h)
 
-      leaf-tells : (hd : Bool) (told : List Raw) → hd ≡ handed (o .counted) (o .tag) → told ≡ leafOf T hd (getD s r 0) (two s (r + 7)) (four s (r + 1))
+      leaf-tells : (T : Tables) (hd : Bool) (told : List Raw) → hd ≡ handed (o .counted) (o .tag) → told ≡ leafOf T hd (getD s r 0) (two s (r + 7)) (four s (r + 1))
           → pending T frames ≡ told ++ pending T (lower-stage ∷ t .fs)
       unfolding pending
-      leaf-tells hd told eh tl =
-          child-tells tag 0 (getD countWidth tag 0) hd told et refl eh tl
-          ∙ ap (λ x. told ++ (x ++ pending T (lower-stage ∷ t .fs))) (leaf-rest 0 (getD countWidth tag 0))
+      leaf-tells T hd told eh tl =
+          child-tells T tag 0 (getD countWidth tag 0) hd told et refl eh tl
+          ∙ ap (λ x. told ++ (x ++ pending T (lower-stage ∷ t .fs))) (leaf-rest T 0 (getD countWidth tag 0))
 
-module _ (T : Tables) (s : List ℕ) (os : List Open) (n p : ℕ) (ready : Ready s os n p) (lt : 0 < n) (o : Open) (eo : topOf os n ≡ o) where
+module _ (s : List ℕ) (os : List Open) (n p : ℕ) (ready : Ready s os n p) (lt : 0 < n) (o : Open) (eo : topOf os n ≡ o) where
   pub seen : Sees s os n p
   seen = sees s os n p (ready .end) (ready .frames) lt (ready .stacked)
 
@@ -399,42 +399,42 @@ module _ (T : Tables) (s : List ℕ) (os : List Open) (n p : ℕ) (ready : Ready
   seen-start = subst (λ x. x .start ≤ length s) eo (seen .start)
 
   pub seen-child : (r : ℕ) → Looked s p r → 0 < o .left → ChildSees s n p r
-  seen-child r look pos = child-sees T s os n p (ready .end) (ready .frames) lt (ready .room) (ready .stacked) o eo r look pos
+  seen-child r look pos = child-sees s os n p (ready .end) (ready .frames) lt (ready .room) (ready .stacked) o eo r look pos
 
-  pub goes-child : (r : ℕ) → Looked s p r → 0 < o .left
+  pub goes-child : (T : Tables) (r : ℕ) → Looked s p r → 0 < o .left
       → (told : Effect) (hd : Bool) (tag l ct b : ℕ) → tag ≡ getD s r 0 → l ≡ getD fixedCount tag 0 → ct ≡ getD countWidth tag 0 → b ≡ getD argWidth tag 0
       → hd ≡ handed (o .counted) (o .tag) → emits told ≡ leafOf T hd (getD s r 0) (two s (r + 7)) (four s (r + 1))
       → Goes T s os n p (record { effect = told; at = r + 7 + b; held = 2; top = record { start = o .start; left = o .left - 1; tag = o .tag; counted = o .counted }; inner = record { start = r; left = l; tag = tag; counted = ct } })
-  goes-child r look pos told hd tag l ct b et el ec eb eh tl =
+  goes-child T r look pos told hd tag l ct b et el ec eb eh tl =
       let z = seen-child r look pos in
       let rm = z .room in
       let le = z .later in
       let ix = z .index in
       record {
         steps = λ frames end g. record {
-          after = opened-stage T s os n p end frames lt (ready .room) g o eo r look pos tag l ct ∷ (lower-stage T s os n p end frames lt (ready .room) g o eo r look pos ∷ top s os n p end frames lt g .fs);
-          stacked = child-stacked T s os n p end frames lt (ready .room) g o eo r look pos tag l ct b et el ec eb;
-          tells = child-tells T s os n p end frames lt (ready .room) g o eo r look pos tag l ct hd (emits told) et ec eh tl;
+          after = opened-stage s os n p end frames lt (ready .room) g o eo r look pos tag l ct ∷ (lower-stage s os n p end frames lt (ready .room) g o eo r look pos ∷ top s os n p end frames lt g .fs);
+          stacked = child-stacked s os n p end frames lt (ready .room) g o eo r look pos tag l ct b et el ec eb;
+          tells = child-tells s os n p end frames lt (ready .room) g o eo r look pos T tag l ct hd (emits told) et ec eh tl;
         };
         held = omega arith;
         index = omega arith;
         falls = omega arith;
       }
 
-  pub goes-leaf : (r : ℕ) → Looked s p r → 0 < o .left
+  pub goes-leaf : (T : Tables) (r : ℕ) → Looked s p r → 0 < o .left
       → (told : Effect) (hd : Bool) (tag b : ℕ) (i : Open) → tag ≡ getD s r 0 → b ≡ getD argWidth tag 0 → getD leaves tag 0 ≡ 1
       → hd ≡ handed (o .counted) (o .tag) → emits told ≡ leafOf T hd (getD s r 0) (two s (r + 7)) (four s (r + 1))
       → Goes T s os n p (record { effect = told; at = r + 7 + b; held = 1; top = record { start = o .start; left = o .left - 1; tag = o .tag; counted = o .counted }; inner = i })
-  goes-leaf r look pos told hd tag b i et eb lf eh tl =
+  goes-leaf T r look pos told hd tag b i et eb lf eh tl =
       let z = seen-child r look pos in
       let rm = z .room in
       let le = z .later in
       let ix = z .index in
       record {
         steps = λ frames end g. record {
-          after = lower-stage T s os n p end frames lt (ready .room) g o eo r look pos ∷ top s os n p end frames lt g .fs;
-          stacked = leaf-stacked T s os n p end frames lt (ready .room) g o eo r look pos tag b et eb lf i;
-          tells = leaf-tells T s os n p end frames lt (ready .room) g o eo r look pos tag b et eb lf hd (emits told) eh tl;
+          after = lower-stage s os n p end frames lt (ready .room) g o eo r look pos ∷ top s os n p end frames lt g .fs;
+          stacked = leaf-stacked s os n p end frames lt (ready .room) g o eo r look pos tag b et eb lf i;
+          tells = leaf-tells s os n p end frames lt (ready .room) g o eo r look pos tag b et eb lf T hd (emits told) eh tl;
         };
         held = omega arith;
         index = omega arith;
@@ -443,33 +443,33 @@ module _ (T : Tables) (s : List ℕ) (os : List Open) (n p : ℕ) (ready : Ready
 
   pub seen-count : o .left ≤ 0 → 0 < o .counted → p + 2 ≤ length s
   seen-count le pos =
-      let w = count-fits T s os n p (ready .end) (ready .frames) lt (ready .room) (ready .stacked) o eo (two s p) le pos refl in
+      let w = count-fits s os n p (ready .end) (ready .frames) lt (ready .room) (ready .stacked) o eo (two s p) le pos refl in
       let a : p + 2 ≤ w .a = order-all _ s (p + 2) (w .a) (w .kids) in
       let b : w .a + 0 ≤ w .u = order-all none s (w .a + 0) (w .u) (w .items) in
       let e = w .end in let d = w .inside in
       omega arith
 
-  pub goes-count : (l : ℕ) (i : Open) → o .left ≤ 0 → 0 < o .counted → l ≡ two s p
+  pub goes-count : (T : Tables) (l : ℕ) (i : Open) → o .left ≤ 0 → 0 < o .counted → l ≡ two s p
       → Goes T s os n p (record { effect = Nothing; at = p + 2; held = 1; top = record { start = o .start; left = l; tag = o .tag; counted = 0 }; inner = i })
-  goes-count l i le pos el =
+  goes-count T l i le pos el =
       let z = seen-count le pos in
       let ix = seen .index in
       record {
         steps = λ frames end g. record {
-          after = after-count T s os n p end frames lt (ready .room) g o eo l ∷ top s os n p end frames lt g .fs;
-          stacked = count-stacked T s os n p end frames lt (ready .room) g o eo l i le pos el;
-          tells = count-tells T s os n p end frames lt (ready .room) g o eo l le;
+          after = after-count s os n p end frames lt (ready .room) g o eo l ∷ top s os n p end frames lt g .fs;
+          stacked = count-stacked s os n p end frames lt (ready .room) g o eo l i le pos el;
+          tells = count-tells s os n p end frames lt (ready .room) g o eo T l le;
         };
         held = omega arith;
         index = omega arith;
         falls = omega arith;
       }
 
-  pub goes-end : (told : Effect) (k st : ℕ) (u v : Open) → o .left ≤ 0 → o .counted ≤ 0 → k ≡ getD lastWidth (o .tag) 0 → st ≡ o .start
+  pub goes-end : (T : Tables) (told : Effect) (k st : ℕ) (u v : Open) → o .left ≤ 0 → o .counted ≤ 0 → k ≡ getD lastWidth (o .tag) 0 → st ≡ o .start
       → ((x : Expr) → (0 < o .tag → Placed s st x) → headOf x .tag ≡ o .tag → emits told ≡ finish T x)
       → Goes T s os n p (record { effect = told; at = p + k; held = 0; top = u; inner = v })
   unfolding Stacked
-  goes-end told k st u v le lc ek est fin =
+  goes-end T told k st u v le lc ek est fin =
       let ix = seen .index in
       record {
         steps = λ frames end g. (
@@ -477,14 +477,14 @@ module _ (T : Tables) (s : List ℕ) (os : List Open) (n p : ℕ) (ready : Ready
           let co : o ≡ t .f .code = sym eo ∙ t .code in
           let et : o .tag ≡ t .f .code .tag = ap (λ x. x .tag) co in
           let es : o .start ≡ t .f .code .start = ap (λ x. x .start) co in
-          let q : t .q ≡ p + k = end-at T s os n p end frames lt (ready .room) g o eo k le lc ek in
+          let q : t .q ≡ p + k = end-at s os n p end frames lt (ready .room) g o eo k le lc ek in
           let d : emits told ≡ finish T (t .f .whole) = fin (t .f .whole) (λ z. subst (λ x. Placed s x (t .f .whole)) (sym (est ∙ es)) (t .fits .placed (subst (λ x. 0 < x) et z))) (sym (et ∙ t .fits .tag)) in
           let m0 : n - 1 ≡ n - 1 + 0 = omega arith in
           record {
             after = t .fs;
             stacked = set-above (set os (n - 1) u) n v (n - 1 + 0) (t .fs) s (p + k) end (omega arith) (set-above os (n - 1) u (n - 1 + 0) (t .fs) s (p + k) end (omega arith)
                 (subst (λ y. Stacked os y (t .fs) s (p + k) end) m0 (subst (λ x. Stacked os (n - 1) (t .fs) s x end) q (t .below))));
-            tells = end-tells T s os n p end frames lt (ready .room) g o eo le lc ∙ ap (λ x. x ++ pending T (t .fs)) (sym d);
+            tells = end-tells s os n p end frames lt (ready .room) g o eo T le lc ∙ ap (λ x. x ++ pending T (t .fs)) (sym d);
           });
         held = omega arith;
         index = omega arith;
