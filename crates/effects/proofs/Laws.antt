@@ -70,6 +70,7 @@ unfoldable mutual
 
 mutual
   unfolding Stands size
+
   size-of : (e : Expr) (s : List ℕ) (p q : ℕ) → Stands e s p q → q ≡ p + size e
   size-of (node h ks xs) s p q g =
       let a = size-all ks s (p + 7 + getD argWidth (h .tag) 0) (g .0) (g .4) in
@@ -87,6 +88,7 @@ mutual
 -- looked through, an expression is no longer and no deeper
 mutual
   unfolding through throughFirst size depth
+
   through-less : (e : Expr) → (size (through e) ≤ size e) × (depth (through e) ≤ depth e)
   through-less (node h ks xs) = first-less h xs ks (noopUnary h)
 
@@ -124,6 +126,7 @@ noop-raws T h c t = rw t (append-nil (raws T c ++ []) ∙ append-nil (raws T c))
 -- an expression's effects are those of what it is looked through to
 mutual
   unfolding through throughFirst
+
   pub see-through : (T : Tables) (s : List ℕ) (p n : ℕ) (e : Expr) → Stands e s p n → raws T e ≡ raws T (through e)
   see-through T s p n (node h ks xs) g = see-kids T s p n h ks xs g (noopUnary h) refl
 

@@ -1,6 +1,8 @@
--- What the proofs of several functions use, and the laws that a caller needs.
+-- Laws for whoever scans: the effects are the raw ones resolved, what is lent says the tables, the scan's start, steps and end.
 pub mod Resolved
 pub mod Asked
+pub mod Start
+pub mod Follows
 mod Laws
 mod Ends
 mod Stages

@@ -98,6 +98,7 @@ module _ (Γ : Shape) where
 
     mutual
       unfolding effects raws
+
       pub resolved : (e : Expr) → effects T Γ e ≡ resolveAll Γ (raws T e)
       resolved (node h ks xs) =
           join _ _ (own T h) _ (own-law h)

@@ -175,9 +175,14 @@ module _ (s : List ℕ) (os : List Open) (n p e : ℕ) (frames : List Stage) (lt
   unfolding Stacked
   count-stacked l i le pos el =
       let ix = sees s os n p e frames lt g .index in
-      let os1 = set os (n - 1) (after-count l .code) in
-      (n - 1, t .q, omega arith, getD-set-other os1 n (n - 1) i blank (λ x. omega arith) ∙ getD-set-same os (n - 1) (after-count l .code) blank (omega arith), count-fits l le pos el,
-       set-above os1 n i (n - 1) (t .fs) s (t .q) e (omega arith) (set-above os (n - 1) (after-count l .code) (n - 1) (t .fs) s (t .q) e (omega arith) (t .below)))
+      let os1 = set os (n - 1) (after-count l .code) in (
+        n - 1,
+        t .q,
+        omega arith,
+        getD-set-other os1 n (n - 1) i blank (λ x. omega arith) ∙ getD-set-same os (n - 1) (after-count l .code) blank (omega arith),
+        count-fits l le pos el,
+        set-above os1 n i (n - 1) (t .fs) s (t .q) e (omega arith) (set-above os (n - 1) (after-count l .code) (n - 1) (t .fs) s (t .q) e (omega arith) (t .below)),
+      )
 
   count-tells : (T : Tables) (l : ℕ) → o .left ≤ 0 → pending T frames ≡ pending T (after-count l ∷ t .fs)
   unfolding pending rest group
@@ -318,11 +323,22 @@ module _ (s : List ℕ) (os : List Open) (n p e : ℕ) (frames : List Stage) (lt
     child-stacked tag l ct b et el ec eb =
         let i = child-sees .index in
         let os1 = set os (n - 1) (lower-stage .code) in
-        let l1 : length os1 ≡ 26 = length-set os (n - 1) (lower-stage .code) ∙ room in
-        (n, k .mid, omega arith, getD-set-same os1 n (opened-stage tag l ct .code) blank (omega arith), opened-fits tag l ct b et el ec eb,
-         (n - 1, t .q, omega arith, getD-set-other os1 n (n - 1) (opened-stage tag l ct .code) blank (λ x. omega arith) ∙ getD-set-same os (n - 1) (lower-stage .code) blank (omega arith), lower-fits,
-          set-above os1 n (opened-stage tag l ct .code) (n - 1) (t .fs) s (t .q) e (omega arith)
-          (set-above os (n - 1) (lower-stage .code) (n - 1) (t .fs) s (t .q) e (omega arith) (t .below))))
+        let l1 : length os1 ≡ 26 = length-set os (n - 1) (lower-stage .code) ∙ room in (
+          n,
+          k .mid,
+          omega arith,
+          getD-set-same os1 n (opened-stage tag l ct .code) blank (omega arith),
+          opened-fits tag l ct b et el ec eb,
+          (
+            n - 1,
+            t .q,
+            omega arith,
+            getD-set-other os1 n (n - 1) (opened-stage tag l ct .code) blank (λ x. omega arith) ∙ getD-set-same os (n - 1) (lower-stage .code) blank (omega arith),
+            lower-fits,
+            set-above os1 n (opened-stage tag l ct .code) (n - 1) (t .fs) s (t .q) e (omega arith)
+                (set-above os (n - 1) (lower-stage .code) (n - 1) (t .fs) s (t .q) e (omega arith) (t .below)),
+          ),
+        )
 
     child-tells : (T : Tables) (tag l ct : ℕ) (b : Bool) (told : List Raw) → tag ≡ getD s r 0 → ct ≡ getD countWidth tag 0 → b ≡ handed (o .counted) (o .tag)
         → told ≡ leafOf T b (getD s r 0) (two s (r + 7)) (four s (r + 1))
@@ -369,10 +385,15 @@ module _ (s : List ℕ) (os : List Open) (n p e : ℕ) (frames : List Stage) (lt
       unfolding Stacked
       leaf-stacked i =
           let ix = child-sees .index in
-          let os1 = set os (n - 1) (lower-stage .code) in
-          (n - 1, t .q, omega arith, getD-set-other os1 n (n - 1) i blank (λ x. omega arith) ∙ getD-set-same os (n - 1) (lower-stage .code) blank (omega arith), subst (λ x. Fits s lower-stage (n - 1) x (t .q)) leaf-end lower-fits,
-           set-above os1 n i (n - 1) (t .fs) s (t .q) e (omega arith)
-           (set-above os (n - 1) (lower-stage .code) (n - 1) (t .fs) s (t .q) e (omega arith) (t .below)))
+          let os1 = set os (n - 1) (lower-stage .code) in (
+            n - 1,
+            t .q,
+            omega arith,
+            getD-set-other os1 n (n - 1) i blank (λ x. omega arith) ∙ getD-set-same os (n - 1) (lower-stage .code) blank (omega arith),
+            subst (λ x. Fits s lower-stage (n - 1) x (t .q)) leaf-end lower-fits,
+            set-above os1 n i (n - 1) (t .fs) s (t .q) e (omega arith)
+                (set-above os (n - 1) (lower-stage .code) (n - 1) (t .fs) s (t .q) e (omega arith) (t .below)),
+          )
 
       leaf-rest : (T : Tables) (l ct : ℕ) → rest T (opened-stage tag l ct) ≡ []
       unfolding rest group
@@ -473,19 +494,19 @@ module _ (s : List ℕ) (os : List Open) (n p : ℕ) (ready : Ready s os n p) (l
       let ix = seen .index in
       record {
         steps = λ frames end g. (
-          let t = top s os n p end frames lt g in
-          let co : o ≡ t .f .code = sym eo ∙ t .code in
-          let et : o .tag ≡ t .f .code .tag = ap (λ x. x .tag) co in
-          let es : o .start ≡ t .f .code .start = ap (λ x. x .start) co in
-          let q : t .q ≡ p + k = end-at s os n p end frames lt (ready .room) g o eo k le lc ek in
-          let d : emits told ≡ finish T (t .f .whole) = fin (t .f .whole) (λ z. subst (λ x. Placed s x (t .f .whole)) (sym (est ∙ es)) (t .fits .placed (subst (λ x. 0 < x) et z))) (sym (et ∙ t .fits .tag)) in
-          let m0 : n - 1 ≡ n - 1 + 0 = omega arith in
-          record {
-            after = t .fs;
-            stacked = set-above (set os (n - 1) u) n v (n - 1 + 0) (t .fs) s (p + k) end (omega arith) (set-above os (n - 1) u (n - 1 + 0) (t .fs) s (p + k) end (omega arith)
-                (subst (λ y. Stacked os y (t .fs) s (p + k) end) m0 (subst (λ x. Stacked os (n - 1) (t .fs) s x end) q (t .below))));
-            tells = end-tells s os n p end frames lt (ready .room) g o eo T le lc ∙ ap (λ x. x ++ pending T (t .fs)) (sym d);
-          });
+            let t = top s os n p end frames lt g in
+            let co : o ≡ t .f .code = sym eo ∙ t .code in
+            let et : o .tag ≡ t .f .code .tag = ap (λ x. x .tag) co in
+            let es : o .start ≡ t .f .code .start = ap (λ x. x .start) co in
+            let q : t .q ≡ p + k = end-at s os n p end frames lt (ready .room) g o eo k le lc ek in
+            let d : emits told ≡ finish T (t .f .whole) = fin (t .f .whole) (λ z. subst (λ x. Placed s x (t .f .whole)) (sym (est ∙ es)) (t .fits .placed (subst (λ x. 0 < x) et z))) (sym (et ∙ t .fits .tag)) in
+            let m0 : n - 1 ≡ n - 1 + 0 = omega arith in
+            record {
+              after = t .fs;
+              stacked = set-above (set os (n - 1) u) n v (n - 1 + 0) (t .fs) s (p + k) end (omega arith) (set-above os (n - 1) u (n - 1 + 0) (t .fs) s (p + k) end (omega arith)
+                  (subst (λ y. Stacked os y (t .fs) s (p + k) end) m0 (subst (λ x. Stacked os (n - 1) (t .fs) s x end) q (t .below))));
+              tells = end-tells s os n p end frames lt (ready .room) g o eo T le lc ∙ ap (λ x. x ++ pending T (t .fs)) (sym d);
+            });
         held = omega arith;
         index = omega arith;
         falls = let i = seen .inside in omega arith;

@@ -187,7 +187,13 @@ fn consuming_method_receiver(s: &[u8], types: &[usize], structs: &[usize], at: u
     let Node::Ident(_) = body::node_at(s, q) else {
         return Effect::Nothing;
     };
-    if consumes(s, types, structs, peek_two(s, target + 5), peek_two(s, q + 9)) {
+    if consumes(
+        s,
+        types,
+        structs,
+        peek_two(s, target + 5),
+        peek_two(s, q + 9),
+    ) {
         return Effect::Consume(name_at(s, q + 7), span_at(s, p + 1));
     }
     Effect::Nothing
@@ -215,7 +221,13 @@ fn move_ident(s: &[u8], names: &[usize], count: usize, first: usize, n: u16, p: 
 }
 
 // The move of the argument at `at`.
-fn validate_move_argument(s: &[u8], names: &[usize], count: usize, first: usize, at: usize) -> Effect
+fn validate_move_argument(
+    s: &[u8],
+    names: &[usize],
+    count: usize,
+    first: usize,
+    at: usize,
+) -> Effect
     requires { ⌜ AllWithin (now s) (now names) × (first + 6 * count ≤ length (now s)) × (at < length (now s) + 13) ⌝ }
     ensures { λ r. ⌜ ((T : Tables) → map (nameOf (now (s .entry))) (now (names .entry)) ≡ T .names
         → entries (globalIn (now (s .entry))) 6 count first ≡ T .globals
@@ -369,7 +381,16 @@ pub fn advance(
             inner: lower,
         };
     }
-    let effect = finish(s, names, types, structs, count, first, top.tag, wide32(top.start));
+    let effect = finish(
+        s,
+        names,
+        types,
+        structs,
+        count,
+        first,
+        top.tag,
+        wide32(top.start),
+    );
     Step {
         effect: effect,
         at: at + wide(LAST_WIDTH[wide(top.tag)]),
