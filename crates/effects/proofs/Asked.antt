@@ -2,18 +2,22 @@
 -- Assumes nothing.
 use mathlib.Core.Path.{_≡_, refl, sym, ap, _∙_, subst}
 use mathlib.Core.List.{List, [], _∷_, map}
-use mathlib.Core.Bool.{Bool, true, false}
-use Prim.Native.Nat.{ℕ, zero, suc, _≤_, _<_}
+use mathlib.Core.Bool.{Bool, false}
+use mathlib.Core.Option.{Option, none, some}
+use Prim.Native.Nat.{ℕ, zero, suc, _+_, _≤_, _<_}
 use native.Mathlib.Omega.{arith}
 use lib.ListN.{length, getD, take}
 use lib.Dec.{eqb}
+use Rattle.fields.specs.Number.{four}
+use Rattle.fields.specs.Bytes.{Bytes}
 use Rattle.fields.specs.Table.{entries}
 use Rattle.tables.specs.Tables.{Tables}
 use Rattle.tables.specs.Name.{nameOf, startsWith, sameBytes}
 use Rattle.tables.specs.Ty.{typeIn}
 use Rattle.tables.specs.Signature.{structIn, globalIn}
 use Rattle.lookup.specs.Name.{isTemp, isMove}
-use Rattle.lookup.specs.Signature.{modifierOf, isConsuming, globalOf}
+use Rattle.lookup.specs.Signature.{modifierOf, isConsuming, globalNo, globalOf}
+use Rattle.lookup.specs.First.{firstFrom, andThen}
 use Rattle.lookup.specs.Answer.{foundOf}
 use Rattle.lookup.specs.declared.Found.{Found}
 use Rattle.lookup.specs.declared.Found.the-variants.{At, Nothing}
@@ -24,7 +28,7 @@ use Rattle.image.specs.declared.Layout.{Layout}
 use Rattle.image.proofs.Asking.{Asking}
 use Rattle.rules.specs.Questions.{isTempOf, isMoveOf, consumes}
 use Rattle.rules.specs.Questions as questions
-use Rattle.effects.specs.Raw.{Raw, moves, movesGlobal, moveLocal, moveGlobal, moveIdent}
+use Rattle.effects.specs.Raw.{movesGlobal, moveLocal, moveGlobal, moveIdent}
 use Rattle.effects.specs.Scan.{Lent, Says}
 
 past : {A : Type 0} (f : ℕ → List A) (ns : List ℕ) (n : ℕ) → length ns ≤ n → getD (map f ns) n [] ≡ []
@@ -69,6 +73,30 @@ module _ (s ts xs : List ℕ) (T : Tables) (et : map (typeIn s) ts ≡ T .types)
   pub no-modifier : r ≡ Nothing → false ≡ consumes T ty m
   unfolding consumes isConsuming
   no-modifier e = sym (ap isConsuming (was-missing same e))
+
+-- places in bytes fit 32 bits
+module _ (s : List ℕ) (bytes : Bytes s) where
+  four-small : (p : ℕ) → four s p < 4294967296
+  four-small p =
+      let a = bytes p in
+      let b = bytes (p + 1) in
+      let c = bytes (p + 2) in
+      let d = bytes (p + 2 + 1) in
+      omega arith
+
+  span-small : (count first i : ℕ) → globalNo (entries (globalIn s) 6 count first) i .span < 4294967296
+  unfolding entries
+  span-small zero first i = omega arith
+  span-small (suc n) first zero = four-small (first + 2)
+  span-small (suc n) first (suc i) = span-small n (first + 6) i
+
+  pub global-small : (count first k : ℕ) {r : Found} {def : ℕ} → r ≡ foundOf (globalOf (entries (globalIn s) 6 count first) k) → r ≡ At def → def < 4294967296
+  unfolding globalOf andThen
+  global-small count first k er ed = go (firstFrom (λ x. eqb (x .name) k) 0 (entries (globalIn s) 6 count first)) (was-found er ed)
+    where
+      go : (o : Option ℕ) {def : ℕ} → andThen o (λ i. some (globalNo (entries (globalIn s) 6 count first) i .span)) ≡ some def → def < 4294967296
+      go none e = let z : _≡_ {A = ℕ} 0 1 = cc in absurd (omega arith)
+      go (some i) {def} e = let z : globalNo (entries (globalIn s) 6 count first) i .span ≡ def = cc in subst (λ x. x < 4294967296) z (span-small count first i)
 
 -- globals
 module _ (s : List ℕ) (count first : ℕ) (T : Tables) (e : entries (globalIn s) 6 count first ≡ T .globals) {k n : ℕ} (ek : k ≡ n) (p : ℕ) {r : Found}

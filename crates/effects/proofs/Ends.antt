@@ -1,10 +1,10 @@
 -- What a node does at its end, as the bytes say it.
 -- Assumes nothing.
 use mathlib.Core.Path.{_≡_, refl, sym, ap, _∙_, subst}
-use mathlib.Core.List.{List, [], _∷_, _++_}
+use mathlib.Core.List.{List, [], _∷_}
 use mathlib.Core.Bool.{Bool, true, false, cond}
-use mathlib.Core.Logic.{_⊎_, inl, inr}
-use Prim.Native.Nat.{ℕ, suc, _+_, _-_, _*_, _≤_, _<_}
+use mathlib.Core.Logic.{inl, inr}
+use Prim.Native.Nat.{ℕ, suc, _+_, _-_, _≤_, _<_}
 use native.Mathlib.Omega.{arith}
 use lib.ListN.{length, getD}
 use lib.Dec.{eqb}
@@ -14,14 +14,14 @@ use denote.Enum.Declared.{tagOf}
 use Rattle.fields.specs.Number.{two, four, numberIn}
 use Rattle.tables.specs.Tables.{Tables}
 use Rattle.body.specs.Expr.{Head, Expr, Exprs, node, none, more, argWidth, fixedCount, countWidth, lastWidth, headOf, through}
-use Rattle.body.specs.Stands.{Stands, StandAll, HeadStands, Placed, count}
-use Rattle.body.specs.Node.{nodeOf, nodeAt, kindOf}
+use Rattle.body.specs.Stands.{Stands, StandAll, count}
+use Rattle.body.specs.Node.{nodeOf, nodeAt}
 use Rattle.body.specs.declared.Node.{Node}
 use Rattle.body.specs.declared.Node.the-variants.{Ident, FieldAccess}
 use Rattle.body.proofs.Node.{the-type}
 use Rattle.body.proofs.Walking.{head-at, Looked, tag-of, others, not-kind, field, first-child}
-use Rattle.rules.specs.Questions.{isTempOf, isMoveOf, consumes}
-use Rattle.effects.specs.Raw.{Raw, gives, movesNone, consume, fieldCall, receiver, moveHead, moveIdent, moveLocal, moveFirst, finish}
+use Rattle.rules.specs.Questions.{isMoveOf, consumes}
+use Rattle.effects.specs.Raw.{Raw, gives, movesNone, consume, fieldCall, moveHead, moveIdent, moveLocal, moveFirst, finish}
 use Rattle.effects.proofs.Laws.{name-at}
 
 module _ (s : List ℕ) (p n : ℕ) (h : Head) where

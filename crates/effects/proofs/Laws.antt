@@ -2,9 +2,9 @@
 -- Assumes nothing.
 use mathlib.Core.Path.{_≡_, refl, sym, ap, _∙_, subst}
 use mathlib.Core.List.{List, [], _∷_, _++_, append-assoc, append-nil}
-use mathlib.Core.Bool.{Bool, true, false, cond, _&&_}
+use mathlib.Core.Bool.{Bool, true, false, cond}
 use mathlib.Core.Logic.{_⊎_, inl, inr, ⊎-elim}
-use Prim.Native.Nat.{ℕ, zero, suc, _+_, _≤_, _<_}
+use Prim.Native.Nat.{ℕ, suc, _+_, _≤_, _<_}
 use native.Mathlib.Omega.{arith}
 use native.Mathlib.Nat.{le-refl}
 use lib.ListN.{length, getD}
@@ -15,12 +15,12 @@ use Rattle.fields.proofs.Tests.{split, and-true, less}
 use Rattle.fields.proofs.Numbers.{past-end}
 use Rattle.tables.specs.Tables.{Tables}
 use Rattle.body.specs.Expr.{Head, Expr, Exprs, node, none, more, argWidth, fixedCount, countWidth, lastWidth, headOf, noopUnary, through, throughFirst}
-use Rattle.body.specs.Stands.{Stands, StandAll, HeadStands, Placed, count}
-use Rattle.body.specs.Depth.{depth, depthAll}
-use Rattle.body.proofs.Walking.{head-at, Looked}
+use Rattle.body.specs.Stands.{Stands, StandAll, HeadStands, count}
+use Rattle.body.specs.Depth.{depth}
+use Rattle.body.proofs.Walking.{head-at}
 use Rattle.rules.specs.Questions.{isTempOf}
 use Rattle.rules.specs.Effects.{handed, takes}
-use Rattle.effects.specs.Raw.{Raw, uses, hands, own, handName, handHead, handIf, finish, raws, group, leaf, leafOf}
+use Rattle.effects.specs.Raw.{Raw, uses, hands, handHead, handIf, finish, raws, group, leaf, leafOf}
 
 -- a byte that is not 0 stands within
 pub within : (s : List ℕ) (p k : ℕ) → getD s p 0 ≡ k → 0 < k → p < length s

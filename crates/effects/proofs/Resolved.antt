@@ -13,7 +13,7 @@ use Rattle.rules.specs.Questions.{isTempOf, isMoveOf, consumes, globalIn}
 use Rattle.rules.specs.Stack.{Shape, has}
 use Rattle.rules.specs.Effects.{Effect, handed, effects}
 use Rattle.rules.specs.Effects as whole
-use Rattle.effects.specs.Raw.{Raw, uses, hands, gives, moves, movesGlobal, movesNone, own, handName, handHead, handIf, consume, fieldCall, receiver, moveLocal, moveGlobal, moveIdent, moveHead, moveFirst, finish, raws, group, resolve, resolveAll}
+use Rattle.effects.specs.Raw.{Raw, uses, hands, gives, movesNone, own, handName, handHead, handIf, consume, fieldCall, receiver, moveLocal, moveGlobal, moveIdent, moveHead, moveFirst, finish, raws, group, resolve, resolveAll}
 
 -- a local that is a temporary, in either order
 and-by : (h t : Bool) (x : List Effect) → cond (h && t) x [] ≡ cond t (cond h x [] ++ []) []

@@ -1,10 +1,10 @@
 -- One step of the scanner.
 -- Assumes nothing.
 use mathlib.Core.Path.{_≡_, refl, sym, ap, _∙_, subst}
-use mathlib.Core.List.{List, [], _∷_, _++_, append-assoc, append-nil}
+use mathlib.Core.List.{List, [], _∷_, _++_}
 use mathlib.Core.Bool.{Bool, true, false, cond}
-use mathlib.Core.Logic.{_⊎_, inl, inr, ⊎-elim}
-use Prim.Native.Nat.{ℕ, zero, suc, max, _+_, _-_, _*_, _≤_, _<_}
+use mathlib.Core.Logic.{_⊎_, inl, ⊎-elim}
+use Prim.Native.Nat.{ℕ, _+_, _-_, _≤_, _<_}
 use native.Mathlib.Omega.{arith}
 use lib.ListN.{length, getD, set, length-set}
 use lib.Seq.{getD-set-same, getD-set-other}
@@ -16,16 +16,15 @@ use Rattle.tables.specs.Tables.{Tables}
 use Rattle.body.specs.Expr.{Head, Expr, Exprs, node, none, more, argWidth, fixedCount, countWidth, lastWidth, headOf, through}
 use Rattle.body.specs.Stands.{Stands, StandAll, HeadStands, Placed, count}
 use Rattle.body.specs.Depth.{depth, depthAll}
-use Rattle.body.proofs.Standing.{order, order-all, ends, none-or-two}
+use Rattle.body.proofs.Standing.{order-all, none-or-two}
 use Rattle.body.proofs.Walking.{head-at, Looked}
 use Rattle.rules.specs.Questions.{isMoveOf}
 use Rattle.rules.specs.Effects.{handed}
 use Rattle.effects.specs.Raw.{Raw, raws, group, finish, handIf, leafOf}
-use Rattle.effects.specs.Scan.{emits, blank, Stage, Fits, Stacked, rest, pending, rootOf, topOf, Ready, Waits, nodesAfter, openAfter, Next, Goes, fuel}
+use Rattle.effects.specs.Scan.{emits, blank, Stage, Fits, Stacked, rest, pending, topOf, Ready, Goes}
 use Rattle.effects.specs.declared.Effect.{Effect}
 use Rattle.effects.specs.declared.Effect.the-variants.{Nothing}
 use Rattle.effects.specs.declared.Open.{Open}
-use Rattle.effects.specs.declared.Step.{Step}
 use Rattle.effects.proofs.Laws.{through-depth, later, opened, regroup, inside-of, leaf-empty}
 
 -- the innermost open node

@@ -1,17 +1,17 @@
 -- The start and the end of a scan, for the loop that holds the array; and that a step leads on.
-use mathlib.Core.Path.{_≡_, refl, ap, _∙_}
-use mathlib.Core.Logic.{_⊎_, inl, inr}
-use mathlib.Core.List.{List, [], _∷_, _++_, append-nil}
-use Prim.Native.Nat.{ℕ, _+_, _-_, _≤_, _<_}
+use mathlib.Core.Path.{_≡_, refl, _∙_}
+use mathlib.Core.Logic.{inl}
+use mathlib.Core.List.{List, [], _∷_, append-nil}
+use Prim.Native.Nat.{ℕ, _-_, _≤_, _<_}
 use native.Mathlib.Omega.{arith}
-use lib.ListN.{length, getD, set, length-set}
+use lib.ListN.{length, length-set}
 use Rattle.tables.specs.Tables.{Tables}
-use Rattle.body.specs.Expr.{Head, Expr, Exprs, node, none, more, lastWidth}
-use Rattle.body.specs.Stands.{Stands, StandAll, count}
-use Rattle.body.specs.Depth.{depth, depthAll, Walkable}
+use Rattle.body.specs.Expr.{Expr, node, none, more, lastWidth}
+use Rattle.body.specs.Stands.{Stands, StandAll}
+use Rattle.body.specs.Depth.{depth, Walkable}
 use Rattle.rules.specs.Effects.{handed, takes}
-use Rattle.effects.specs.Raw.{Raw, raws, group, finish}
-use Rattle.effects.specs.Scan.{blank, Stage, Fits, Stacked, rest, pending, rootOf, topOf, Ready, Waits, Goes, nodesAfter, openAfter}
+use Rattle.effects.specs.Raw.{raws, group, finish}
+use Rattle.effects.specs.Scan.{Stage, Fits, Stacked, rest, pending, rootOf, topOf, Ready, Waits, Goes, nodesAfter, openAfter}
 use Rattle.effects.specs.declared.Open.{Open}
 use Rattle.effects.specs.declared.Step.{Step}
 

@@ -1,6 +1,6 @@
 -- What an expression does, as far as the tables and the expression alone say it: which names are locals is left to the stack.
 use Prim.Native.Nat.{ℕ}
-use mathlib.Core.Bool.{Bool, true, false, cond}
+use mathlib.Core.Bool.{Bool, cond}
 use mathlib.Core.List.{List, [], _∷_, _++_}
 use mathlib.Core.Option.{Option, some}
 use lib.ListN.{getD}
@@ -9,7 +9,7 @@ use Rattle.tables.specs.Tables.{Tables}
 use Rattle.body.specs.Expr.{Head, Expr, Exprs, node, none, more, countWidth, headOf, through}
 use Rattle.rules.specs.Questions.{isTempOf, isMoveOf, consumes, globalIn}
 use Rattle.rules.specs.Stack.{Shape, has}
-use Rattle.rules.specs.State.{Kind, moved, consumed}
+use Rattle.rules.specs.State.{moved, consumed}
 use Rattle.rules.specs.Effects.{Effect, use′, kill, hand, badMove, globalMove, handed}
 
 -- A use, the hand-over of a temporary and the consumption of a receiver have a name and a place; the move of an Ident or of

@@ -1,7 +1,7 @@
 // Hands out the effects of an expression one after another, in the order of mod.rs's validate_expr, as far as the tables and the
 // bytes say them: the caller asks its stack which names are locals.
 ghost use mathlib.Core.Path.{_≡_};
-ghost use mathlib.Core.Bool.{Bool, true, false};
+ghost use mathlib.Core.Bool.{true, false};
 ghost use mathlib.Core.List.{List, [], _∷_, map};
 ghost use Prim.Native.Nat.{ℕ, _+_, _-_, _*_, _≤_, _<_};
 ghost use lib.ListN.{length, getD};
@@ -48,7 +48,7 @@ pub enum Effect {
     Move(u16, u32),
     MoveTemp(u16, u32),
     BadMove(u32),
-    GlobalMove(u32, usize),
+    GlobalMove(u32, u32),
 }
 
 // An open node: where it starts, how many children are left of those being scanned, its tag, and the bytes of the count of its
@@ -187,13 +187,9 @@ fn consuming_method_receiver(s: &[u8], types: &[usize], structs: &[usize], at: u
     let Node::Ident(_) = body::node_at(s, q) else {
         return Effect::Nothing;
     };
-    if consumes(
-        s,
-        types,
-        structs,
-        peek_two(s, target + 5),
-        peek_two(s, q + 9),
-    ) {
+    let ty = peek_two(s, target + 5);
+    let method = peek_two(s, q + 9);
+    if consumes(s, types, structs, ty, method) {
         return Effect::Consume(name_at(s, q + 7), span_at(s, p + 1));
     }
     Effect::Nothing
@@ -215,7 +211,7 @@ fn move_ident(s: &[u8], names: &[usize], count: usize, first: usize, n: u16, p: 
         → entries (globalIn (now (s .entry))) 6 count first ≡ T .globals → emits r ≡ moveIdent T n p ∷ []) ⌝ }
 {
     match lookup::global_span(s, count, first, wide16(n)) {
-        lookup::Found::At(def) => Effect::GlobalMove(p, def),
+        lookup::Found::At(def) => Effect::GlobalMove(p, def as u32),
         lookup::Found::Nothing => move_local(s, names, n, p),
     }
 }
@@ -348,6 +344,26 @@ fn next_child(s: &[u8], names: &[usize], top: Open, at: usize) -> Step
     }
 }
 
+// The count of the items is read: these are the children now.
+fn count_items(s: &[u8], top: Open, at: usize) -> Step
+    requires { ⌜ Waits (now s) top at × (top .left ≤ 0) × (0 < top .counted) ⌝ }
+    ensures { λ r. ⌜ ((T : Tables) (os : List Open) (n : ℕ) → Ready (now (s .entry)) os n at → 0 < n → topOf os n ≡ top → Goes T (now (s .entry)) os n at r) ⌝ }
+{
+    let lower = Open {
+        start: top.start,
+        left: name_at(s, at),
+        tag: top.tag,
+        counted: 0,
+    };
+    Step {
+        effect: Effect::Nothing,
+        at: at + 2,
+        held: 1,
+        top: lower,
+        inner: lower,
+    }
+}
+
 // The next child begins, the count of the items is read, or the node ends.
 pub fn advance(
     s: &[u8],
@@ -367,33 +383,14 @@ pub fn advance(
         return next_child(s, names, top, at);
     }
     if 0 < top.counted {
-        let lower = Open {
-            start: top.start,
-            left: name_at(s, at),
-            tag: top.tag,
-            counted: 0,
-        };
-        return Step {
-            effect: Effect::Nothing,
-            at: at + 2,
-            held: 1,
-            top: lower,
-            inner: lower,
-        };
+        return count_items(s, top, at);
     }
-    let effect = finish(
-        s,
-        names,
-        types,
-        structs,
-        count,
-        first,
-        top.tag,
-        wide32(top.start),
-    );
+    let tag = top.tag;
+    let start = wide32(top.start);
+    let effect = finish(s, names, types, structs, count, first, tag, start);
     Step {
         effect: effect,
-        at: at + wide(LAST_WIDTH[wide(top.tag)]),
+        at: at + wide(LAST_WIDTH[wide(tag)]),
         held: 0,
         top: top,
         inner: top,

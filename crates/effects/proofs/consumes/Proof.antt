@@ -3,27 +3,19 @@ use Rattle.effects.proofs.Asked.{modifier-is, no-modifier}
 use borrow.Author.Needs.{needs}
 use Rattle.effects.proofs.consumes.Statement.{statement}
 use Rattle.effects.proofs.consumes.Tie as tie
-use Rattle.effects.proofs.consumes.Reads as reads
-use Rattle.effects.proofs.consumes.Lts as lts
-use Rattle.lookup.proofs.method_modifier.Reads as method-modifier-reads
 
--- src/lib.rt:131:11
 method-modifier-requires : tie.Need-method-modifier-requires
 method-modifier-requires c κs = search needs
 
--- src/lib.rt:132:27
 enum-known-k : tie.Need-enum-known-k
 enum-known-k c = search needs
 
--- src/lib.rt:133:35
 enum-told : tie.Need-enum-told
 enum-told c = search needs
 
--- src/lib.rt:126:1
 returns : tie.Need-returns
 returns c = λ T et ex. modifier-is (now (c .before .before .before .before .before .before .before .args .s)) (now (c .before .before .before .before .before .before .before .args .types)) (now (c .before .before .before .before .before .before .before .args .structs)) T et ex _ _ (c .before .before .before .method-modifier .ensures) (c .before .k .given .1)
 
--- src/lib.rt:126:1
 returns-2 : tie.Need-returns-2
 returns-2 c = λ T et ex. no-modifier (now (c .before .before .before .before .before .before .args .s)) (now (c .before .before .before .before .before .before .args .types)) (now (c .before .before .before .before .before .before .args .structs)) T et ex _ _ (c .before .before .method-modifier .ensures) (c .enum-told .given .1)
 

@@ -3,24 +3,16 @@ use Rattle.effects.proofs.Asked.{move-in, move-out}
 use borrow.Author.Needs.{needs}
 use Rattle.effects.proofs.is_move.Statement.{statement}
 use Rattle.effects.proofs.is_move.Tie as tie
-use Rattle.effects.proofs.is_move.Reads as reads
-use Rattle.effects.proofs.is_move.Lts as lts
-use Rattle.effects.proofs.wide16.Reads as wide16-reads
-use Rattle.lookup.proofs.is_move.Reads as is-move-reads
 
--- src/lib.rt:118:9
 wide16-requires : tie.Need-wide16-requires
 wide16-requires c κs = search needs
 
--- src/lib.rt:120:9
 is-move-requires : tie.Need-is-move-requires
 is-move-requires c κs = search needs
 
--- src/lib.rt:120:9
 returns : tie.Need-returns
 returns c = λ T e. move-in (now (c .before .before .before .before .before .args .s)) (now (c .before .before .before .before .before .args .names)) T e (c .before .before .wide16 .ensures) (c .before .if1 .taken) (c .is-move .ensures)
 
--- src/lib.rt:114:1
 returns-2 : tie.Need-returns-2
 returns-2 c = λ T e. move-out (now (c .before .before .before .before .args .s)) (now (c .before .before .before .before .args .names)) T e (c .before .wide16 .ensures) (c .if1 .left)
 

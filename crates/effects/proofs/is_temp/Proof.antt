@@ -3,24 +3,16 @@ use Rattle.effects.proofs.Asked.{temp-in, temp-out}
 use borrow.Author.Needs.{needs}
 use Rattle.effects.proofs.is_temp.Statement.{statement}
 use Rattle.effects.proofs.is_temp.Tie as tie
-use Rattle.effects.proofs.is_temp.Reads as reads
-use Rattle.effects.proofs.is_temp.Lts as lts
-use Rattle.effects.proofs.wide16.Reads as wide16-reads
-use Rattle.lookup.proofs.is_compiler_temp_name.Reads as is-compiler-temp-name-reads
 
--- src/lib.rt:106:9
 wide16-requires : tie.Need-wide16-requires
 wide16-requires c κs = search needs
 
--- src/lib.rt:108:9
 is-compiler-temp-name-requires : tie.Need-is-compiler-temp-name-requires
 is-compiler-temp-name-requires c κs = search needs
 
--- src/lib.rt:108:9
 returns : tie.Need-returns
 returns c = λ T e. temp-in (now (c .before .before .before .before .before .args .s)) (now (c .before .before .before .before .before .args .names)) T e (c .before .before .wide16 .ensures) (c .before .if1 .taken) (c .is-compiler-temp-name .ensures)
 
--- src/lib.rt:102:1
 returns-2 : tie.Need-returns-2
 returns-2 c = λ T e. temp-out (now (c .before .before .before .before .args .s)) (now (c .before .before .before .before .args .names)) T e (c .before .wide16 .ensures) (c .if1 .left)
 

@@ -1,54 +1,38 @@
 use denote.Ref.{now}
-use Prim.Native.Nat.{ℕ, _≤_, _<_}
-use mathlib.Core.Path.{_≡_, refl, sym, _∙_, subst}
+use Prim.Native.Nat.{_≤_, _<_}
+use mathlib.Core.Path.{subst}
 use Rattle.effects.proofs.Ends.{moves-first, moves-none, moves-other, named-by}
 use borrow.Author.Needs.{needs}
 use Rattle.effects.proofs.moves.Statement.{statement}
 use Rattle.effects.proofs.moves.Tie as tie
-use Rattle.effects.proofs.moves.Reads as reads
-use Rattle.effects.proofs.moves.Lts as lts
-use Rattle.effects.proofs.is_move.Reads as is-move-reads
-use Rattle.effects.proofs.name_at.Reads as name-at-reads
-use Rattle.effects.proofs.validate_move_argument.Reads as validate-move-argument-reads
-use Rattle.fields.proofs.peek_two.Reads as peek-two-reads
 
--- src/lib.rt:242:37
 add-name-at : tie.Need-add-name-at
 add-name-at c = search needs
 
--- src/lib.rt:242:26
 name-at-requires : tie.Need-name-at-requires
 name-at-requires c κs = search needs
 
--- src/lib.rt:242:8
 is-move-requires : tie.Need-is-move-requires
 is-move-requires c κs = search needs
 
--- src/lib.rt:243:28
 add-peek-two : tie.Need-add-peek-two
 add-peek-two c = search needs
 
--- src/lib.rt:243:16
 peek-two-requires : tie.Need-peek-two-requires
 peek-two-requires c κs = search needs
 
--- src/lib.rt:244:67
 add-validate-move-argument : tie.Need-add-validate-move-argument
 add-validate-move-argument c = search needs
 
--- src/lib.rt:244:13
 validate-move-argument-requires : tie.Need-validate-move-argument-requires
 validate-move-argument-requires c κs = search needs
 
--- src/lib.rt:244:13
 returns : tie.Need-returns
 returns c = λ T en eg e next st t. moves-first T (now (c .before .before .before .before .before .before .before .before .args .s)) (c .before .before .before .before .before .before .before .before .args .start) next e st t (named-by T (now (c .before .before .before .before .before .before .before .before .args .s)) (c .before .before .before .before .before .before .before .before .args .start) _ (c .before .before .before .before .before .name-at .ensures) (c .before .before .before .before .is-move .ensures T en) (c .before .before .before .if1 .taken)) (subst (λ x. 0 < x) (c .before .before .peek-two .ensures .0) (c .before .if2 .taken)) _ (c .validate-move-argument .ensures T en eg)
 
--- src/lib.rt:246:9
 returns-2 : tie.Need-returns-2
 returns-2 c = λ T en eg e next st t. moves-none T (now (c .before .before .before .before .before .before .before .args .s)) (c .before .before .before .before .before .before .before .args .start) next e st t (named-by T (now (c .before .before .before .before .before .before .before .args .s)) (c .before .before .before .before .before .before .before .args .start) _ (c .before .before .before .before .name-at .ensures) (c .before .before .before .is-move .ensures T en) (c .before .before .if1 .taken)) (subst (λ x. x ≤ 0) (c .before .peek-two .ensures .0) (c .if2 .left))
 
--- src/lib.rt:236:1
 returns-3 : tie.Need-returns-3
 returns-3 c = λ T en eg e next st t. moves-other T (now (c .before .before .before .before .before .args .s)) (c .before .before .before .before .before .args .start) next e st t (named-by T (now (c .before .before .before .before .before .args .s)) (c .before .before .before .before .before .args .start) _ (c .before .before .name-at .ensures) (c .before .is-move .ensures T en) (c .if1 .left))
 
