@@ -111,6 +111,13 @@ module _ (s : List ℕ) (count first : ℕ) (T : Tables) (e : entries (globalIn 
   pub no-global : r ≡ Nothing → moveLocal T n p ≡ moveIdent T n p
   no-global ed = sym (ap (moveGlobal T n p) (was-missing asked ed))
 
+-- some tables stand there
+abbrev pub tablesOf : List ℕ → List ℕ → List ℕ → List ℕ → ℕ → ℕ → Tables
+tablesOf s ns ts xs count first = record { names = map (nameOf s) ns; types = map (typeIn s) ts; structs = map (structIn s) xs; globals = entries (globalIn s) 6 count first }
+
+pub said : (s ns ts xs : List ℕ) (count first : ℕ) → Says s ns ts xs count first (tablesOf s ns ts xs count first)
+said s ns ts xs count first = record { names = refl; types = refl; structs = refl; globals = refl }
+
 -- what the reader of an image gives back is what is to be lent, and says the image's tables
 module _ (s : List ℕ) (i : Image) (l : Layout) (a : Asking s i l) (g : Laid s i l) where
   pub lent-of : Lent s (take (l .«name_count») (l .names)) (take (l .«type_count») (l .types)) (take (l .rest .«struct_count») (l .structs)) (l .rest .«global_count») (l .rest .globals)
