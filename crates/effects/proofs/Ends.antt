@@ -129,7 +129,7 @@ module _ (s : List ℕ) (at p : ℕ) (looked : Looked s at p) {v : Node} (ev : v
   no-field h T e next st = no-field-call T s p next (through e) (looked e next st) (not-kind 11 tt s p ev refl h)
 
   module _ {target : ℕ} (ef : v ≡ FieldAccess target) where
-    pub field-at : (target ≡ p + 7) × (getD s p 0 ≡ 11) × (p < length s)
+    field-at : (target ≡ p + 7) × (getD s p 0 ≡ 11) × (p < length s)
     field-at = field [] s at p looked ev ef
 
     module _ (q : ℕ) (inner : Looked s target q) {w : Node} (ew : w ≡ nodeAt s q) where
@@ -141,8 +141,12 @@ module _ (s : List ℕ) (at p : ℕ) (looked : Looked s at p) {v : Node} (ev : v
       no-ident h T e next st = not-ident T s p next q look-7 (through e) (looked e next st) (field-at .1) (not-kind 1 tt s q ew refl h)
 
       module _ {name : ℕ} (ei : w ≡ Ident name) where
-        pub ident-at : (getD s q 0 ≡ 1) × (q < length s)
+        ident-at : (getD s q 0 ≡ 1) × (q < length s)
         ident-at = tag-of s q (Ident name) (sym ei ∙ ew) (omega arith)
+
+        -- both stand within the bytes
+        pub within : (target ≡ p + 7) × (p < length s) × (q < length s)
+        within = (field-at .0, field-at .2, ident-at .1)
 
         module _ (T : Tables) (ty mt : ℕ) {b : Bool} (ey : ty ≡ two s (target + 5)) (em : mt ≡ two s (q + 9)) (eb : b ≡ consumes T ty mt) (e : Expr) (next : ℕ) (st : Stands e s at next) where
           all : (n sp : ℕ) → n ≡ two s (q + 7) → sp ≡ four s (p + 1) → cond b (gives n sp ∷ []) [] ≡ fieldCall T (through e)

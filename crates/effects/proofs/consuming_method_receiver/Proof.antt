@@ -1,6 +1,6 @@
 use denote.Ref.{now}
 use native.Mathlib.Omega.{arith}
-use Rattle.effects.proofs.Ends.{no-field, field-at, no-ident, ident-at, consumed-by, kept-by}
+use Rattle.effects.proofs.Ends.{no-field, no-ident, within, consumed-by, kept-by}
 use borrow.Author.Needs.{needs}
 use Rattle.effects.proofs.consuming_method_receiver.Statement.{statement}
 use Rattle.effects.proofs.consuming_method_receiver.Tie as tie
@@ -30,31 +30,31 @@ returns-2 : tie.Need-returns-2
 returns-2 c = λ T et ex. no-ident (now (c .before .before .before .before .before .before .before .before .before .before .before .args .s)) (c .before .before .before .before .before .before .before .before .before .before .before .args .at) _ (c .before .before .before .before .before .before .before .strip-noop-unary .ensures) (c .before .before .before .before .before .before .node-at .ensures) (c .before .before .before .before .target .given .1) _ (c .before .before .strip-noop-unary2 .ensures) (c .before .node-at2 .ensures) (c .match2 .keys2) T
 
 add-peek-two : tie.Need-add-peek-two
-add-peek-two c = let f = field-at (now (c .before .before .before .before .before .before .before .before .before .before .before .before .args .s)) (c .before .before .before .before .before .before .before .before .before .before .before .before .args .at) _ (c .before .before .before .before .before .before .before .before .strip-noop-unary .ensures) (c .before .before .before .before .before .before .before .node-at .ensures) (c .before .before .before .before .before .target .given .1) in omega arith
+add-peek-two c = let f = within (now (c .before .before .before .before .before .before .before .before .before .before .before .before .args .s)) (c .before .before .before .before .before .before .before .before .before .before .before .before .args .at) _ (c .before .before .before .before .before .before .before .before .strip-noop-unary .ensures) (c .before .before .before .before .before .before .before .node-at .ensures) (c .before .before .before .before .before .target .given .1) _ (c .before .before .before .strip-noop-unary2 .ensures) (c .before .before .node-at2 .ensures) (c .enum-told .given .1) in omega arith
 
 peek-two-requires : tie.Need-peek-two-requires
-peek-two-requires c κs = let f = field-at (now (c .before .before .before .before .before .before .before .before .before .before .before .before .args .s)) (c .before .before .before .before .before .before .before .before .before .before .before .before .args .at) _ (c .before .before .before .before .before .before .before .before .strip-noop-unary .ensures) (c .before .before .before .before .before .before .before .node-at .ensures) (c .before .before .before .before .before .target .given .1) in omega arith
+peek-two-requires c κs = let f = within (now (c .before .before .before .before .before .before .before .before .before .before .before .before .args .s)) (c .before .before .before .before .before .before .before .before .before .before .before .before .args .at) _ (c .before .before .before .before .before .before .before .before .strip-noop-unary .ensures) (c .before .before .before .before .before .before .before .node-at .ensures) (c .before .before .before .before .before .target .given .1) _ (c .before .before .before .strip-noop-unary2 .ensures) (c .before .before .node-at2 .ensures) (c .enum-told .given .1) in omega arith
 
 add-peek-two-2 : tie.Need-add-peek-two-2
-add-peek-two-2 c = let f = ident-at (now (c .before .before .before .before .before .before .before .before .before .before .before .before .before .args .s)) (c .before .before .before .before .before .before .before .before .before .before .before .before .before .args .at) _ (c .before .before .before .before .before .before .before .before .before .strip-noop-unary .ensures) (c .before .before .before .before .before .before .before .before .node-at .ensures) (c .before .before .before .before .before .before .target .given .1) _ (c .before .before .before .before .strip-noop-unary2 .ensures) (c .before .before .before .node-at2 .ensures) (c .before .enum-told .given .1) in omega arith
+add-peek-two-2 c = let f = within (now (c .before .before .before .before .before .before .before .before .before .before .before .before .before .args .s)) (c .before .before .before .before .before .before .before .before .before .before .before .before .before .args .at) _ (c .before .before .before .before .before .before .before .before .before .strip-noop-unary .ensures) (c .before .before .before .before .before .before .before .before .node-at .ensures) (c .before .before .before .before .before .before .target .given .1) _ (c .before .before .before .before .strip-noop-unary2 .ensures) (c .before .before .before .node-at2 .ensures) (c .before .enum-told .given .1) in omega arith
 
 peek-two-requires-2 : tie.Need-peek-two-requires-2
-peek-two-requires-2 c κs = let f = ident-at (now (c .before .before .before .before .before .before .before .before .before .before .before .before .before .args .s)) (c .before .before .before .before .before .before .before .before .before .before .before .before .before .args .at) _ (c .before .before .before .before .before .before .before .before .before .strip-noop-unary .ensures) (c .before .before .before .before .before .before .before .before .node-at .ensures) (c .before .before .before .before .before .before .target .given .1) _ (c .before .before .before .before .strip-noop-unary2 .ensures) (c .before .before .before .node-at2 .ensures) (c .before .enum-told .given .1) in omega arith
+peek-two-requires-2 c κs = let f = within (now (c .before .before .before .before .before .before .before .before .before .before .before .before .before .args .s)) (c .before .before .before .before .before .before .before .before .before .before .before .before .before .args .at) _ (c .before .before .before .before .before .before .before .before .before .strip-noop-unary .ensures) (c .before .before .before .before .before .before .before .before .node-at .ensures) (c .before .before .before .before .before .before .target .given .1) _ (c .before .before .before .before .strip-noop-unary2 .ensures) (c .before .before .before .node-at2 .ensures) (c .before .enum-told .given .1) in omega arith
 
 consumes-requires : tie.Need-consumes-requires
 consumes-requires c κs = search needs
 
 add-name-at : tie.Need-add-name-at
-add-name-at c = let f = ident-at (now (c .before .before .before .before .before .before .before .before .before .before .before .before .before .before .before .before .args .s)) (c .before .before .before .before .before .before .before .before .before .before .before .before .before .before .before .before .args .at) _ (c .before .before .before .before .before .before .before .before .before .before .before .before .strip-noop-unary .ensures) (c .before .before .before .before .before .before .before .before .before .before .before .node-at .ensures) (c .before .before .before .before .before .before .before .before .before .target .given .1) _ (c .before .before .before .before .before .before .before .strip-noop-unary2 .ensures) (c .before .before .before .before .before .before .node-at2 .ensures) (c .before .before .before .before .enum-told .given .1) in omega arith
+add-name-at c = let f = within (now (c .before .before .before .before .before .before .before .before .before .before .before .before .before .before .before .before .args .s)) (c .before .before .before .before .before .before .before .before .before .before .before .before .before .before .before .before .args .at) _ (c .before .before .before .before .before .before .before .before .before .before .before .before .strip-noop-unary .ensures) (c .before .before .before .before .before .before .before .before .before .before .before .node-at .ensures) (c .before .before .before .before .before .before .before .before .before .target .given .1) _ (c .before .before .before .before .before .before .before .strip-noop-unary2 .ensures) (c .before .before .before .before .before .before .node-at2 .ensures) (c .before .before .before .before .enum-told .given .1) in omega arith
 
 name-at-requires : tie.Need-name-at-requires
-name-at-requires c κs = let f = ident-at (now (c .before .before .before .before .before .before .before .before .before .before .before .before .before .before .before .before .args .s)) (c .before .before .before .before .before .before .before .before .before .before .before .before .before .before .before .before .args .at) _ (c .before .before .before .before .before .before .before .before .before .before .before .before .strip-noop-unary .ensures) (c .before .before .before .before .before .before .before .before .before .before .before .node-at .ensures) (c .before .before .before .before .before .before .before .before .before .target .given .1) _ (c .before .before .before .before .before .before .before .strip-noop-unary2 .ensures) (c .before .before .before .before .before .before .node-at2 .ensures) (c .before .before .before .before .enum-told .given .1) in omega arith
+name-at-requires c κs = let f = within (now (c .before .before .before .before .before .before .before .before .before .before .before .before .before .before .before .before .args .s)) (c .before .before .before .before .before .before .before .before .before .before .before .before .before .before .before .before .args .at) _ (c .before .before .before .before .before .before .before .before .before .before .before .before .strip-noop-unary .ensures) (c .before .before .before .before .before .before .before .before .before .before .before .node-at .ensures) (c .before .before .before .before .before .before .before .before .before .target .given .1) _ (c .before .before .before .before .before .before .before .strip-noop-unary2 .ensures) (c .before .before .before .before .before .before .node-at2 .ensures) (c .before .before .before .before .enum-told .given .1) in omega arith
 
 add-span-at : tie.Need-add-span-at
-add-span-at c = let f = field-at (now (c .before .before .before .before .before .before .before .before .before .before .before .before .before .before .before .before .before .args .s)) (c .before .before .before .before .before .before .before .before .before .before .before .before .before .before .before .before .before .args .at) _ (c .before .before .before .before .before .before .before .before .before .before .before .before .before .strip-noop-unary .ensures) (c .before .before .before .before .before .before .before .before .before .before .before .before .node-at .ensures) (c .before .before .before .before .before .before .before .before .before .before .target .given .1) in omega arith
+add-span-at c = let f = within (now (c .before .before .before .before .before .before .before .before .before .before .before .before .before .before .before .before .before .args .s)) (c .before .before .before .before .before .before .before .before .before .before .before .before .before .before .before .before .before .args .at) _ (c .before .before .before .before .before .before .before .before .before .before .before .before .before .strip-noop-unary .ensures) (c .before .before .before .before .before .before .before .before .before .before .before .before .node-at .ensures) (c .before .before .before .before .before .before .before .before .before .before .target .given .1) _ (c .before .before .before .before .before .before .before .before .strip-noop-unary2 .ensures) (c .before .before .before .before .before .before .before .node-at2 .ensures) (c .before .before .before .before .before .enum-told .given .1) in omega arith
 
 span-at-requires : tie.Need-span-at-requires
-span-at-requires c κs = let f = field-at (now (c .before .before .before .before .before .before .before .before .before .before .before .before .before .before .before .before .before .args .s)) (c .before .before .before .before .before .before .before .before .before .before .before .before .before .before .before .before .before .args .at) _ (c .before .before .before .before .before .before .before .before .before .before .before .before .before .strip-noop-unary .ensures) (c .before .before .before .before .before .before .before .before .before .before .before .before .node-at .ensures) (c .before .before .before .before .before .before .before .before .before .before .target .given .1) in omega arith
+span-at-requires c κs = let f = within (now (c .before .before .before .before .before .before .before .before .before .before .before .before .before .before .before .before .before .args .s)) (c .before .before .before .before .before .before .before .before .before .before .before .before .before .before .before .before .before .args .at) _ (c .before .before .before .before .before .before .before .before .before .before .before .before .before .strip-noop-unary .ensures) (c .before .before .before .before .before .before .before .before .before .before .before .before .node-at .ensures) (c .before .before .before .before .before .before .before .before .before .before .target .given .1) _ (c .before .before .before .before .before .before .before .before .strip-noop-unary2 .ensures) (c .before .before .before .before .before .before .before .node-at2 .ensures) (c .before .before .before .before .before .enum-told .given .1) in omega arith
 
 returns-3 : tie.Need-returns-3
 returns-3 c = λ T et ex e next st. consumed-by (now (c .before .before .before .before .before .before .before .before .before .before .before .before .before .before .before .before .before .before .args .s)) (c .before .before .before .before .before .before .before .before .before .before .before .before .before .before .before .before .before .before .args .at) _ (c .before .before .before .before .before .before .before .before .before .before .before .before .before .before .strip-noop-unary .ensures) (c .before .before .before .before .before .before .before .before .before .before .before .before .before .node-at .ensures) (c .before .before .before .before .before .before .before .before .before .before .before .target .given .1) _ (c .before .before .before .before .before .before .before .before .before .strip-noop-unary2 .ensures) (c .before .before .before .before .before .before .before .before .node-at2 .ensures) (c .before .before .before .before .before .before .enum-told .given .1) T _ _ (c .before .before .before .before .before .peek-two .ensures .0) (c .before .before .before .before .peek-two2 .ensures .0) (c .before .before .before .consumes .ensures T et ex) e next st (c .before .before .if1 .taken) (c .before .name-at .ensures) (c .span-at .ensures)
