@@ -36,6 +36,7 @@ const LAST_WIDTH: [u8; 16] = [0, 0, 0, 0, 0, 0, 0, 0, 0, 0, 0, 2, 0, 0, 0, 0];
 
 const TAKES: [u8; 16] = [0, 0, 0, 0, 0, 0, 1, 0, 1, 1, 0, 0, 0, 0, 0, 0];
 
+// 1 if nothing follows the head.
 const LEAVES: [u8; 16] = [0, 1, 1, 0, 0, 0, 0, 0, 0, 0, 0, 0, 0, 1, 0, 1];
 
 // A name and a place. UseHand is a use and then the hand-over of a temporary; MoveTemp a move of a temporary. BadMove, the move of
