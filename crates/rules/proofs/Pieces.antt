@@ -137,7 +137,7 @@ unfolding encode encodeBlock fourBytes twoBytes
 struck L s g i e =
     let D = decideBody (i .tables) (i .entry) (i .body) in
     let part : (b : Bool) (c : Tree) → size c ≡ size D + cond b (putIn D) 0 → bytesOf b (pieces D []) ≡ encodeCode c ++ []
-        → bytesOf b (imagePieces L i) ≡ L .version ∷ (encodeTables (i .tables) ++ (encodeEntry (i .entry) ++ encodeBlock (record { span = i .body .span; code = c }))) =
+    → bytesOf b (imagePieces L i) ≡ L .version ∷ (encodeTables (i .tables) ++ (encodeEntry (i .entry) ++ encodeBlock (record { span = i .body .span; code = c }))) =
     λ b c h k. ap₂ (λ (n : ℕ) (z : List ℕ). L .version ∷ (encodeTables (i .tables) ++ (encodeEntry (i .entry) ++ (fourBytes (i .body .span) ++ (twoBytes n ++ z))))) (sym h) (k ∙ append-nil (encodeCode c)) in
     record {
       given = ap (λ (z : List ℕ). fourBytes (length z) ++ z) (sym (part true (flatten D) (size-flatten D) (all-pieces D [])));

@@ -76,7 +76,7 @@ corners =
     ∷ asIs (param 1 ∷ []) (ifElse 21 literal 22 (moving 25 (v 26) (bareReturn 27 0 end)) 28 (bareReturn 29 0 end) end) (left 29 1 ∷ []) (alive ∷ [])
     -- K6: what stays is the state after the condition
     ∷ asIs (param 1 ∷ []) (ifElse 21 (move 40 (one (v 41))) 22 (assign 42 (v 43) literal 1 tt (bareReturn 27 0 end)) 28 (bareReturn 29 0 end) end)
-      (error 2 43 0 (41 ∷ []) ∷ left 27 1 ∷ []) (gone false moved (41 ∷ []) ∷ [])
+    (error 2 43 0 (41 ∷ []) ∷ left 27 1 ∷ []) (gone false moved (41 ∷ []) ∷ [])
     -- K7: a loop joins, even if its body returns
     ∷ asIs (param 1 ∷ []) (while 21 literal 22 (moving 25 (v 26) end) end) [] (gone true moved (26 ∷ []) ∷ [])
     ∷ asIs (param 1 ∷ []) (while 21 literal 22 (moving 25 (v 26) (bareReturn 27 0 end)) end) [] (gone true moved (26 ∷ []) ∷ [])
@@ -102,9 +102,9 @@ abbrev pub mistakes : List Row
 mistakes =
     asIs [] (variable false 21 1 1 literal (return 23 (move 24 (one (v 25))) 1 tt end)) [] []
     ∷ asIs (param 1 ∷ [])
-      (ifElse 21 literal 22 (ifElse 23 literal 24 (moving 25 (v 31) end) 26 (moving 27 (v 32) end) end) 28
-        (ifElse 33 literal 34 (moving 35 (v 32) end) 36 (moving 37 (v 30) end) end) end)
-      [] (gone false moved (31 ∷ 32 ∷ 30 ∷ []) ∷ [])
+    (ifElse 21 literal 22 (ifElse 23 literal 24 (moving 25 (v 31) end) 26 (moving 27 (v 32) end) end) 28
+    (ifElse 33 literal 34 (moving 35 (v 32) end) 36 (moving 37 (v 30) end) end) end)
+    [] (gone false moved (31 ∷ 32 ∷ 30 ∷ []) ∷ [])
     ∷ []
 
 pub mistakes-shut-out : map answer mistakes ≡ mistakes

@@ -47,9 +47,9 @@ module _ (L : Limits) where
         orElse (walkFault t (suc d) (evaluate states T e σ))
         (orElse (walkFault u (suc d) (evaluate states T e σ))
         (orElse (tooWide (not (sureFrom t false) && not (sureFrom u false))
-            (joins states (exit states T t (suc d) (evaluate states T e σ)) (exit states T u (suc d) (evaluate states T e σ))))
+        (joins states (exit states T t (suc d) (evaluate states T e σ)) (exit states T u (suc d) (evaluate states T e σ))))
         (walkFault r d
-            (merge states (sureFrom t false) (sureFrom u false) (evaluate states T e σ) (exit states T t (suc d) (evaluate states T e σ)) (exit states T u (suc d) (evaluate states T e σ))))))
+        (merge states (sureFrom t false) (sureFrom u false) (evaluate states T e σ) (exit states T t (suc d) (evaluate states T e σ)) (exit states T u (suc d) (evaluate states T e σ))))))
     walkFault (ifThen s e ts t r) d σ =
         orElse (walkFault t (suc d) (evaluate states T e σ))
         (orElse (tooWide (not (sureFrom t false)) (joins states (exit states T t (suc d) (evaluate states T e σ)) (evaluate states T e σ)))
