@@ -10,12 +10,12 @@ use lib.Dec.{ltb}
 use lib.ListN.{length}
 use Rattle.fields.proofs.Tests.{false-true}
 use Rattle.rules.specs.State.{State as Status, alive}
-use Rattle.rules.specs.Stack.{Static, local, inFrame, Stack as Scope}
+use Rattle.rules.specs.Stack.{local, inFrame, mark, Stack as Scope}
 use Rattle.rules.specs.Rules.{states, register}
+use Rattle.rules.proofs.Bools.{eqb-self}
 use Rattle.scope.specs.declared.Places.{Places}
 use Rattle.scope.specs.declared.Stack.{Stack}
-use Rattle.scope.specs.Kinds.{said, put}
-use Rattle.scope.specs.View.{listed, seen, view, Made, Sound, Registers}
+use Rattle.scope.specs.View.{view, Made, Sound, Registers}
 use Rattle.scope.proofs.Seen.{length-seen, pushed, pushed-view, pushed-sound}
 
 length-frame : (n d : ℕ) (f : Status → Status) (σ : Scope Status) → length (inFrame n d f σ) ≡ length σ
@@ -32,14 +32,20 @@ module _ (s : Stack) (name ty depth : ℕ) where
     is = λ t. false-true t;
   }
 
-  module _ (h : s .count < 64) (t : Stack) (g : Sound t) (same : t .count ≡ s .count) (is : view t ≡ inFrame name depth (λ (a : Status). alive) (view s))
-      (p : Places) (none : listed p ≡ []) (m : Made 0 p) where
-    pub registers-ok : Registers (record { ok = true; stack = pushed t (s .count) name ty depth 0 p }) (register states name ty depth (view s))
-    registers-ok = record {
+  -- the new local's frame is that of its name's newest local
+  mark-new : (σ : Scope Status) → mark name (λ (a : Status). alive) (local (record { name = name; ty = ty; depth = depth }) alive ∷ σ) ≡ register states name ty depth σ
+  mark-new σ = rw (eqb-self name)
+
+  module _ (h : s .count < 64) (g : Sound s) (p : Places) (m : Made 0 p) where
+    abbrev pub added : Stack
+    added = pushed s (s .count) name ty depth 0 p
+
+    pub added-sound : Sound added
+    added-sound = pushed-sound s (s .count) name ty depth 0 p g h refl m
+
+    pub registers-ok : (r : Stack) → Sound r → view r ≡ mark name (λ (a : Status). alive) (view added)
+        → Registers (record { ok = true; stack = r }) (register states name ty depth (view s))
+    registers-ok r gr is = record {
       ok = let l : length (register states name ty depth (view s)) ≤ 64 = rw registered-length (omega arith) in rw (le-ltb 64 _ l);
-      is = λ e. (
-        pushed-view t (s .count) name ty depth 0 p g h
-            ∙ ap (λ (σ : Scope Status). local (record { name = name; ty = ty; depth = depth }) alive ∷ σ) (ap (λ (k : ℕ). seen k t) (sym same) ∙ is),
-        pushed-sound t (s .count) name ty depth 0 p g h same m,
-      );
+      is = λ e. (is ∙ ap (mark name (λ (a : Status). alive)) (pushed-view s (s .count) name ty depth 0 p g h) ∙ mark-new (view s), gr);
     }

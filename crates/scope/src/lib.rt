@@ -6,7 +6,7 @@ ghost use Prim.Native.Nat.{ℕ, _≤_, _<_};
 ghost use lib.Dec.{eqb};
 ghost use Rattle.fields.specs.Table.{member};
 ghost use Rattle.rules.specs.State.{deleted, moved, consumed, alive, handState, placesEq, combine as combined, joinState};
-ghost use Rattle.rules.specs.Stack.{inFrame, mark as marked, pop};
+ghost use Rattle.rules.specs.Stack.{mark as marked, pop};
 ghost use Rattle.rules.specs.Rules.{states, register, joins};
 ghost use Rattle.scope.specs.Kinds.{said, baseOf, conditional as conditionalOf, family as familyOf, put};
 ghost use Rattle.scope.specs.View.{listed, stateOf, view, Roomy, Made, Sound, Framed, Branches, depthOf, Finds, Lives, Fits, Joins, JoinsAll, Registers};
@@ -352,14 +352,15 @@ impl Stack {
         }
     }
 
-    // A frame gives its locals of a name a state; where `only_alive`, those that live.
-    fn in_frame(mut self, name: u16, depth: u8, state: State, only_alive: bool) -> Stack
+    // The innermost frame that has the name gives its locals of the name a state; where `only_alive`, those that live.
+    fn mark(mut self, name: u16, state: State, only_alive: bool) -> Stack
         requires { ⌜ Sound self × Made (state .kind) (state .places) ⌝ }
-        ensures { λ r. ⌜ Sound r × (r .count ≡ self .count) × (view r ≡ inFrame name depth (put «only_alive» (stateOf state)) (view self)) ⌝ }
+        ensures { λ r. ⌜ Sound r × (view r ≡ marked name (put «only_alive» (stateOf state)) (view self)) ⌝ }
     {
+        let n = self.count;
+        let depth = frame_of(&self.names, &self.depths, n, name);
         let k = state.kind;
         let ps = state.places;
-        let n = self.count;
         let mut at = 0;
         while at < n {
             if is_marked(
@@ -376,16 +377,6 @@ impl Stack {
             at += 1;
         }
         self
-    }
-
-    // The innermost frame that has the name marks it.
-    fn mark(self, name: u16, state: State, only_alive: bool) -> Stack
-        requires { ⌜ Sound self × Made (state .kind) (state .places) ⌝ }
-        ensures { λ r. ⌜ Sound r × (view r ≡ marked name (put «only_alive» (stateOf state)) (view self)) ⌝ }
-    {
-        let count = self.count;
-        let depth = frame_of(&self.names, &self.depths, count, name);
-        self.in_frame(name, depth, state, only_alive)
     }
 
     pub fn mark_deleted(self, name: u16, place: u32) -> Stack
@@ -424,6 +415,7 @@ impl Stack {
         self.mark(name, State::at(2, place), true)
     }
 
+    // The new local, and its frame says the same of all its locals of the name.
     pub fn register_local(self, name: u16, ty: u16, depth: u8) -> Next
         requires { ⌜ Sound self ⌝ }
         ensures { λ r. ⌜ Registers r (register states name ty depth (view self)) ⌝ }
@@ -435,17 +427,18 @@ impl Stack {
                 stack: self,
             };
         }
-        let mut out = self.in_frame(name, depth, State::alive(), false);
         let p = Places::none();
+        let mut out = self;
         out.names[n] = name;
         out.types[n] = ty;
         out.depths[n] = depth;
         out.kinds[n] = 0;
         out.places[n] = p;
         out.count = n + 1;
+        let stack = out.mark(name, State::alive(), false);
         Next {
             ok: true,
-            stack: out,
+            stack: stack,
         }
     }
 
