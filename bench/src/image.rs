@@ -196,7 +196,7 @@ fn entry(out: &mut Written, entry: &Entry) {
     }
 }
 
-pub fn block(out: &mut Written, block: &Block) {
+fn block(out: &mut Written, block: &Block) {
     out.n4(block.span);
     out.count(block.statements.len());
     for s in &block.statements {
@@ -259,7 +259,7 @@ fn exprs(out: &mut Written, list: &[Expr]) {
     list.iter().for_each(|e| expr(out, e));
 }
 
-pub fn expr(out: &mut Written, e: &Expr) {
+fn expr(out: &mut Written, e: &Expr) {
     out.n1(tag(&e.node));
     out.n4(e.span);
     out.n2(e.ty);

@@ -2,6 +2,9 @@
 use crate::atlas_c::utils::Span;
 use std::cell::{Cell, RefCell};
 
+/// What the files of spans contain.
+pub const FILE: &str = "fun body() {}\n";
+
 pub type States = Vec<(String, u8, Vec<Span>)>;
 
 thread_local! {
@@ -35,7 +38,7 @@ pub fn ended(states: States) {
 
 /// The file of a span, from memory.
 pub fn file_content(_: &str) -> Result<String, std::io::Error> {
-    Ok("fun body() {}\n".to_string())
+    Ok(FILE.to_string())
 }
 
 /// The first fault since the last call, 0 if none, and the last states.

@@ -1,0 +1,1 @@
+pub fn speed(_: usize) -> i32 { 0 }
