@@ -20,6 +20,8 @@ pub struct Generator {
     receivers: Vec<TyNo>,
     /// fresh spans, or spans below this number
     spans: Spans,
+    /// few names, types and methods
+    small: bool,
     budget: usize,
 }
 
@@ -36,8 +38,10 @@ pub fn image(seed: u64) -> Image {
         hot_types: vec![],
         receivers: vec![],
         spans: Spans::Fresh(1),
+        small: false,
         budget: 0,
     };
+    g.small = g.random.chance(40);
     if g.random.chance(40) {
         g.spans = Spans::Below(g.random.one_of(&[2, 4, 9, 300]));
     }
@@ -71,7 +75,7 @@ impl Generator {
     fn names(&mut self) {
         let mut names: Vec<_> = NAMES.iter().map(|n| n.as_bytes().to_vec()).collect();
         self.random.shuffle(&mut names);
-        names.truncate(self.random.between(6, NAMES.len()));
+        names.truncate(if self.small { self.random.between(3, 7) } else { self.random.between(6, NAMES.len()) });
         names.insert(0, b"this".to_vec());
         if !names.iter().any(|n| n == b"std::move") {
             names.push(b"std::move".to_vec());
@@ -86,7 +90,7 @@ impl Generator {
     fn types(&mut self) {
         let shape_names: Vec<Name> = (0..4).map(|_| self.some_name()).collect();
         self.image.types.push(Ty::Plain);
-        for i in 1..self.random.between(3, 14) {
+        for i in 1..self.random.between(3, if self.small { 6 } else { 14 }) {
             let lower = self.random.below(i) as TyNo;
             let ty = match self.random.below(10) {
                 0 => Ty::Plain,
@@ -105,7 +109,7 @@ impl Generator {
 
     // Structs of most of the types' names, so that most named types have one.
     fn structs(&mut self) {
-        let mut names: Vec<Name> = (0..self.image.names.len() as Name).filter(|_| self.random.chance(20)).collect();
+        let mut names: Vec<Name> = (0..self.image.names.len() as Name).filter(|_| self.random.chance(if self.small { 0 } else { 20 })).collect();
         for t in self.image.types.clone() {
             if let Ty::Named(n) | Ty::Generic(n, _) = t
                 && self.random.chance(75)
