@@ -2,7 +2,7 @@
 use crate::adapter::{Marks, Numbers, ToHir, ToImage};
 use crate::answer::{self, Answer, Outcome};
 use crate::image::{self, Block, Image, Stmt};
-use crate::{reader, rules};
+use crate::{ours, reader, rules};
 use oracle::atlas_c::atlas_hir::arena::HirArena;
 
 /// What the images of a run had.
@@ -27,16 +27,20 @@ impl Seen {
     pub fn check(&mut self, label: &str, bytes: &[u8]) -> Option<Outcome> {
         self.images += 1;
         self.bytes += bytes.len();
-        let tree = match reader::read(bytes) {
+        let mut must = |what: &str, holds: bool| {
+            if !holds {
+                self.different.push((format!("{label}: {what}"), bytes.to_vec()));
+            }
+        };
+        let read = reader::read(bytes);
+        if let Some(fault) = ours::fault(bytes) {
+            must("the proved reader", fault == *read.as_ref().err().unwrap_or(&0));
+        }
+        let tree = match read {
             Ok(tree) => tree,
             Err(fault) => {
                 self.faults[fault as usize] += 1;
                 return Some(Err(fault));
-            }
-        };
-        let mut must = |what: &str, holds: bool| {
-            if !holds {
-                self.different.push((format!("{label}: {what}"), bytes.to_vec()));
             }
         };
         must("read and written again", image::write(&tree).bytes == bytes);

@@ -178,6 +178,21 @@ pub fn others() -> Vec<(String, Image)> {
     add("move of one twice", body(&[V], vec![run(20, std_move(21, vec![v(22), std_move(23, vec![v(24)])]))]));
     add("another intrinsic", body(&[V], vec![run(20, node(21, PLAIN, Node::Intrinsic(TAKE, vec![v(22)]))), made(23, v(24))]));
 
+    // the smallest on which the Rust panics if the file can't be read
+    let smallest = |names: &[&str], statements| Image {
+        names: names.iter().map(|n| n.as_bytes().to_vec()).collect(),
+        types: vec![Ty::Plain],
+        body: block(0, statements),
+        ..Image::default()
+    };
+    let mut global = smallest(&["this", "std::move"], vec![run(0, node(0, 0, Node::Intrinsic(1, vec![node(0, 0, Node::Ident(0))])))]);
+    global.globals = vec![(0, 0)];
+    add("smallest move of a global", global);
+    let mut unused = smallest(&["this"], vec![run(0, call(0, 1, node(0, 0, Node::Literal), vec![]))]);
+    unused.types.push(Ty::Named(0));
+    unused.structs = vec![Struct { name: 0, destructor: true, shape: 0, methods: vec![] }];
+    add("smallest unused result", unused);
+
     // consuming methods
     add("consuming", body(&[V], vec![taken(20, v(22)), made(23, v(24))]));
     add("consuming under unaries", body(&[V], vec![run(20, under(call(21, PLAIN, under(field(22, unary(23, T, 0, v(24)), TAKE)), vec![]))), made(25, v(26))]));

@@ -7,6 +7,7 @@ mod compare;
 mod corners;
 mod generator;
 mod image;
+mod ours;
 mod random;
 mod reader;
 mod rules;
@@ -33,11 +34,12 @@ fn command() -> i32 {
     match words[..] {
         ["compare", images, damaged, seed] => compare(images.parse().unwrap(), damaged.parse().unwrap(), seed.parse().unwrap()),
         ["answer"] => print_answer(),
+        ["image", label] => print_image(label),
         ["store", path] => stored::store(&files.from.join(path)),
         ["replay", path] => stored::replay(&files.from.join(path)),
         ["speed", runs] => speed::speed(runs.parse().unwrap()),
         _ => {
-            eprintln!("bench compare IMAGES DAMAGED SEED | answer < IMAGE | store FILE | replay FILE | speed RUNS");
+            eprintln!("bench compare IMAGES DAMAGED SEED | answer < IMAGE | image LABEL | store FILE | replay FILE | speed RUNS");
             2
         }
     }
@@ -54,9 +56,7 @@ impl Files {
         let from = std::env::current_dir().unwrap();
         let folder = std::env::temp_dir().join(format!("ownership-bench-{}", std::process::id()));
         std::fs::create_dir_all(&folder).unwrap();
-        for file in [adapter::FILE, adapter::DEFAULT_FILE] {
-            std::fs::write(folder.join(file), oracle::probe::FILE).unwrap();
-        }
+        write_files(&folder);
         std::env::set_current_dir(&folder).unwrap();
         Files { from, folder }
     }
@@ -71,7 +71,10 @@ impl Drop for Files {
 
 /// The whole comparison: 0 if nothing differs.
 fn compare(images: u64, damaged: u64, seed: u64) -> i32 {
-    let wrong = rows() + example() + fault_images();
+    let wrong = rows() + example() + fault_images() + unreadable();
+    if ours::fault(&[]).is_some() {
+        println!("the proved reader is asked for the fault of every image");
+    }
     let mut parts = vec![];
 
     let mut seen = Seen::default();
@@ -170,6 +173,40 @@ fn fault_images() -> usize {
     wrong + (at != data.len()) as usize
 }
 
+/// The corners with no file to read: the same answers, but for the Rust's two panics, where a global is moved and where a result is
+/// unused.
+fn unreadable() -> usize {
+    let corners: Vec<_> = corners::others().into_iter().chain(corners::rows().into_iter().map(|r| (r.label.to_string(), r.image))).collect();
+    let read = |tree: &image::Image| reader::read(&image::write(tree).bytes).unwrap();
+    let expected: Vec<_> = corners.iter().map(|(_, tree)| answer::of_image(&read(tree)).unwrap()).collect();
+    [adapter::FILE, adapter::DEFAULT_FILE].iter().for_each(|f| std::fs::remove_file(f).unwrap());
+    std::panic::set_hook(Box::new(|_| {}));
+    let (mut panics, mut wrong) = (0, 0);
+    for ((label, tree), with_file) in corners.iter().zip(&expected) {
+        let stops = !with_file.warnings.is_empty() || with_file.errors.iter().any(|e| e.kind == 8);
+        let tree = read(tree);
+        let right = match std::panic::catch_unwind(|| answer::of_image(&tree)) {
+            Ok(outcome) => !stops && outcome.as_ref() == Ok(with_file),
+            Err(_) => stops,
+        };
+        panics += stops as usize;
+        if !right {
+            println!("WRONG without a file: {label}");
+            wrong += 1;
+        }
+    }
+    let _ = std::panic::take_hook();
+    write_files(Path::new("."));
+    println!("without a file to read: {} corners, the same answers but for {panics} panics of the Rust, {wrong} wrong", corners.len());
+    wrong
+}
+
+fn write_files(folder: &Path) {
+    for file in [adapter::FILE, adapter::DEFAULT_FILE] {
+        std::fs::write(folder.join(file), oracle::probe::FILE).unwrap();
+    }
+}
+
 fn first_line(outcome: Option<&Outcome>) -> String {
     answer_text(outcome).lines().next().unwrap_or_default().to_string()
 }
@@ -193,6 +230,16 @@ fn answer_text(outcome: Option<&Outcome>) -> String {
     a.warnings.iter().for_each(|(span, offset)| text += &format!("warning {span} {offset}\n"));
     a.lefts.iter().for_each(|(span, name)| text += &format!("left {span} {name}\n"));
     text
+}
+
+/// The bytes of a corner or boundary, in hexadecimal.
+fn print_image(label: &str) -> i32 {
+    let rows = corners::rows().into_iter().map(|r| (r.label.to_string(), r.image));
+    let all = rows.chain(corners::others()).chain(boundaries::all());
+    let Some((_, tree)) = all.into_iter().find(|(l, _)| l == label) else { return 1 };
+    let hex: String = image::write(&tree).bytes.iter().map(|b| format!("{b:02x}")).collect();
+    println!("{hex}");
+    0
 }
 
 fn print_answer() -> i32 {
