@@ -1,7 +1,8 @@
-//! Between an image and the compiler's HIR. The compiler's own adapter does the same the other way round: it numbers the names, the
-//! type addresses and the spans of a body (`Numbers`), writes the body with these numbers, and makes HIR of what comes back, taking the
-//! fields that the pass never reads from the body it submitted. Here such fields are made up, each in many ways.
-use crate::image::{Block, Expr, Image, Name, Node, Shape, SpanNo, Stmt, Ty, TyNo};
+//! Between the compiler's HIR and an image. `ToImage::image` is what the compiler's own adapter does first: it numbers the names, type
+//! addresses and spans of a body as it comes to them, and writes the body and the tables that it needs. `ToHir` makes HIR of an image
+//! again; here it also makes up the fields that the pass never reads, each in many ways, where the compiler's adapter takes them from the
+//! body that it submitted.
+use crate::image::{Block, Entry, Expr, Image, Name, Node, Shape, SpanNo, Stmt, Struct, Ty, TyNo};
 use oracle::atlas_c::atlas_hir::arena::HirArena;
 use oracle::atlas_c::atlas_hir::expr::*;
 use oracle::atlas_c::atlas_hir::item::HirGlobalConst;
@@ -11,42 +12,47 @@ use oracle::atlas_c::atlas_hir::ty::*;
 use oracle::atlas_c::utils::Span;
 use std::collections::{BTreeMap, HashMap};
 
-/// The file of every span but 0; `Span::default()` has its own.
+/// The file of every span that is made up; `Span::default()` has its own.
 pub const FILE: &str = "body.atlas";
 pub const DEFAULT_FILE: &str = "<stdin>.atlas";
 
-/// Span number 0 is `Span::default()`; any other stands for the place of that number in one file.
-pub fn span_of(number: SpanNo) -> Span {
-    match number {
-        0 => Span::default(),
-        n => Span { start: n as usize, end: n as usize, path: FILE },
-    }
-}
-
-pub fn span_number(span: Span) -> SpanNo {
-    if span == Span::default() { 0 } else { span.start as SpanNo }
-}
-
-/// One number for each name and each type address, both ways.
+/// One number for each name, each type address and each span, both ways.
 pub struct Numbers<'hir> {
     pub names: Vec<&'hir str>,
     pub types: Vec<&'hir HirTy<'hir>>,
     name_numbers: HashMap<&'hir str, Name>,
     type_numbers: HashMap<*const HirTy<'hir>, TyNo>,
+    spans: Spans,
+}
+
+enum Spans {
+    /// of an image that is not a compiler's: number n is place n of one file
+    MadeUp,
+    /// in the order in which they were come to
+    Counted(Vec<Span>, HashMap<Span, SpanNo>),
 }
 
 impl<'hir> Numbers<'hir> {
-    /// `names` are the image's, as text.
+    /// Of a body that is to be numbered. Name 0 is `this`, type 0 plain (the type of a Delete), span 0 `Span::default()`.
+    pub fn new(unit: &'hir HirTy<'hir>) -> Self {
+        let spans = Spans::Counted(vec![], HashMap::new());
+        let mut numbers = Numbers { names: vec![], types: vec![], name_numbers: HashMap::new(), type_numbers: HashMap::new(), spans };
+        numbers.name_number("this");
+        numbers.ty_number(unit);
+        numbers.span_number(Span::default());
+        numbers
+    }
+
+    /// The numbers that an image has; `names` are its names as text.
     pub fn of(image: &Image, names: &'hir [String], arena: &'hir HirArena<'hir>) -> Self {
-        let mut numbers = Numbers { names: vec![], types: vec![], name_numbers: HashMap::new(), type_numbers: HashMap::new() };
-        for (i, name) in names.iter().enumerate() {
-            numbers.names.push(name);
-            numbers.name_numbers.insert(name, i as Name);
+        let spans = Spans::MadeUp;
+        let mut numbers = Numbers { names: vec![], types: vec![], name_numbers: HashMap::new(), type_numbers: HashMap::new(), spans };
+        for name in names {
+            numbers.name_number(name);
         }
         for (i, ty) in image.types.iter().enumerate() {
-            let made = arena.types().all.keep(numbers.ty_of(*ty, i));
-            numbers.types.push(made);
-            numbers.type_numbers.insert(made, i as TyNo);
+            let made = numbers.ty_of(*ty, i);
+            numbers.ty_number(arena.types().all.keep(made));
         }
         numbers
     }
@@ -91,14 +97,49 @@ impl<'hir> Numbers<'hir> {
         self.types[number as usize]
     }
 
-    pub fn name_number(&self, name: &str) -> Name {
-        self.name_numbers[name]
+    pub fn span(&self, number: SpanNo) -> Span {
+        match &self.spans {
+            Spans::MadeUp if number == 0 => Span::default(),
+            Spans::MadeUp => Span { start: number as usize, end: number as usize, path: FILE },
+            Spans::Counted(list, _) => list[number as usize],
+        }
     }
 
-    /// The number of an address. A Delete's type is a unit of its own, which is type 0.
-    pub fn ty_number(&self, ty: &'hir HirTy<'hir>) -> TyNo {
-        self.type_numbers[&(ty as *const _)]
+    /// The number of a name, a new one if it has none yet.
+    pub fn name_number(&mut self, name: &'hir str) -> Name {
+        *self.name_numbers.entry(name).or_insert_with(|| {
+            self.names.push(name);
+            self.names.len() as Name - 1
+        })
     }
+
+    /// The number of a type's address; what is inside has a lower one.
+    pub fn ty_number(&mut self, ty: &'hir HirTy<'hir>) -> TyNo {
+        if let Some(number) = self.type_numbers.get(&(ty as *const _)) {
+            return *number;
+        }
+        if let HirTy::InlineArray(HirInlineArrayTy { inner, .. }) | HirTy::PtrTy(HirPtrTy { inner, .. }) = ty {
+            self.ty_number(inner);
+        }
+        self.types.push(ty);
+        self.type_numbers.insert(ty, self.types.len() as TyNo - 1);
+        self.types.len() as TyNo - 1
+    }
+
+    pub fn span_number(&mut self, span: Span) -> SpanNo {
+        match &mut self.spans {
+            Spans::MadeUp => made_up_number(span),
+            Spans::Counted(list, numbers) => *numbers.entry(span).or_insert_with(|| {
+                list.push(span);
+                list.len() as SpanNo - 1
+            }),
+        }
+    }
+}
+
+/// The number of a span that was made up.
+pub fn made_up_number(span: Span) -> SpanNo {
+    if span == Span::default() { 0 } else { span.start as SpanNo }
 }
 
 /// A shape is one list of inner types; shape 0 is none that a struct has.
@@ -119,7 +160,7 @@ pub fn signature<'hir>(image: &Image, numbers: &Numbers<'hir>, arena: &'hir HirA
     }
     for (name, span) in &image.globals {
         let name = numbers.name(*name);
-        all.global_consts.insert(name, arena.globals.keep(HirGlobalConst { name, span: span_of(*span) }));
+        all.global_consts.insert(name, arena.globals.keep(HirGlobalConst { name, span: numbers.span(*span) }));
     }
     all
 }
@@ -239,7 +280,7 @@ pub struct ToHir<'a, 'hir> {
 impl<'hir> ToHir<'_, 'hir> {
     fn span(&mut self, span: SpanNo, bare_return: bool, callee: Option<usize>) -> Span {
         if !self.marks.on {
-            return span_of(span);
+            return self.numbers.span(span);
         }
         self.marks.marked.push(Marked { span, bare_return, callee });
         Span { start: self.marks.marked.len() - 1, end: MARK, path: FILE }
@@ -311,7 +352,7 @@ impl<'hir> ToHir<'_, 'hir> {
     }
 
     fn expr(&mut self, e: &Expr) -> HirExpr<'hir> {
-        let (span, ty, vary) = (span_of(e.span), self.ty(e.ty), e.span.wrapping_add(e.at as u32));
+        let (span, ty, vary) = (self.numbers.span(e.span), self.ty(e.ty), e.span.wrapping_add(e.at as u32));
         match &e.node {
             Node::Ident(name) => HirExpr::Ident(HirIdentExpr { name: self.name(*name), span, ty }),
             Node::This => HirExpr::ThisLiteral(HirThisLiteral { span, ty }),
@@ -401,22 +442,78 @@ fn literal<'hir>(vary: u32, span: Span, ty: &'hir HirTy<'hir>) -> HirExpr<'hir> 
 // ---- HIR to image ----
 
 pub struct ToImage<'a, 'hir> {
-    pub numbers: &'a Numbers<'hir>,
+    pub numbers: &'a mut Numbers<'hir>,
+}
+
+/// A body as the compiler has it.
+pub struct Submitted<'a, 'hir> {
+    pub signature: &'a HirModuleSignature<'hir>,
+    /// the entry byte, and the type of `this` under 2 to 4
+    pub receiver: u8,
+    pub this: &'hir HirTy<'hir>,
+    pub params: &'a [HirFunctionParameterSignature<'hir>],
+    pub body: &'a HirBlock<'hir>,
 }
 
 impl<'hir> ToImage<'_, 'hir> {
-    pub fn block(&self, block: &HirBlock<'hir>) -> Block {
-        Block { span: span_number(block.span), statements: block.statements.iter().map(|s| self.stmt(s)).collect() }
+    /// The image of a body: only the structs, methods and globals that its types and names lead to.
+    pub fn image(&mut self, s: &Submitted<'_, 'hir>) -> Image {
+        let this = if s.receiver >= 2 { self.numbers.ty_number(s.this) } else { 0 };
+        let params = s.params.iter().map(|p| (self.numbers.name_number(p.name), self.numbers.ty_number(p.ty))).collect();
+        let body = self.block(s.body);
+        let mut shapes = Shapes::default();
+        let types = self.types(&mut shapes);
+        let structs = self.structs(s.signature, &mut shapes);
+        let used: Vec<_> = s.signature.global_consts.iter().filter(|g| self.numbers.name_numbers.contains_key(g.0)).collect();
+        let globals = used.into_iter().map(|(name, g)| (self.numbers.name_number(name), self.numbers.span_number(g.span))).collect();
+        let names = self.numbers.names.iter().map(|n| n.as_bytes().to_vec()).collect();
+        Image { names, types, structs, globals, entry: Entry { receiver: s.receiver, this, params }, body }
     }
 
-    fn stmt(&self, s: &HirStatement<'hir>) -> Stmt {
-        let span = span_number(s.span());
+    fn types(&mut self, shapes: &mut Shapes<'hir>) -> Vec<Ty> {
+        let kind = |numbers: &mut Numbers<'hir>, ty: &'hir HirTy<'hir>, shapes: &mut Shapes<'hir>| match ty {
+            HirTy::Named(t) => Ty::Named(numbers.name_number(t.name)),
+            HirTy::Generic(t) => Ty::Generic(numbers.name_number(t.name), shapes.number(t)),
+            HirTy::InlineArray(t) => Ty::Array(numbers.ty_number(t.inner)),
+            HirTy::PtrTy(t) => Ty::Pointer(numbers.ty_number(t.inner)),
+            _ => Ty::Plain,
+        };
+        self.numbers.types.clone().into_iter().map(|ty| kind(self.numbers, ty, shapes)).collect()
+    }
+
+    // The map is in the order of the names' bytes, as the image's table.
+    fn structs(&mut self, signature: &HirModuleSignature<'hir>, shapes: &mut Shapes<'hir>) -> Vec<Struct> {
+        let mut list = vec![];
+        for (name, s) in &signature.structs {
+            let shape = s.pre_mangled_ty.map_or(0, |pre| shapes.known(pre));
+            if shape == 0 && !self.numbers.name_numbers.contains_key(name) {
+                continue;
+            }
+            let used = s.methods.iter().filter_map(|(method, m)| Some((*self.numbers.name_numbers.get(method)?, modifier_byte(&m.modifier))));
+            let methods = used.collect();
+            list.push(Struct { name: self.numbers.name_number(name), destructor: s.destructor.is_some(), shape, methods });
+        }
+        list
+    }
+
+    pub fn block(&mut self, block: &HirBlock<'hir>) -> Block {
+        let span = self.numbers.span_number(block.span);
+        Block { span, statements: block.statements.iter().map(|s| self.stmt(s)).collect() }
+    }
+
+    fn stmt(&mut self, s: &HirStatement<'hir>) -> Stmt {
+        if let HirStatement::Block(inner) = s {
+            return Stmt::Block(self.block(inner));
+        }
+        let span = self.numbers.span_number(s.span());
         match s {
-            HirStatement::Block(inner) => Stmt::Block(self.block(inner)),
-            HirStatement::Return(r) => Stmt::Return { span, value: r.value.as_ref().map(|e| self.expr(e)), ty: self.numbers.ty_number(r.ty) },
+            HirStatement::Block(_) => unreachable!(),
+            HirStatement::Return(r) => {
+                Stmt::Return { span, value: r.value.as_ref().map(|e| self.expr(e)), ty: self.numbers.ty_number(r.ty) }
+            }
             HirStatement::Expr(e) => Stmt::Expr { span, expr: self.expr(&e.expr) },
-            HirStatement::Let(v) => self.variable(false, v),
-            HirStatement::Const(v) => self.variable(true, v),
+            HirStatement::Let(v) => self.variable(false, span, v),
+            HirStatement::Const(v) => self.variable(true, span, v),
             HirStatement::Assign(a) => {
                 Stmt::Assign { span, dst: self.expr(&a.dst), val: self.expr(&a.val), ty: self.numbers.ty_number(a.ty) }
             }
@@ -432,20 +529,20 @@ impl<'hir> ToImage<'_, 'hir> {
         }
     }
 
-    fn variable(&self, constant: bool, v: &HirVariableStmt<'hir>) -> Stmt {
+    fn variable(&mut self, constant: bool, span: SpanNo, v: &HirVariableStmt<'hir>) -> Stmt {
         let (name, ty) = (self.numbers.name_number(v.name), self.numbers.ty_number(v.ty));
-        Stmt::Variable { constant, span: span_number(v.span), name, ty, value: self.expr(&v.value) }
+        Stmt::Variable { constant, span, name, ty, value: self.expr(&v.value) }
     }
 
-    fn boxed(&self, e: &HirExpr<'hir>) -> Box<Expr> {
+    fn boxed(&mut self, e: &HirExpr<'hir>) -> Box<Expr> {
         Box::new(self.expr(e))
     }
 
-    fn exprs(&self, list: &[HirExpr<'hir>]) -> Vec<Expr> {
+    fn exprs(&mut self, list: &[HirExpr<'hir>]) -> Vec<Expr> {
         list.iter().map(|e| self.expr(e)).collect()
     }
 
-    fn expr(&self, e: &HirExpr<'hir>) -> Expr {
+    fn expr(&mut self, e: &HirExpr<'hir>) -> Expr {
         let node = match e {
             HirExpr::Ident(x) => {
                 assert_eq!(x.span, e.span());
@@ -479,8 +576,36 @@ impl<'hir> ToImage<'_, 'hir> {
             | HirExpr::StringLiteral(_)
             | HirExpr::NullLiteral(_) => Node::Literal,
         };
+        // a Delete has no type field; `HirExpr::ty` gives it a unit of its own, which is type 0
         let ty = if let Node::Delete(_) = node { 0 } else { self.numbers.ty_number(e.ty()) };
-        Expr { span: span_number(e.span()), ty, at: 0, node }
+        Expr { span: self.numbers.span_number(e.span()), ty, at: 0, node }
+    }
+}
+
+/// One number, from 1, for each name with inner types that a generic type of the body has.
+#[derive(Default)]
+struct Shapes<'hir>(Vec<(&'hir str, Vec<HirTy<'hir>>)>);
+
+impl<'hir> Shapes<'hir> {
+    fn number(&mut self, ty: &HirGenericTy<'hir>) -> Shape {
+        if self.known(ty) == 0 {
+            self.0.push((ty.name, ty.inner.clone()));
+        }
+        self.known(ty)
+    }
+
+    /// 0 if no type of the body has it
+    fn known(&self, ty: &HirGenericTy<'hir>) -> Shape {
+        self.0.iter().position(|(name, inner)| *name == ty.name && *inner == ty.inner).map_or(0, |i| i as Shape + 1)
+    }
+}
+
+fn modifier_byte(modifier: &HirStructMethodModifier) -> u8 {
+    match modifier {
+        HirStructMethodModifier::Static => 0,
+        HirStructMethodModifier::Const => 1,
+        HirStructMethodModifier::Mutable => 2,
+        HirStructMethodModifier::Consuming => 3,
     }
 }
 

@@ -1,5 +1,5 @@
 //! What the Rust answers for an image, in document 01's numbers.
-use crate::adapter::{self, Marks, Numbers, ToHir, ToImage, mark_of, span_number};
+use crate::adapter::{self, Marks, Numbers, ToHir, ToImage, made_up_number as span_number, mark_of};
 use crate::image::{self, Image, Name, SpanNo, Ty};
 use crate::reader;
 use oracle::atlas_c::atlas_hir::arena::HirArena;
@@ -85,7 +85,7 @@ pub fn texts(image: &Image) -> Vec<String> {
 pub fn of_image(image: &Image) -> Outcome {
     let names = texts(image);
     let arena = HirArena::new();
-    let numbers = Numbers::of(image, &names, &arena);
+    let mut numbers = Numbers::of(image, &names, &arena);
     let setting = Setting { image, numbers: &numbers, arena: &arena };
 
     let (fault, states) = probed(&setting);
@@ -93,8 +93,6 @@ pub fn of_image(image: &Image) -> Outcome {
         return Err(fault);
     }
     let (body, errors, spans) = setting.run(&mut ToHir { numbers: &numbers, marks: Marks::default() });
-    let written = image::write(&Image { body: ToImage { numbers: &numbers }.block(&body), ..image.clone() });
-
     let mut marking = ToHir { numbers: &numbers, marks: Marks { on: true, ..Marks::default() } };
     let (marked, again, marks) = setting.run(&mut marking);
     assert_eq!(errors, again, "marks change no error");
@@ -102,8 +100,10 @@ pub fn of_image(image: &Image) -> Outcome {
     let warnings: Vec<_> = marks.iter().map(|m| (marked_at(m).span, marked_at(m).callee.expect("a call"))).collect();
     let warned: Vec<_> = spans.iter().map(|s| span_number(*s)).collect();
     assert_eq!(warned, warnings.iter().map(|w| w.0).collect::<Vec<_>>(), "marks change no warning");
+    let marks = marking.marks;
     let mut lefts = vec![];
-    left_behind(&marked, &marking.marks, &numbers, &mut lefts);
+    left_behind(&marked, &marks, &mut numbers, &mut lefts);
+    let written = image::write(&Image { body: ToImage { numbers: &mut numbers }.block(&body), ..image.clone() });
 
     Ok(Answer { output: written.bytes, counts_fit: written.counts_fit, errors, warnings, lefts, states })
 }
@@ -187,7 +187,7 @@ fn hint_of(text: &str) -> u32 {
 }
 
 // In a body with marks, what stands before a return that was bare and has no mark was inserted there: all deletes of locals.
-fn left_behind(block: &HirBlock<'_>, marks: &Marks, numbers: &Numbers<'_>, lefts: &mut Vec<(SpanNo, Name)>) {
+fn left_behind<'hir>(block: &HirBlock<'hir>, marks: &Marks, numbers: &mut Numbers<'hir>, lefts: &mut Vec<(SpanNo, Name)>) {
     let mut inserted = vec![];
     for s in &block.statements {
         if s.span() == Span::default() {
@@ -213,7 +213,7 @@ fn left_behind(block: &HirBlock<'_>, marks: &Marks, numbers: &Numbers<'_>, lefts
     }
 }
 
-fn deleted_name(s: &HirStatement<'_>, numbers: &Numbers<'_>) -> Name {
+fn deleted_name<'hir>(s: &HirStatement<'hir>, numbers: &mut Numbers<'hir>) -> Name {
     if let HirStatement::Expr(e) = s
         && let HirExpr::Delete(d) = &e.expr
         && let HirExpr::Ident(id) = &*d.expr

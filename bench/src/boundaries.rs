@@ -27,6 +27,13 @@ pub fn all() -> Vec<(String, Image)> {
     }
     // the ninth place comes where a branch returns, so no join is made of it
     add("8 places and a ninth that returns".into(), body(&[V], [chain(8), vec![when(20, block(21, vec![moving(22, ident(23, V)), back(24)]), None)]].concat()));
+    for (label, then, other) in [("then", true, false), ("else", false, true), ("both", true, true)] {
+        let branch = |place, returns| block(21, [vec![moving(22, ident(place, V))], vec![back(24); returns as usize]].concat());
+        let last = when(20, branch(70, then), Some(branch(71, other)));
+        add(format!("8 places and more that return by {label}"), body(&[V], [chain(8), vec![last.clone()]].concat()));
+        let inner = when(25, block(26, vec![moving(27, ident(72, V))]), None);
+        add(format!("a ninth place before a return by {label}"), body(&[V], [chain(8), vec![when(28, block(29, vec![inner, last]), None)]].concat()));
+    }
     add("8 places, one again".into(), body(&[V], [chain(8), chain(8), vec![run(90, ident(91, V))]].concat()));
     for n in [12, 13] {
         add(format!("blocks {n} deep"), Image { body: nested(n), ..tables() });

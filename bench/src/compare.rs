@@ -1,6 +1,6 @@
 //! One image through everything: what must agree, and what was seen.
-use crate::adapter::{Marks, Numbers, ToHir, ToImage};
-use crate::answer::{self, Answer, Outcome};
+use crate::adapter::{self, Marks, Numbers, Submitted, ToHir, ToImage};
+use crate::answer::{self, Answer, Error, Outcome};
 use crate::image::{self, Block, Image, Stmt};
 use crate::{ours, reader, rules};
 use oracle::atlas_c::atlas_hir::arena::HirArena;
@@ -27,6 +27,7 @@ impl Seen {
     pub fn check(&mut self, label: &str, bytes: &[u8]) -> Option<Outcome> {
         self.images += 1;
         self.bytes += bytes.len();
+        let once = self.images % 8 != 0;
         let mut must = |what: &str, holds: bool| {
             if !holds {
                 self.different.push((format!("{label}: {what}"), bytes.to_vec()));
@@ -50,10 +51,11 @@ impl Seen {
         }
         must("image to HIR to image", round_trip(&tree) == bytes);
         let rust = answer::of_image(&tree);
-        let again = answer::of_image(&tree);
-        must("the Rust twice", rust == again);
+        // its maps are hashed anew each time; now and then it is asked twice
+        must("the Rust twice", once || answer::of_image(&tree) == rust);
         must("the definitions and the Rust", rules::of_image(&tree) == rust);
         if let Ok(a) = &rust {
+            must("the compiler's way", compiler_way(&tree, a));
             must("the room's bound", a.output.len() <= bytes.len() + room_bound(&tree));
             must("the returned image is read", returned_is_read(a));
         }
@@ -100,9 +102,44 @@ fn numbered(list: &[usize]) -> String {
 fn round_trip(tree: &Image) -> Vec<u8> {
     let names = answer::texts(tree);
     let arena = HirArena::new();
-    let numbers = Numbers::of(tree, &names, &arena);
+    let mut numbers = Numbers::of(tree, &names, &arena);
     let hir = ToHir { numbers: &numbers, marks: Marks::default() }.block(&tree.body);
-    image::write(&Image { body: ToImage { numbers: &numbers }.block(&hir), ..tree.clone() }).bytes
+    image::write(&Image { body: ToImage { numbers: &mut numbers }.block(&hir), ..tree.clone() }).bytes
+}
+
+/// The way of the compiler: HIR, an image with numbers of its own, its answer, and HIR again. Told in the numbers of the first image the
+/// answer must be the same, but for the places in the image that its warnings name.
+fn compiler_way(tree: &Image, rust: &Answer) -> bool {
+    let names = answer::texts(tree);
+    let arena = HirArena::new();
+    let mut numbers = Numbers::of(tree, &names, &arena);
+    let signature = adapter::signature(tree, &numbers, &arena);
+    let params = adapter::params(tree, &numbers);
+    let body = ToHir { numbers: &numbers, marks: Marks::default() }.block(&tree.body);
+    let submitted =
+        Submitted { signature: &signature, receiver: tree.entry.receiver, this: numbers.ty(tree.entry.this), params: &params, body: &body };
+
+    let mut own = Numbers::new(numbers.ty(0));
+    let image = ToImage { numbers: &mut own }.image(&submitted);
+    let Ok(read) = reader::read(&image::write(&image).bytes) else { return false };
+    let Ok(answer) = answer::of_image(&read) else { return false };
+
+    let mut back = |span| numbers.span_number(own.span(span));
+    let errors: Vec<_> = answer
+        .errors
+        .into_iter()
+        .map(|e| Error { place: back(e.place), others: e.others.into_iter().map(&mut back).collect(), ..e })
+        .collect();
+    let warned: Vec<_> = answer.warnings.iter().map(|w| back(w.0)).collect();
+    let lefts: Vec<_> = answer.lefts.iter().map(|l| (back(l.0), l.1)).collect();
+    let lefts: Vec<_> = lefts.into_iter().map(|l| (l.0, numbers.name_number(own.name(l.1)))).collect();
+    let same_reports =
+        errors == rust.errors && lefts == rust.lefts && warned == rust.warnings.iter().map(|w| w.0).collect::<Vec<_>>();
+    // an output that is no image can't be read
+    let Ok(returned) = reader::read(&answer.output) else { return same_reports };
+    let body = ToHir { numbers: &own, marks: Marks::default() }.block(&returned.body);
+    let output = image::write(&Image { body: ToImage { numbers: &mut numbers }.block(&body), ..tree.clone() });
+    same_reports && output.bytes == rust.output
 }
 
 // The returned image is an image, but for its length, its counts, and the depth of a call 24 deep that was wrapped.

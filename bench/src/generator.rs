@@ -224,7 +224,15 @@ impl Generator {
             }
             94..96 => out.push(Stmt::Break(self.span())),
             96..98 => out.push(Stmt::Continue(self.span())),
-            98 if deeper && self.random.chance(20) => self.many_places(out),
+            98 if deeper && self.random.chance(50) => self.many_places(out),
+            98 if self.random.chance(5) => {
+                let levels = self.random.between(19, 24);
+                out.push(self.deep(levels));
+            }
+            98 if deeper && self.random.chance(5) => {
+                let levels = self.random.between(11 - depth.min(10), 13 - depth.min(12));
+                out.push(self.nested(levels));
+            }
             99 if self.random.chance(10) => (0..self.random.between(50, 66)).for_each(|_| out.push(self.variable())),
             _ => out.push(self.expr_stmt()),
         }
@@ -243,6 +251,38 @@ impl Generator {
                 Stmt::IfElse { span, condition, then, other: None }
             });
         }
+    }
+
+    // A call under so many nodes, near the limit of 24.
+    fn deep(&mut self, levels: usize) -> Stmt {
+        let span = self.span();
+        let mut expr = self.wrapped_name();
+        for _ in 0..levels {
+            let (ty, child) = (self.ty(), Box::new(expr));
+            expr = match self.random.below(4) {
+                0 => self.leaf(Node::Casting(child), ty),
+                1 => self.leaf(Node::Call(Box::new(Expr { span, ty, at: 0, node: Node::Literal }), vec![*child]), ty),
+                2 => self.leaf(Node::Unary(0, child), ty),
+                _ => self.leaf(Node::Sized(child), ty),
+            };
+        }
+        Stmt::Expr { span, expr }
+    }
+
+    // Blocks in blocks, near the limit of 12.
+    fn nested(&mut self, levels: usize) -> Stmt {
+        let mut statements = vec![self.variable()];
+        for _ in 0..levels {
+            let inner = Block { span: self.span(), statements };
+            let (span, condition) = (self.span(), self.condition());
+            let stmt = match self.random.below(3) {
+                0 => Stmt::Block(inner),
+                1 => Stmt::While { span, condition, body: inner },
+                _ => Stmt::IfElse { span, condition, then: inner, other: None },
+            };
+            statements = vec![self.variable(), stmt, self.expr_stmt()];
+        }
+        Stmt::Block(Block { span: self.span(), statements })
     }
 
     fn if_else(&mut self, depth: usize) -> Stmt {
