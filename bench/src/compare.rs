@@ -2,7 +2,7 @@
 use crate::adapter::{self, Marks, Numbers, Submitted, ToHir, ToImage};
 use crate::answer::{self, Answer, Error, Outcome};
 use crate::image::{self, Block, Image, Stmt};
-use crate::{ours, reader, rules};
+use crate::{reader, rules};
 use oracle::atlas_c::atlas_hir::arena::HirArena;
 
 /// What the images of a run had.
@@ -33,11 +33,7 @@ impl Seen {
                 self.different.push((format!("{label}: {what}"), bytes.to_vec()));
             }
         };
-        let read = reader::read(bytes);
-        if let Some(fault) = ours::fault(bytes) {
-            must("the proved reader", fault == *read.as_ref().err().unwrap_or(&0));
-        }
-        let tree = match read {
+        let tree = match reader::read(bytes) {
             Ok(tree) => tree,
             Err(fault) => {
                 self.faults[fault as usize] += 1;

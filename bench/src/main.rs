@@ -7,7 +7,6 @@ mod compare;
 mod corners;
 mod generator;
 mod image;
-mod ours;
 mod random;
 mod reader;
 mod rules;
@@ -37,9 +36,10 @@ fn command() -> i32 {
         ["image", label] => print_image(label),
         ["store", path] => stored::store(&files.from.join(path)),
         ["replay", path] => stored::replay(&files.from.join(path)),
+        ["records", folder, room, seed] => stored::records(&files.from.join(folder), room.parse().unwrap(), seed.parse().unwrap()),
         ["speed", runs] => speed::speed(runs.parse().unwrap()),
         _ => {
-            eprintln!("bench compare IMAGES DAMAGED SEED | answer < IMAGE | image LABEL | store FILE | replay FILE | speed RUNS");
+            eprintln!("bench compare IMAGES DAMAGED SEED | answer < IMAGE | image LABEL | store FILE | replay FILE | records FOLDER BYTES SEED | speed RUNS");
             2
         }
     }
@@ -72,9 +72,6 @@ impl Drop for Files {
 /// The whole comparison: 0 if nothing differs.
 fn compare(images: u64, damaged: u64, seed: u64) -> i32 {
     let wrong = rows() + example() + fault_images() + unreadable();
-    if ours::fault(&[]).is_some() {
-        println!("the proved reader is asked for the fault of every image");
-    }
     let mut parts = vec![];
 
     let mut seen = Seen::default();

@@ -1,7 +1,7 @@
 //! Images with the Rust's answers in one file, and the replay of such a file. `stored/README.md` says what a record is.
 use crate::answer::{self, LENT_BYTES, LENT_ENTRIES, Outcome, lent_fault};
 use crate::random::Random;
-use crate::{boundaries, corners, generator, image};
+use crate::{boundaries, corners, generator, image, reader};
 use std::path::Path;
 
 const GENERATED: usize = 2400;
@@ -92,6 +92,33 @@ fn record(label: &str, bytes: &[u8], outcome: &Outcome) -> Record {
         }
     }
     Record { bytes: r, fault }
+}
+
+/// For the program of crates/faults: images, damaged ones and whole ones, up to so many bytes in all, and the lines that it has to print by
+/// the second reader.
+pub fn records(folder: &Path, room: usize, seed: u64) -> i32 {
+    let (mut data, mut lines) = (vec![], String::new());
+    let mut random = Random::new(seed);
+    for i in 0.. {
+        let whole = image::write(&generator::image(seed + i)).bytes;
+        let bytes = if i % 8 == 0 { whole } else { generator::damaged(&whole, &mut random) };
+        let label = format!("seed {}", seed + i);
+        if data.len() + label.len() + 5 + bytes.len() >= room {
+            break;
+        }
+        data.push(label.len() as u8);
+        data.extend(label.as_bytes());
+        data.extend((bytes.len() as u32).to_be_bytes());
+        data.extend(&bytes);
+        lines += &match reader::read(&bytes) {
+            Ok(_) => format!("{label} accepted {}\n", bytes.len()),
+            Err(fault) => format!("{label} refused {fault}\n"),
+        };
+    }
+    std::fs::write(folder.join("data/images"), &data).unwrap();
+    std::fs::write(folder.join("stdout"), &lines).unwrap();
+    println!("{} images, {} bytes, from seed {seed}", lines.lines().count(), data.len());
+    0
 }
 
 /// Each image of a file through the Rust again: its record must be the stored one.
