@@ -26,13 +26,12 @@ pub fn all() -> Vec<(String, Image)> {
         add(format!("65 locals before {n} places"), body(&[V], [locals(64), chain(n)].concat()));
     }
     // the ninth place comes where a branch returns, so no join is made of it
-    add("8 places and a ninth that returns".into(), body(&[V], [chain(8), vec![when(20, block(21, vec![moving(22, ident(23, V)), back(24)]), None)]].concat()));
-    for (label, then, other) in [("then", true, false), ("else", false, true), ("both", true, true)] {
-        let branch = |place, returns| block(21, [vec![moving(22, ident(place, V))], vec![back(24); returns as usize]].concat());
-        let last = when(20, branch(70, then), Some(branch(71, other)));
-        add(format!("8 places and more that return by {label}"), body(&[V], [chain(8), vec![last.clone()]].concat()));
-        let inner = when(25, block(26, vec![moving(27, ident(72, V))]), None);
-        add(format!("a ninth place before a return by {label}"), body(&[V], [chain(8), vec![when(28, block(29, vec![inner, last]), None)]].concat()));
+    add("8 places and a ninth, returning: no else".into(), body(&[V], [chain(8), vec![when(20, block(21, vec![moving(22, ident(23, V)), back(24)]), None)]].concat()));
+    let moved = |returns: bool| block(21, [vec![moving(22, ident(70, V))], vec![back(23); returns as usize]].concat());
+    let kept = |returns: bool| block(24, vec![back(25); returns as usize]);
+    for (label, then, other) in [("then", moved(true), kept(false)), ("else", kept(false), moved(true)), ("both", moved(true), kept(true)), ("neither", moved(false), kept(false))] {
+        let last = when(20, then, Some(other));
+        add(format!("8 places and a ninth, returning: {label}"), body(&[V], [chain(8), vec![last]].concat()));
     }
     add("8 places, one again".into(), body(&[V], [chain(8), chain(8), vec![run(90, ident(91, V))]].concat()));
     for n in [12, 13] {
