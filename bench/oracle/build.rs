@@ -22,7 +22,11 @@ fn main() {
         let source = from.join(path);
         println!("cargo:rerun-if-changed={}", source.display());
         let bytes = fs::read(&source).unwrap_or_else(|e| panic!("{}: {e}; set ATLAS77_SRC", source.display()));
-        assert_eq!((bytes.len().to_string().as_str(), format!("{:016x}", fnv(&bytes)).as_str()), (size, hash), "{path} is not the published file");
+        assert_eq!(
+            (bytes.len().to_string().as_str(), format!("{:016x}", fnv(&bytes)).as_str()),
+            (size, hash),
+            "{path} is not the published file"
+        );
         let copy = out.join(place_of(path));
         write(&copy, &bytes);
         assert_eq!(fs::read(&copy).unwrap(), bytes);
@@ -49,7 +53,8 @@ fn main() {
     write(&out.join("probe/published.rs"), probed(pass).as_bytes());
     write(&out.join("probe/mod.rs"), &fs::read(here.join("standins/wrapper.rs")).unwrap());
     let modules = [("atlas_c", out.join("src/atlas_c/mod.rs")), ("ownership_probe", out.join("probe/mod.rs"))];
-    let root: String = modules.iter().map(|(name, file)| format!("#[path = {:?}]\npub mod {name};\n", file.display().to_string())).collect();
+    let root: String =
+        modules.iter().map(|(name, file)| format!("#[path = {:?}]\npub mod {name};\n", file.display().to_string())).collect();
     write(&out.join("root.rs"), root.as_bytes());
 }
 
@@ -60,7 +65,12 @@ fn place_of(path: &str) -> String {
 
 // mod.rs with a note of each registration and each join, of the states at the end, and with the file answered from memory.
 fn probed(pass: String) -> String {
-    let pass = replace(pass, 1, "var: LocalVar<'hir>) {\n", "var: LocalVar<'hir>) {\n        crate::probe::registered(1 + scope_stack.iter().map(|f| f.locals.len()).sum::<usize>());\n");
+    let pass = replace(
+        pass,
+        1,
+        "var: LocalVar<'hir>) {\n",
+        "var: LocalVar<'hir>) {\n        crate::probe::registered(1 + scope_stack.iter().map(|f| f.locals.len()).sum::<usize>());\n",
+    );
     let join = "self.merge_join_state(base_state, then_state, else_state)";
     let pass = replace(pass, 1, join, &format!("{{ let joined = {join}; crate::probe::joined(self.state_spans(&joined).len()); joined }}"));
     let walk = "self.transform_block(body.clone(), &mut scope_stack);";

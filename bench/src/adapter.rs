@@ -489,7 +489,8 @@ impl<'hir> ToImage<'_, 'hir> {
             if shape == 0 && !self.numbers.name_numbers.contains_key(name) {
                 continue;
             }
-            let used = s.methods.iter().filter_map(|(method, m)| Some((*self.numbers.name_numbers.get(method)?, modifier_byte(&m.modifier))));
+            let used =
+                s.methods.iter().filter_map(|(method, m)| Some((*self.numbers.name_numbers.get(method)?, modifier_byte(&m.modifier))));
             let methods = used.collect();
             list.push(Struct { name: self.numbers.name_number(name), destructor: s.destructor.is_some(), shape, methods });
         }

@@ -66,7 +66,8 @@ pub fn in_domain(image: &Image) -> bool {
         4 => named(image.entry.this),
         _ => true,
     };
-    this && image.names.iter().all(|n| std::str::from_utf8(n).is_ok()) && shapes.iter().all(|a| shapes.iter().all(|b| a.0 != b.0 || a.1 == b.1))
+    this && image.names.iter().all(|n| std::str::from_utf8(n).is_ok())
+        && shapes.iter().all(|a| shapes.iter().all(|b| a.0 != b.0 || a.1 == b.1))
 }
 
 /// The Rust's answer for bytes: faults 1 to 11 by the second reader, the rest by the pass. None outside the domain.

@@ -21,15 +21,26 @@ pub fn all() -> Vec<(String, Image)> {
         add(format!("{n} places by a tree"), body(&[V], vec![tree(n, 100), run(90, ident(91, V))]));
         add(format!("{n} places consumed"), body(&[V], [consumed(n), vec![run(90, ident(91, V))]].concat()));
         add(format!("{n} places in a loop"), body(&[V], vec![repeat(20, block(21, chain(n)))]));
-        add(format!("{n} places in a branch that returns"), body(&[V], vec![when(20, block(21, [chain(n), vec![back(22)]].concat()), None)]));
+        add(
+            format!("{n} places in a branch that returns"),
+            body(&[V], vec![when(20, block(21, [chain(n), vec![back(22)]].concat()), None)]),
+        );
         add(format!("{n} places before 65 locals"), body(&[V], [chain(n), locals(64)].concat()));
         add(format!("65 locals before {n} places"), body(&[V], [locals(64), chain(n)].concat()));
     }
     // the ninth place comes where a branch returns, so no join is made of it
-    add("8 places and a ninth, returning: no else".into(), body(&[V], [chain(8), vec![when(20, block(21, vec![moving(22, ident(23, V)), back(24)]), None)]].concat()));
+    add(
+        "8 places and a ninth, returning: no else".into(),
+        body(&[V], [chain(8), vec![when(20, block(21, vec![moving(22, ident(23, V)), back(24)]), None)]].concat()),
+    );
     let moved = |returns: bool| block(21, [vec![moving(22, ident(70, V))], vec![back(23); returns as usize]].concat());
     let kept = |returns: bool| block(24, vec![back(25); returns as usize]);
-    for (label, then, other) in [("then", moved(true), kept(false)), ("else", kept(false), moved(true)), ("both", moved(true), kept(true)), ("neither", moved(false), kept(false))] {
+    for (label, then, other) in [
+        ("then", moved(true), kept(false)),
+        ("else", kept(false), moved(true)),
+        ("both", moved(true), kept(true)),
+        ("neither", moved(false), kept(false)),
+    ] {
         let last = when(20, then, Some(other));
         add(format!("8 places and a ninth, returning: {label}"), body(&[V], [chain(8), vec![last]].concat()));
     }
@@ -47,7 +58,10 @@ pub fn all() -> Vec<(String, Image)> {
         add(format!("{n} warnings"), body(&[], (0..n).map(|i| run(i as SpanNo, call(21, T, literal(), vec![]))).collect()));
         add(format!("{n} left behind"), body(&[V], (0..n).map(|i| back(i as SpanNo)).collect()));
     }
-    add("257 errors and too long".into(), body(&[], [locals(64), vec![moving(21, ident(22, V)); 258], vec![give(20, literal()); 1000]].concat()));
+    add(
+        "257 errors and too long".into(),
+        body(&[], [locals(64), vec![moving(21, ident(22, V)); 258], vec![give(20, literal()); 1000]].concat()),
+    );
     for total in [65_535, 65_536, 65_537] {
         add(format!("{total} bytes"), long(total));
     }

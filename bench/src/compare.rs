@@ -78,7 +78,12 @@ impl Seen {
     pub fn print(&self, what: &str) {
         println!("{what}: {} images, {} bytes, {} outside the domain", self.images, self.bytes, self.outside);
         println!("  accepted {}, bodies with insertions {}; refused by fault: {}", self.faults[0], self.changed, numbered(&self.faults));
-        println!("  errors by kind: {}; bad moves by hint: {}; most places {}", numbered(&self.errors), numbered(&self.hints), self.most_places);
+        println!(
+            "  errors by kind: {}; bad moves by hint: {}; most places {}",
+            numbered(&self.errors),
+            numbered(&self.hints),
+            self.most_places
+        );
         println!("  warnings {}, left behind {}; differences {}", self.warnings, self.lefts, self.different.len());
         let mut smallest: Vec<_> = self.different.iter().collect();
         smallest.sort_by_key(|d| d.1.len());
@@ -129,8 +134,7 @@ fn compiler_way(tree: &Image, rust: &Answer) -> bool {
     let warned: Vec<_> = answer.warnings.iter().map(|w| back(w.0)).collect();
     let lefts: Vec<_> = answer.lefts.iter().map(|l| (back(l.0), l.1)).collect();
     let lefts: Vec<_> = lefts.into_iter().map(|l| (l.0, numbers.name_number(own.name(l.1)))).collect();
-    let same_reports =
-        errors == rust.errors && lefts == rust.lefts && warned == rust.warnings.iter().map(|w| w.0).collect::<Vec<_>>();
+    let same_reports = errors == rust.errors && lefts == rust.lefts && warned == rust.warnings.iter().map(|w| w.0).collect::<Vec<_>>();
     // an output that is no image can't be read
     let Ok(returned) = reader::read(&answer.output) else { return same_reports };
     let body = ToHir { numbers: &own, marks: Marks::default() }.block(&returned.body);

@@ -19,7 +19,14 @@ fn row(label: &'static str, image: Image, returned: Vec<Stmt>, errors: Vec<Error
 }
 
 // A body that comes back as it is.
-fn as_is(label: &'static str, params: &[Name], statements: Vec<Stmt>, errors: Vec<Error>, lefts: Vec<(SpanNo, Name)>, states: Vec<State>) -> Row {
+fn as_is(
+    label: &'static str,
+    params: &[Name],
+    statements: Vec<Stmt>,
+    errors: Vec<Error>,
+    lefts: Vec<(SpanNo, Name)>,
+    states: Vec<State>,
+) -> Row {
     row(label, body(params, statements.clone()), statements, errors, lefts, states)
 }
 
@@ -44,7 +51,14 @@ pub fn rows() -> Vec<Row> {
             vec![],
         ),
         as_is("K3: every frame", &[V], vec![let_v(21), give(23, v(24))], vec![], vec![], alive()),
-        row("K4", body(&[], vec![let_v(21), let_v(22)]), vec![let_v(21), let_v(22), deletion(10, V), deletion(10, V)], vec![], vec![], vec![]),
+        row(
+            "K4",
+            body(&[], vec![let_v(21), let_v(22)]),
+            vec![let_v(21), let_v(22), deletion(10, V), deletion(10, V)],
+            vec![],
+            vec![],
+            vec![],
+        ),
         as_is("K4: one state", &[], vec![let_v(21), let_v(22), moving(23, v(24))], vec![], vec![], vec![]),
         as_is(
             "K5",
@@ -129,13 +143,25 @@ pub fn others() -> Vec<(String, Image)> {
     add("after a final continue", body(&[], vec![repeat(20, block(21, vec![set(22, V, T, literal()), Stmt::Continue(23)]))]));
     add("after a final while that returns", body(&[], vec![set(20, V, T, literal()), repeat(21, block(22, vec![back(23)]))]));
     add("after a final block that returns", body(&[], vec![set(20, V, T, literal()), Stmt::Block(block(21, vec![back(22)]))]));
-    add("after branches that return", body(&[], vec![set(20, V, T, literal()), when(21, block(22, vec![back(23)]), Some(block(24, vec![back(25)])))]));
+    add(
+        "after branches that return",
+        body(&[], vec![set(20, V, T, literal()), when(21, block(22, vec![back(23)]), Some(block(24, vec![back(25)])))]),
+    );
     add("after one branch that returns", body(&[], vec![set(20, V, T, literal()), when(21, block(22, vec![back(23)]), None)]));
     add("after a return", body(&[V], vec![back(20), set(21, W, T, literal()), back(22), made(23, v(24))]));
     add("only then returns", body(&[V], vec![when(20, block(21, vec![moving(22, v(23)), back(24)]), None), made(25, v(26))]));
-    add("only else returns", body(&[V], vec![when(20, block(21, vec![moving(22, v(23))]), Some(block(24, vec![back(25)]))), made(26, v(27))]));
-    add("an inner frame's local", body(&[V], vec![Stmt::Block(block(20, vec![set(21, V, T, literal()), moving(22, v(23))])), made(24, v(25))]));
-    add("drops at a value's return", body(&[V], vec![set(20, W, T, literal()), Stmt::Block(block(21, vec![set(22, V, T, literal()), give(23, literal())]))]));
+    add(
+        "only else returns",
+        body(&[V], vec![when(20, block(21, vec![moving(22, v(23))]), Some(block(24, vec![back(25)]))), made(26, v(27))]),
+    );
+    add(
+        "an inner frame's local",
+        body(&[V], vec![Stmt::Block(block(20, vec![set(21, V, T, literal()), moving(22, v(23))])), made(24, v(25))]),
+    );
+    add(
+        "drops at a value's return",
+        body(&[V], vec![set(20, W, T, literal()), Stmt::Block(block(21, vec![set(22, V, T, literal()), give(23, literal())]))]),
+    );
     add("moved by the returned value", body(&[V, W], vec![give(20, std_move(21, vec![v(22)]))]));
 
     // assignments
@@ -156,8 +182,14 @@ pub fn others() -> Vec<(String, Image)> {
     };
     for (receiver, ty) in [(2, POINTER), (3, POINTER), (4, T)] {
         add(&format!("this, receiver {receiver}"), method(receiver, ty, vec![back(20)]));
-        add(&format!("delete this, receiver {receiver}"), method(receiver, ty, vec![run(20, delete(21, this(22))), made(23, this(24)), made(25, ident(26, THIS))]));
-        add(&format!("assign to this, receiver {receiver}"), method(receiver, ty, vec![moving(20, this(21)), assign(22, this(23), literal()), made(24, this(25))]));
+        add(
+            &format!("delete this, receiver {receiver}"),
+            method(receiver, ty, vec![run(20, delete(21, this(22))), made(23, this(24)), made(25, ident(26, THIS))]),
+        );
+        add(
+            &format!("assign to this, receiver {receiver}"),
+            method(receiver, ty, vec![moving(20, this(21)), assign(22, this(23), literal()), made(24, this(25))]),
+        );
         add(&format!("assign to Ident this, receiver {receiver}"), method(receiver, ty, vec![assign(22, ident(23, THIS), literal())]));
         add(&format!("this.take(), receiver {receiver}"), method(receiver, ty, vec![taken(20, this(22)), made(23, this(24))]));
         add(&format!("Ident this.take(), receiver {receiver}"), method(receiver, ty, vec![taken(20, ident(22, THIS)), made(23, this(24))]));
@@ -195,14 +227,20 @@ pub fn others() -> Vec<(String, Image)> {
 
     // consuming methods
     add("consuming", body(&[V], vec![taken(20, v(22)), made(23, v(24))]));
-    add("consuming under unaries", body(&[V], vec![run(20, under(call(21, PLAIN, under(field(22, unary(23, T, 0, v(24)), TAKE)), vec![]))), made(25, v(26))]));
+    add(
+        "consuming under unaries",
+        body(&[V], vec![run(20, under(call(21, PLAIN, under(field(22, unary(23, T, 0, v(24)), TAKE)), vec![]))), made(25, v(26))]),
+    );
     let of_type = |ty| node(22, ty, Node::Ident(V));
     add("consuming behind a pointer", body(&[V], vec![taken(20, of_type(POINTER)), made(23, v(24))]));
     add("consuming a plain target", body(&[V], vec![taken(20, of_type(PLAIN)), made(23, v(24))]));
     add("the target's outer type", body(&[V], vec![taken(20, unary(22, PLAIN, 0, v(23))), made(24, v(25))]));
     add("the target's inner type", body(&[V], vec![taken(20, unary(22, T, 0, of_type(PLAIN))), made(24, v(25))]));
     add("consuming no local", body(&[], vec![taken(20, v(22)), made(23, v(24))]));
-    add("consuming with the receiver as argument", body(&[V], vec![run(20, call(21, PLAIN, field(22, v(23), TAKE), vec![v(24)])), made(25, v(26))]));
+    add(
+        "consuming with the receiver as argument",
+        body(&[V], vec![run(20, call(21, PLAIN, field(22, v(23), TAKE), vec![v(24)])), made(25, v(26))]),
+    );
     add("consuming twice", body(&[V], vec![taken(20, v(22)), taken(30, v(32)), made(33, v(34))]));
 
     // temporaries
@@ -219,17 +257,34 @@ pub fn others() -> Vec<(String, Image)> {
     ] {
         add(&format!("temporary to a {label}"), body(&[TMP], vec![run(20, e), made(24, tmp(25))]));
     }
-    add("temporary deleted, then handed over", body(&[TMP], vec![run(20, delete(21, tmp(22))), run(23, call(24, PLAIN, literal(), vec![tmp(25)])), made(26, tmp(27))]));
+    add(
+        "temporary deleted, then handed over",
+        body(&[TMP], vec![run(20, delete(21, tmp(22))), run(23, call(24, PLAIN, literal(), vec![tmp(25)])), made(26, tmp(27))]),
+    );
     add("temporary to a Let", body(&[TMP], vec![set(20, V, T, tmp(21)), made(22, tmp(23))]));
-    add("temporary to a Const", body(&[TMP], vec![Stmt::Variable { constant: true, span: 20, name: V, ty: T, value: tmp(21) }, made(22, tmp(23))]));
+    add(
+        "temporary to a Const",
+        body(&[TMP], vec![Stmt::Variable { constant: true, span: 20, name: V, ty: T, value: tmp(21) }, made(22, tmp(23))]),
+    );
     add("temporary to a Let of another type", body(&[TMP], vec![set(20, V, PLAIN, tmp(21)), made(22, tmp(23))]));
     add("temporary to a Let of its name", body(&[TMP], vec![set(20, TMP, T, tmp(21)), made(22, tmp(23))]));
     add("temporary to an Assign", body(&[V, TMP], vec![assign(20, v(21), tmp(22)), made(23, tmp(24))]));
-    add("temporary moved, then taken over", body(&[V, TMP], vec![run(19, call(18, PLAIN, literal(), vec![tmp(17)])), assign(20, v(21), tmp(22)), made(23, tmp(24))]));
+    add(
+        "temporary moved, then taken over",
+        body(&[V, TMP], vec![run(19, call(18, PLAIN, literal(), vec![tmp(17)])), assign(20, v(21), tmp(22)), made(23, tmp(24))]),
+    );
     add("temporary to itself", body(&[TMP], vec![assign(20, tmp(21), tmp(22)), made(23, tmp(24))]));
     add("temporary to no local", body(&[TMP], vec![assign(20, v(21), tmp(22)), made(23, tmp(24))]));
-    add("temporary to this", { let mut i = method(4, T, vec![assign(20, this(21), tmp(22)), made(23, tmp(24))]); i.entry.params = vec![(TMP, T)]; i });
-    add("temporary to Ident this", { let mut i = method(4, T, vec![assign(20, ident(21, THIS), tmp(22)), made(23, tmp(24))]); i.entry.params = vec![(TMP, T)]; i });
+    add("temporary to this", {
+        let mut i = method(4, T, vec![assign(20, this(21), tmp(22)), made(23, tmp(24))]);
+        i.entry.params = vec![(TMP, T)];
+        i
+    });
+    add("temporary to Ident this", {
+        let mut i = method(4, T, vec![assign(20, ident(21, THIS), tmp(22)), made(23, tmp(24))]);
+        i.entry.params = vec![(TMP, T)];
+        i
+    });
 
     // generic types
     for (label, plain_name, destructor, shape, of_struct) in [
@@ -261,7 +316,11 @@ pub fn others() -> Vec<(String, Image)> {
         1 => vec![run(at, delete(at, v(at + 1)))],
         2 => vec![moving(at, v(at + 1))],
         3 => vec![taken(at, v(at + 2))],
-        k => vec![when(at, block(at, vec![[run(at, delete(at, v(at + 1))), moving(at, v(at + 1)), taken(at, v(at + 2))][k - 4].clone()]), None)],
+        k => vec![when(
+            at,
+            block(at, vec![[run(at, delete(at, v(at + 1))), moving(at, v(at + 1)), taken(at, v(at + 2))][k - 4].clone()]),
+            None,
+        )],
     };
     for a in 0..7 {
         for b in 0..7 {
@@ -270,7 +329,10 @@ pub fn others() -> Vec<(String, Image)> {
         }
         add(&format!("loop {a}"), body(&[V], vec![repeat(20, block(21, kill(a, 30))), made(50, v(51))]));
         for b in 1..4 {
-            add(&format!("loop {a} after {b}"), body(&[V], [kill(b, 40), vec![repeat(20, block(21, kill(a, 30))), made(50, v(51))]].concat()));
+            add(
+                &format!("loop {a} after {b}"),
+                body(&[V], [kill(b, 40), vec![repeat(20, block(21, kill(a, 30))), made(50, v(51))]].concat()),
+            );
         }
     }
     list

@@ -5,8 +5,30 @@ use crate::random::Random;
 
 /// Names that are locals, globals, structs and methods at once, and some that nearly are what the pass knows.
 const NAMES: [&str; 24] = [
-    "v", "w", "x", "__tmp0", "__tmp1", "__tmp", "T", "U", "D", "G", "std::move", "g", "take", "peek", "poke", "make", "f", "__tm", "_tmp",
-    "x__tmp", "std::mov", "std::moves", "Tx", "thi",
+    "v",
+    "w",
+    "x",
+    "__tmp0",
+    "__tmp1",
+    "__tmp",
+    "T",
+    "U",
+    "D",
+    "G",
+    "std::move",
+    "g",
+    "take",
+    "peek",
+    "poke",
+    "make",
+    "f",
+    "__tm",
+    "_tmp",
+    "x__tmp",
+    "std::mov",
+    "std::moves",
+    "Tx",
+    "thi",
 ];
 
 pub struct Generator {
@@ -109,7 +131,8 @@ impl Generator {
 
     // Structs of most of the types' names, so that most named types have one.
     fn structs(&mut self) {
-        let mut names: Vec<Name> = (0..self.image.names.len() as Name).filter(|_| self.random.chance(if self.small { 0 } else { 20 })).collect();
+        let mut names: Vec<Name> =
+            (0..self.image.names.len() as Name).filter(|_| self.random.chance(if self.small { 0 } else { 20 })).collect();
         for t in self.image.types.clone() {
             if let Ty::Named(n) | Ty::Generic(n, _) = t
                 && self.random.chance(75)
@@ -403,7 +426,9 @@ impl Generator {
     }
 
     fn items(&mut self, depth: usize) -> Vec<Expr> {
-        (0..self.random.one_of(&[0, 0, 1, 1, 2, 3])).map(|_| if self.random.chance(50) { self.wrapped_name() } else { self.expr(depth + 3) }).collect()
+        (0..self.random.one_of(&[0, 0, 1, 1, 2, 3]))
+            .map(|_| if self.random.chance(50) { self.wrapped_name() } else { self.expr(depth + 3) })
+            .collect()
     }
 
     fn boxed(&mut self, depth: usize) -> Box<Expr> {

@@ -52,13 +52,40 @@ pub struct Block {
 #[derive(Debug, Clone)]
 pub enum Stmt {
     Block(Block),
-    Return { span: SpanNo, value: Option<Expr>, ty: TyNo },
-    Expr { span: SpanNo, expr: Expr },
+    Return {
+        span: SpanNo,
+        value: Option<Expr>,
+        ty: TyNo,
+    },
+    Expr {
+        span: SpanNo,
+        expr: Expr,
+    },
     /// a Let, or a Const
-    Variable { constant: bool, span: SpanNo, name: Name, ty: TyNo, value: Expr },
-    Assign { span: SpanNo, dst: Expr, val: Expr, ty: TyNo },
-    IfElse { span: SpanNo, condition: Expr, then: Block, other: Option<Block> },
-    While { span: SpanNo, condition: Expr, body: Block },
+    Variable {
+        constant: bool,
+        span: SpanNo,
+        name: Name,
+        ty: TyNo,
+        value: Expr,
+    },
+    Assign {
+        span: SpanNo,
+        dst: Expr,
+        val: Expr,
+        ty: TyNo,
+    },
+    IfElse {
+        span: SpanNo,
+        condition: Expr,
+        then: Block,
+        other: Option<Block>,
+    },
+    While {
+        span: SpanNo,
+        condition: Expr,
+        body: Block,
+    },
     Break(SpanNo),
     Continue(SpanNo),
 }

@@ -7,6 +7,8 @@ mod compare;
 mod corners;
 mod generator;
 mod image;
+#[cfg(feature = "mistakes")]
+mod mistakes;
 mod random;
 mod reader;
 mod rules;
@@ -37,9 +39,13 @@ fn command() -> i32 {
         ["store", path] => stored::store(&files.from.join(path)),
         ["replay", path] => stored::replay(&files.from.join(path)),
         ["records", folder, room, seed] => stored::records(&files.from.join(folder), room.parse().unwrap(), seed.parse().unwrap()),
+        #[cfg(feature = "mistakes")]
+        ["mistakes", images] => mistakes::find(images.parse().unwrap()),
         ["speed", runs] => speed::speed(runs.parse().unwrap()),
         _ => {
-            eprintln!("bench compare IMAGES DAMAGED SEED | answer < IMAGE | image LABEL | store FILE | replay FILE | records FOLDER BYTES SEED | speed RUNS");
+            eprintln!(
+                "bench compare IMAGES DAMAGED SEED | answer < IMAGE | image LABEL | store FILE | replay FILE | records FOLDER BYTES SEED | speed RUNS"
+            );
             2
         }
     }
@@ -83,8 +89,10 @@ fn compare(images: u64, damaged: u64, seed: u64) -> i32 {
     let mut seen = Seen::default();
     for (label, tree) in boundaries::all() {
         let outcome = seen.check(&label, &image::write(&tree).bytes);
-        let line = first_line(outcome.as_ref());
-        println!("  {label}: {line}");
+        println!("  {label}: {}", first_line(outcome.as_ref()));
+        // of the two that give back most statements, one counts too many whatever is lent
+        let too_many = matches!(&outcome, Some(Ok(a)) if lent_fault(a, usize::MAX, usize::MAX) == 15);
+        assert_eq!(too_many, label.starts_with("over 65,535 statements"));
     }
     parts.push(("boundaries", seen));
 
@@ -123,7 +131,8 @@ fn rows() -> usize {
         let output = image::write(&returned).bytes;
         for outcome in [answer::of_image(&tree), rules::of_image(&tree)] {
             let a = outcome.unwrap();
-            let same = a.output == output && a.errors == row.errors && a.lefts == row.lefts && a.warnings.is_empty() && a.states == row.states;
+            let same =
+                a.output == output && a.errors == row.errors && a.lefts == row.lefts && a.warnings.is_empty() && a.states == row.states;
             if !same {
                 println!("WRONG {}: {a:?}", row.label);
                 wrong += 1;
@@ -173,7 +182,8 @@ fn fault_images() -> usize {
 /// The corners with no file to read: the same answers, but for the Rust's two panics, where a global is moved and where a result is
 /// unused.
 fn unreadable() -> usize {
-    let corners: Vec<_> = corners::others().into_iter().chain(corners::rows().into_iter().map(|r| (r.label.to_string(), r.image))).collect();
+    let corners: Vec<_> =
+        corners::others().into_iter().chain(corners::rows().into_iter().map(|r| (r.label.to_string(), r.image))).collect();
     let read = |tree: &image::Image| reader::read(&image::write(tree).bytes).unwrap();
     let expected: Vec<_> = corners.iter().map(|(_, tree)| answer::of_image(&read(tree)).unwrap()).collect();
     [adapter::FILE, adapter::DEFAULT_FILE].iter().for_each(|f| std::fs::remove_file(f).unwrap());

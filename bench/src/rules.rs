@@ -150,7 +150,9 @@ fn code(block: &image::Block) -> Code<'_> {
         image::Stmt::Expr { span, expr } => ExprStmt(*span, node(expr)),
         image::Stmt::Variable { constant, span, name, ty, value } => Variable(*constant, *span, *name, *ty, node(value)),
         image::Stmt::Assign { span, dst, val, ty } => Assign(*span, node(dst), node(val), *ty),
-        image::Stmt::IfElse { span, condition, then, other: Some(u) } => IfElse(*span, node(condition), then.span, code(then), u.span, code(u)),
+        image::Stmt::IfElse { span, condition, then, other: Some(u) } => {
+            IfElse(*span, node(condition), then.span, code(then), u.span, code(u))
+        }
         image::Stmt::IfElse { span, condition, then, other: None } => IfThen(*span, node(condition), then.span, code(then)),
         image::Stmt::While { span, condition, body } => While(*span, node(condition), body.span, code(body)),
         image::Stmt::Break(span) => Jump(false, *span),
@@ -288,7 +290,11 @@ fn joinState(a: &State, b: &State) -> State {
         (Alive, Alive) => Alive,
         (Alive, Gone(_, k, ps)) | (Gone(_, k, ps), Alive) => Gone(true, *k, ps.clone()),
         (Gone(c, k, ps), Gone(d, l, qs)) => {
-            if c == d && k == l && ps == qs { a.clone() } else { Gone(false, joinKind(*k, *l), combine(ps.clone(), qs)) }
+            if c == d && k == l && ps == qs {
+                a.clone()
+            } else {
+                Gone(false, joinKind(*k, *l), combine(ps.clone(), qs))
+            }
         }
     }
 }
@@ -604,10 +610,11 @@ fn deleteNode(span: SpanNo, e: image::Expr) -> image::Expr {
 }
 
 fn inserts(drops: Vec<Drop>, out: &mut Vec<image::Stmt>) {
-    out.extend(drops.into_iter().map(|(span, n, ty)| image::Stmt::Expr {
-        span,
-        expr: deleteNode(span, image::Expr { span, ty, at: 0, node: Node::Ident(n) }),
-    }));
+    out.extend(
+        drops
+            .into_iter()
+            .map(|(span, n, ty)| image::Stmt::Expr { span, expr: deleteNode(span, image::Expr { span, ty, at: 0, node: Node::Ident(n) }) }),
+    );
 }
 
 // ---- Report ----
@@ -692,12 +699,12 @@ impl Tables<'_> {
             let found = match stmt {
                 Variable(..) => tooMany(&self.after(stmt, d, s.clone())),
                 Block(_, c) => self.walkFault(c, d + 1, s.clone()),
-                IfElse(_, e, _, t, _, u) => into(e, t).or_else(|| into(e, u)).or_else(|| {
-                    if sureFrom(t, false) || sureFrom(u, false) { None } else { tooWide(&joins(&out(e, t), &out(e, u))) }
-                }),
-                IfThen(_, e, _, t) => into(e, t).or_else(|| {
-                    if sureFrom(t, false) { None } else { tooWide(&joins(&out(e, t), &self.evaluate(e, s.clone()))) }
-                }),
+                IfElse(_, e, _, t, _, u) => into(e, t)
+                    .or_else(|| into(e, u))
+                    .or_else(|| if sureFrom(t, false) || sureFrom(u, false) { None } else { tooWide(&joins(&out(e, t), &out(e, u))) }),
+                IfThen(_, e, _, t) => {
+                    into(e, t).or_else(|| if sureFrom(t, false) { None } else { tooWide(&joins(&out(e, t), &self.evaluate(e, s.clone()))) })
+                }
                 While(_, e, _, t) => into(e, t).or_else(|| tooWide(&joins(&out(e, t), &self.evaluate(e, s.clone())))),
                 ExprStmt(..) | Assign(..) | Return(..) | BareReturn(..) | Jump(..) => None,
             };

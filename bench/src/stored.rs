@@ -61,11 +61,12 @@ fn record(label: &str, bytes: &[u8], outcome: &Outcome) -> Record {
     r.extend(label.as_bytes());
     r.extend((bytes.len() as u32).to_be_bytes());
     r.extend(bytes);
-    let (fault, needed) = match outcome {
-        Err(fault) => (*fault, 0),
-        Ok(a) => (lent_fault(a, LENT_BYTES, LENT_ENTRIES), a.output.len()),
+    let (fault, ample, needed) = match outcome {
+        Err(fault) => (*fault, *fault, 0),
+        Ok(a) => (lent_fault(a, LENT_BYTES, LENT_ENTRIES), lent_fault(a, usize::MAX, usize::MAX), a.output.len()),
     };
     r.push(fault);
+    r.push(ample);
     r.extend((needed as u32).to_be_bytes());
     if let (0, Ok(a)) = (fault, outcome) {
         r.push((a.output != bytes) as u8);
