@@ -109,7 +109,7 @@ impl<'hir> Numbers<'hir> {
     pub fn name_number(&mut self, name: &'hir str) -> Name {
         *self.name_numbers.entry(name).or_insert_with(|| {
             self.names.push(name);
-            self.names.len() as Name - 1
+            Name::try_from(self.names.len() - 1).expect("a name's number has two bytes")
         })
     }
 
@@ -121,9 +121,10 @@ impl<'hir> Numbers<'hir> {
         if let HirTy::InlineArray(HirInlineArrayTy { inner, .. }) | HirTy::PtrTy(HirPtrTy { inner, .. }) = ty {
             self.ty_number(inner);
         }
+        let number = TyNo::try_from(self.types.len()).expect("a type's number has two bytes");
         self.types.push(ty);
-        self.type_numbers.insert(ty, self.types.len() as TyNo - 1);
-        self.types.len() as TyNo - 1
+        self.type_numbers.insert(ty, number);
+        number
     }
 
     pub fn span_number(&mut self, span: Span) -> SpanNo {
@@ -456,7 +457,8 @@ pub struct Submitted<'a, 'hir> {
 }
 
 impl<'hir> ToImage<'_, 'hir> {
-    /// The image of a body: only the structs, methods and globals that its types and names lead to.
+    /// The image of a body: only the structs, methods and globals that its types and names lead to. Whether it keeps to the limits is
+    /// the reader's to say.
     pub fn image(&mut self, s: &Submitted<'_, 'hir>) -> Image {
         let this = if s.receiver >= 2 { self.numbers.ty_number(s.this) } else { 0 };
         let params = s.params.iter().map(|p| (self.numbers.name_number(p.name), self.numbers.ty_number(p.ty))).collect();
