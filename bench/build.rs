@@ -1,0 +1,51 @@
+//! With the feature `mistakes`: a copy of src/rules.rs for each mistake of mistakes.txt, and the list of them.
+use std::fmt::Write;
+use std::path::PathBuf;
+
+fn main() {
+    println!("cargo:rerun-if-changed=build.rs");
+    if std::env::var("CARGO_FEATURE_MISTAKES").is_err() {
+        return;
+    }
+    println!("cargo:rerun-if-changed=mistakes.txt");
+    println!("cargo:rerun-if-changed=src/rules.rs");
+    let here = PathBuf::from(std::env::var("CARGO_MANIFEST_DIR").unwrap());
+    let out = PathBuf::from(std::env::var("OUT_DIR").unwrap());
+    let rules = std::fs::read_to_string(here.join("src/rules.rs")).unwrap();
+    // `//!` lines belong to a file's top
+    let rules: String = rules.lines().filter(|l| !l.starts_with("//!") && !l.starts_with("#![")).map(|l| format!("{l}\n")).collect();
+    let (mut modules, mut list) = (String::new(), String::new());
+    for (i, mistake) in mistakes(&std::fs::read_to_string(here.join("mistakes.txt")).unwrap()).iter().enumerate() {
+        assert!(rules.contains(&mistake.old), "mistakes.txt: src/rules.rs has no\n{}", mistake.old);
+        let file = out.join(format!("rules_{i}.rs"));
+        std::fs::write(&file, rules.replacen(&mistake.old, &mistake.new, 1)).unwrap();
+        writeln!(modules, "#[allow(warnings)] #[path = {:?}] mod rules_{i};", file.display().to_string()).unwrap();
+        writeln!(list, "({:?}, {}, rules_{i}::of_image),", format!("{} -> {}", mistake.old, mistake.new), mistake.equivalent).unwrap();
+    }
+    let text = format!("{modules}\npub const ALL: &[(&str, bool, fn(&crate::image::Image) -> crate::answer::Outcome)] = &[{list}];\n");
+    std::fs::write(out.join("mistakes.rs"), text).unwrap();
+}
+
+struct Mistake {
+    equivalent: bool,
+    old: String,
+    new: String,
+}
+
+// `-` and a text, `+` and another in its place; `=` says first that no image can tell them apart.
+fn mistakes(text: &str) -> Vec<Mistake> {
+    let mut list: Vec<Mistake> = vec![];
+    let mut equivalent = false;
+    for line in text.lines() {
+        match line.split_at_checked(2) {
+            Some(("= ", _)) => equivalent = true,
+            Some(("- ", old)) => {
+                list.push(Mistake { equivalent, old: old.to_string(), new: String::new() });
+                equivalent = false;
+            }
+            Some(("+ ", new)) => list.last_mut().unwrap().new = new.to_string(),
+            _ => {}
+        }
+    }
+    list
+}

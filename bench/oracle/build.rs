@@ -1,0 +1,94 @@
+//! Puts the published files, byte for byte, beside the stand-ins for those that are missing, and makes the copy of mod.rs with
+//! probes. All of it goes to OUT_DIR; nothing of it is in the repository.
+use std::fs;
+use std::path::{Path, PathBuf};
+
+const HIR: &str = "src/atlas_c/atlas_hir";
+
+fn main() {
+    let here = PathBuf::from(std::env::var("CARGO_MANIFEST_DIR").unwrap());
+    let out = PathBuf::from(std::env::var("OUT_DIR").unwrap());
+    let from = match std::env::var("ATLAS77_SRC") {
+        Ok(folder) => PathBuf::from(folder),
+        Err(_) => here.join("../../../shared/docs/src"),
+    };
+    println!("cargo:rerun-if-env-changed=ATLAS77_SRC");
+    println!("cargo:rerun-if-changed=published.txt");
+    println!("cargo:rerun-if-changed=standins");
+
+    let mut pass = String::new();
+    for line in fs::read_to_string(here.join("published.txt")).unwrap().lines() {
+        let [path, size, hash] = line.split(' ').collect::<Vec<_>>()[..] else { panic!("published.txt: {line}") };
+        let source = from.join(path);
+        println!("cargo:rerun-if-changed={}", source.display());
+        let bytes = fs::read(&source).unwrap_or_else(|e| panic!("{}: {e}; set ATLAS77_SRC", source.display()));
+        assert_eq!(
+            (bytes.len().to_string().as_str(), format!("{:016x}", fnv(&bytes)).as_str()),
+            (size, hash),
+            "{path} is not the published file"
+        );
+        let copy = out.join(place_of(path));
+        write(&copy, &bytes);
+        assert_eq!(fs::read(&copy).unwrap(), bytes);
+        if path.ends_with("ownership_pass/mod.rs") {
+            pass = String::from_utf8(bytes).unwrap();
+        }
+    }
+
+    for (file, place) in [
+        ("atlas_c.rs", "src/atlas_c/mod.rs".to_string()),
+        ("parser.rs", "src/atlas_c/atlas_frontend.rs".to_string()),
+        ("arena.rs", format!("{HIR}/arena.rs")),
+        ("item.rs", format!("{HIR}/item.rs")),
+        ("monomorphization_pass.rs", format!("{HIR}/monomorphization_pass.rs")),
+        ("wrapper.rs", format!("{HIR}/ownership_pass/mod.rs")),
+    ] {
+        write(&out.join(place), &fs::read(here.join("standins").join(file)).unwrap());
+    }
+    // modules that mod.rs of atlas_hir declares and nothing here uses
+    for empty in ["scope", "syntax_lowering_pass", "type_check_pass", "intrinsic_methods"] {
+        write(&out.join(format!("{HIR}/{empty}.rs")), b"");
+    }
+
+    write(&out.join("probe/published.rs"), probed(pass).as_bytes());
+    write(&out.join("probe/mod.rs"), &fs::read(here.join("standins/wrapper.rs")).unwrap());
+    let modules = [("atlas_c", out.join("src/atlas_c/mod.rs")), ("ownership_probe", out.join("probe/mod.rs"))];
+    let root: String =
+        modules.iter().map(|(name, file)| format!("#[path = {:?}]\npub mod {name};\n", file.display().to_string())).collect();
+    write(&out.join("root.rs"), root.as_bytes());
+}
+
+// ownership_pass/mod.rs is included by the wrapper that stands in its place.
+fn place_of(path: &str) -> String {
+    path.replace("ownership_pass/mod.rs", "ownership_pass/published.rs")
+}
+
+// mod.rs with a note of each registration and each join, of the states at the end, and with the file answered from memory.
+fn probed(pass: String) -> String {
+    let pass = replace(
+        pass,
+        1,
+        "var: LocalVar<'hir>) {\n",
+        "var: LocalVar<'hir>) {\n        crate::probe::registered(1 + scope_stack.iter().map(|f| f.locals.len()).sum::<usize>());\n",
+    );
+    let join = "self.merge_join_state(base_state, then_state, else_state)";
+    let pass = replace(pass, 1, join, &format!("{{ let joined = {join}; crate::probe::joined(self.state_spans(&joined).len()); joined }}"));
+    let walk = "self.transform_block(body.clone(), &mut scope_stack);";
+    let pass = replace(pass, 2, walk, &format!("{walk} crate::probe::ended(states_of(&scope_stack));"));
+    replace(pass, 7, "utils::get_file_content(", "crate::probe::file_content(")
+}
+
+fn replace(text: String, times: usize, old: &str, new: &str) -> String {
+    assert_eq!(text.matches(old).count(), times, "{old}");
+    text.replace(old, new)
+}
+
+fn write(path: &Path, bytes: &[u8]) {
+    fs::create_dir_all(path.parent().unwrap()).unwrap();
+    fs::write(path, bytes).unwrap();
+}
+
+// FNV-1a
+fn fnv(bytes: &[u8]) -> u64 {
+    bytes.iter().fold(0xcbf29ce484222325, |h, b| (h ^ *b as u64).wrapping_mul(0x100000001b3))
+}

@@ -1,0 +1,152 @@
+//! Images at the limits of document 01, and one past each.
+use crate::build::*;
+use crate::image::*;
+
+pub fn all() -> Vec<(String, Image)> {
+    let mut list: Vec<(String, Image)> = vec![];
+    let mut add = |label: String, image: Image| list.push((label, image));
+    for n in [64, 65] {
+        add(format!("{n} locals"), body(&[], locals(n)));
+        add(format!("{n} locals in two frames"), body(&[], [locals(n - 1), vec![Stmt::Block(block(20, locals(1)))]].concat()));
+        add(format!("{n} locals and this and parameters"), {
+            let mut i = body(&[V; 16], locals(n - 17));
+            (i.entry.receiver, i.entry.this) = (4, T);
+            i
+        });
+        add(format!("{n} locals after a frame was closed"), body(&[], [vec![Stmt::Block(block(20, locals(40)))], locals(n)].concat()));
+        add(format!("{n} locals after a return"), body(&[], [vec![back(20)], locals(n)].concat()));
+    }
+    for n in [8, 9] {
+        add(format!("{n} places by ifs"), body(&[V], [chain(n), vec![run(90, ident(91, V))]].concat()));
+        add(format!("{n} places by a tree"), body(&[V], vec![tree(n, 100), run(90, ident(91, V))]));
+        add(format!("{n} places consumed"), body(&[V], [consumed(n), vec![run(90, ident(91, V))]].concat()));
+        add(format!("{n} places in a loop"), body(&[V], vec![repeat(20, block(21, chain(n)))]));
+        add(
+            format!("{n} places in a branch that returns"),
+            body(&[V], vec![when(20, block(21, [chain(n), vec![back(22)]].concat()), None)]),
+        );
+        add(format!("{n} places before 65 locals"), body(&[V], [chain(n), locals(64)].concat()));
+        add(format!("65 locals before {n} places"), body(&[V], [locals(64), chain(n)].concat()));
+    }
+    // the ninth place comes where a branch returns, so no join is made of it
+    add(
+        "8 places and a ninth, returning: no else".into(),
+        body(&[V], [chain(8), vec![when(20, block(21, vec![moving(22, ident(23, V)), back(24)]), None)]].concat()),
+    );
+    let moved = |returns: bool| block(21, [vec![moving(22, ident(70, V))], vec![back(23); returns as usize]].concat());
+    let kept = |returns: bool| block(24, vec![back(25); returns as usize]);
+    for (label, then, other) in [
+        ("then", moved(true), kept(false)),
+        ("else", kept(false), moved(true)),
+        ("both", moved(true), kept(true)),
+        ("neither", moved(false), kept(false)),
+    ] {
+        let last = when(20, then, Some(other));
+        add(format!("8 places and a ninth, returning: {label}"), body(&[V], [chain(8), vec![last]].concat()));
+    }
+    add("8 places, one again".into(), body(&[V], [chain(8), chain(8), vec![run(90, ident(91, V))]].concat()));
+    for n in [12, 13] {
+        add(format!("blocks {n} deep"), Image { body: nested(n), ..tables() });
+        add(format!("loops {n} deep"), Image { body: looped(n), ..tables() });
+    }
+    for n in [24, 25] {
+        add(format!("expressions {n} deep"), body(&[V], vec![run(20, deep(n, ident(21, V)))]));
+        add(format!("unused result {n} deep"), body(&[V], vec![run(20, deep_call(n))]));
+    }
+    for n in [256, 257] {
+        add(format!("{n} errors"), body(&[V], [vec![deletion(20, V)], (0..n).map(|i| run(21, ident(i as SpanNo, V))).collect()].concat()));
+        add(format!("{n} warnings"), body(&[], (0..n).map(|i| run(i as SpanNo, call(21, T, literal(), vec![]))).collect()));
+        add(format!("{n} left behind"), body(&[V], (0..n).map(|i| back(i as SpanNo)).collect()));
+    }
+    add(
+        "257 errors and too long".into(),
+        body(&[], [locals(64), vec![moving(21, ident(22, V)); 258], vec![give(20, literal()); 1000]].concat()),
+    );
+    for total in [65_535, 65_536, 65_537] {
+        add(format!("{total} bytes"), long(total));
+    }
+    // 64 locals and so many returns: 64 deletes before each
+    let returns = |n| body(&[], [locals(64), vec![give(20, literal()); n]].concat());
+    add("65,535 statements or fewer out".into(), returns((65_535 - 64) / 65));
+    add("over 65,535 statements out".into(), returns((65_535 - 64) / 65 + 1));
+    for total in [65_535, 65_536, 65_537] {
+        add(format!("{total} bytes out"), grown(total));
+    }
+    list
+}
+
+fn locals(n: usize) -> Vec<Stmt> {
+    (0..n).map(|i| set(30 + i as SpanNo, if i == 0 { V } else { W }, T, literal())).collect()
+}
+
+fn chain(n: usize) -> Vec<Stmt> {
+    (0..n).map(|i| when(20, block(21, vec![moving(22, ident(50 + i as SpanNo, V))]), None)).collect()
+}
+
+fn consumed(n: usize) -> Vec<Stmt> {
+    let take = |i| run(22, call(23, PLAIN, field(50 + i as SpanNo, ident(24, V), TAKE), vec![]));
+    (0..n).map(|i| when(20, block(21, vec![take(i)]), None)).collect()
+}
+
+// An if and else of n moves at n places.
+fn tree(n: usize, first: SpanNo) -> Stmt {
+    if n == 1 {
+        return moving(22, ident(first, V));
+    }
+    let half = n / 2;
+    when(20, block(21, vec![tree(half, first)]), Some(block(21, vec![tree(n - half, first + half as SpanNo)])))
+}
+
+fn nested(n: usize) -> Block {
+    let inner = if n == 1 { locals(1) } else { vec![Stmt::Block(nested(n - 1)), set(20, V, T, literal())] };
+    block(n as SpanNo, inner)
+}
+
+fn looped(n: usize) -> Block {
+    let inner = if n == 1 { vec![Stmt::Break(20)] } else { vec![set(20, V, T, literal()), repeat(21, looped(n - 1)), back(22)] };
+    block(n as SpanNo, inner)
+}
+
+// An expression in casts, n deep in all.
+fn deep(n: usize, e: Expr) -> Expr {
+    (1..n).fold(e, |e, _| node(22, T, Node::Casting(Box::new(e))))
+}
+
+// A call, its argument n deep; its unused result is deleted.
+fn deep_call(n: usize) -> Expr {
+    call(21, T, literal(), vec![deep(n - 1, ident(22, V))])
+}
+
+// An image of a given length.
+fn long(total: usize) -> Image {
+    let mut i = body(&[V], vec![]);
+    let room = total - write(&i).bytes.len();
+    // a break takes 5 bytes; 16, 12, 8 and 24 have the other remainders
+    i.body.statements = match room % 5 {
+        0 => vec![],
+        1 => vec![set(20, W, PLAIN, literal())],
+        2 => vec![run(20, literal())],
+        3 => vec![back(20)],
+        _ => vec![back(20), back(21), back(22)],
+    };
+    let breaks = (total - write(&i).bytes.len()) / 5;
+    i.body.statements.extend(vec![Stmt::Break(20); breaks]);
+    assert_eq!(write(&i).bytes.len(), total);
+    i
+}
+
+// An image that grows to a given length: 64 locals, returns of a literal with 64 deletes before each, and breaks.
+fn grown(total: usize) -> Image {
+    let (returns, deletes) = (40, 64 * 40 + 64);
+    let tail = |n: usize| {
+        let mut i = body(&[], [locals(64), vec![give(20, literal()); returns]].concat());
+        i.names.push(vec![b'x'; n]);
+        i
+    };
+    // a name of 1 to 5 bytes gives the length its remainder by 5
+    let start = |n| write(&tail(n)).bytes.len() + 21 * deletes;
+    let n = (1..=5).find(|n| (total - start(*n)) % 5 == 0).unwrap();
+    let mut i = tail(n);
+    i.body.statements.extend(vec![Stmt::Break(20); (total - start(n)) / 5]);
+    i
+}

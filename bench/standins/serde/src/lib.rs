@@ -1,0 +1,2 @@
+//! Stands for serde: the published files derive `Serialize` and never serialize here.
+pub use derives::Serialize;

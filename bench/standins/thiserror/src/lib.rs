@@ -1,0 +1,2 @@
+//! Stands for thiserror: the published files derive `Error` for their error structs.
+pub use derives::Error;
