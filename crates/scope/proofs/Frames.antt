@@ -1,21 +1,21 @@
 -- Frames: what marks a name in its frame, and the end of a block, which drops the newest locals.
 -- Assumes nothing.
 use Prim.Native.Nat.{ℕ, suc, _≤_, _<_, _-_}
-use mathlib.Core.Path.{_≡_, refl, sym, ap, _∙_, subst}
-use mathlib.Core.Bool.{Bool, true, false, cond, not, _&&_}
-use mathlib.Core.List.{List, [], _∷_}
+use mathlib.Core.Path.{_≡_, refl, sym, ap, subst}
+use mathlib.Core.Bool.{Bool, true, false, cond, _&&_}
+use mathlib.Core.List.{[], _∷_}
 use borrow.Author.Tests.{eqb-true, eqb-false, eq-eqb, ne-eqb}
 use native.Mathlib.Omega.{arith}
 use lib.Dec.{eqb}
 use lib.ListN.{getD}
 use Rattle.rules.specs.State.{State as Status, alive, gone, moved, handState}
-use Rattle.rules.specs.Stack.{Static, Local, local, Shape, shape, inFrame, mark, pop, Stack as Scope}
+use Rattle.rules.specs.Stack.{Static, local, Shape, shape, inFrame, mark, pop, Stack as Scope}
 use Rattle.rules.specs.Rules.{states, register, joins}
 use Rattle.rules.proofs.Bools.{eqb-self}
 use Rattle.rules.proofs.Shapes.{popS, shape-frame, shape-mark, shape-pop, shape-joins}
 use Rattle.scope.specs.declared.Stack.{Stack}
 use Rattle.scope.specs.Kinds.{put}
-use Rattle.scope.specs.View.{localAt, seen, Nested, depthOf}
+use Rattle.scope.specs.View.{seen, Nested, depthOf}
 use Rattle.scope.proofs.Seen.{seen-pos, seen-none}
 
 mark-step : (b : Bool) (n : ℕ) (f : Status → Status) (s : Static) (a : Status) (σ : Scope Status) → mark n f σ ≡ inFrame n (depthOf n σ) f σ

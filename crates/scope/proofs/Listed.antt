@@ -3,7 +3,7 @@
 use Prim.Native.Nat.{ℕ, suc, _+_, _≤_, _<_}
 use mathlib.Core.Path.{_≡_, refl, sym, ap, _∙_}
 use mathlib.Core.List.{List, [], _∷_, _++_}
-use mathlib.Core.Bool.{Bool, true, false, cond, not, _&&_}
+use mathlib.Core.Bool.{Bool, true, false, cond, _&&_}
 use borrow.Author.Tests.{eq-eqb, ne-eqb, ltb-true, le-ltb, lt-ltb}
 use native.Mathlib.Nat.{lt-of-lt-of-le}
 use native.Mathlib.Numerals.{add-one}
@@ -15,7 +15,6 @@ use Rattle.fields.specs.Table.{member}
 use Rattle.fields.proofs.Tests.{false-true}
 use Rattle.rules.specs.State.{placesEq, combine}
 use Rattle.scope.specs.declared.Places.{Places}
-use Rattle.scope.specs.declared.NextPlaces.{NextPlaces}
 use Rattle.scope.specs.View.{listed, Roomy, Fits}
 
 pub rest-cons : (a : List ℕ) (i n : ℕ) → i < n → n ≤ length a → drop i (take n a) ≡ getD a i 0 ∷ drop (i + 1) (take n a)

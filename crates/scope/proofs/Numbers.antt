@@ -1,6 +1,6 @@
 -- Laws of the numbers of states.
 -- Assumes nothing.
-use Prim.Native.Nat.{ℕ, zero, suc, _+_, _≤_, _<_}
+use Prim.Native.Nat.{ℕ, zero, suc, _<_}
 use mathlib.Core.Path.{_≡_, refl, sym, ap, _∙_, subst}
 use mathlib.Core.Bool.{Bool, true, false, cond, not, _&&_, _||_, Bool·beq}
 use mathlib.Core.List.{List}
@@ -11,7 +11,7 @@ use lib.Dec.{eqb, ltb, T as So}
 use Rattle.fields.proofs.Tests.{split}
 use Rattle.rules.proofs.Bools.{and-l, and-r, yes≡}
 use Rattle.rules.specs.State.{Kind, deleted, moved, consumed, State, alive, gone, kindEq, placesEq, combine, joinKind, joinState}
-use Rattle.scope.specs.Kinds.{baseOf, kindOf, said, conditional, family}
+use Rattle.scope.specs.Kinds.{kindOf, said, conditional, family}
 
 -- a test of every number below n
 abbrev allBelow : ℕ → (ℕ → Bool) → Bool

@@ -1,10 +1,10 @@
-use Prim.Native.Nat.{ℕ, _≤_, _<_, _-_, _+_}
-use mathlib.Core.Path.{_≡_, refl, sym, _∙_, ap}
+use Prim.Native.Nat.{_≤_, _-_}
+use mathlib.Core.Path.{_≡_, sym, _∙_}
 use borrow.Author.Needs.{needs}
 use native.Mathlib.Omega.{arith}
 use Rattle.rules.specs.Stack.{lookup}
 use Rattle.scope.specs.declared.Stack.{Stack}
-use Rattle.scope.specs.View.{seen, view, Finds}
+use Rattle.scope.specs.View.{seen, view}
 use Rattle.scope.proofs.Seen.{find-hit, find-miss, find-end}
 use Rattle.scope.proofs.find_local.Statement.{statement}
 use Rattle.scope.proofs.find_local.Tie as tie

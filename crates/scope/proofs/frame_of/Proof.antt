@@ -1,9 +1,8 @@
 use mathlib.Core.List.{List}
 use lib.ListN.{getD}
-use Prim.Native.Nat.{ℕ, _≤_, _<_, _-_, _+_}
-use mathlib.Core.Path.{_≡_, refl, sym, _∙_, ap}
+use Prim.Native.Nat.{ℕ, _≤_, _-_}
+use mathlib.Core.Path.{_≡_, sym, _∙_, ap}
 use borrow.Author.Needs.{needs}
-use native.Mathlib.Omega.{arith}
 use Rattle.scope.specs.declared.Stack.{Stack}
 use Rattle.scope.specs.View.{seen, view, depthOf}
 use Rattle.scope.proofs.Seen.{depth-hit, depth-miss, depth-end}

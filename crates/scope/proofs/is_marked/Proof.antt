@@ -1,8 +1,5 @@
 use Rattle.scope.proofs.Numbers.{not-not}
-use Prim.Native.Nat.{ℕ, _≤_, _<_, _-_, _+_}
-use mathlib.Core.Path.{_≡_, refl, sym, _∙_, ap}
-use borrow.Author.Needs.{needs}
-use native.Mathlib.Omega.{arith}
+use Prim.Native.Nat.{_-_}
 use borrow.Author.Tests.{eq-eqb, ne-eqb}
 use Rattle.scope.proofs.is_marked.Statement.{statement}
 use Rattle.scope.proofs.is_marked.Tie as tie

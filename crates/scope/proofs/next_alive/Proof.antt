@@ -1,5 +1,5 @@
-use Prim.Native.Nat.{ℕ, _≤_, _<_, _-_, _+_}
-use mathlib.Core.Path.{_≡_, refl, sym, _∙_, ap}
+use Prim.Native.Nat.{ℕ, _≤_, _-_}
+use mathlib.Core.Path.{_≡_, refl, sym, _∙_}
 use borrow.Author.Needs.{needs}
 use native.Mathlib.Omega.{arith}
 use mathlib.Core.Bool.{Bool}
@@ -7,7 +7,7 @@ use Rattle.tables.specs.Tables.{Tables}
 use Rattle.rules.specs.Stack.{Static}
 use Rattle.rules.specs.Rules.{states, collect}
 use Rattle.scope.specs.declared.Stack.{Stack}
-use Rattle.scope.specs.View.{seen, Lives}
+use Rattle.scope.specs.View.{seen}
 use Rattle.scope.proofs.Seen.{drop-hit, drop-miss, drop-end}
 use Rattle.scope.proofs.next_alive.Statement.{statement}
 use Rattle.scope.proofs.next_alive.Tie as tie

@@ -1,13 +1,7 @@
-use Rattle.scope.specs.View.{Roomy}
-use Prim.Native.Nat.{ℕ, _≤_, _<_, _-_, _+_}
-use mathlib.Core.Path.{_≡_, refl, sym, _∙_, ap}
+use Prim.Native.Nat.{_-_}
+use mathlib.Core.Path.{_≡_, sym, _∙_}
 use native.Mathlib.Omega.{arith}
-use mathlib.Core.Bool.{cond}
-use mathlib.Core.List.{List, [], _∷_, _++_}
-use lib.Dec.{eqb}
-use lib.ListN.{length, set, length-set, length-append}
-use Rattle.fields.specs.Table.{member}
-use Rattle.scope.specs.View.{listed}
+use lib.ListN.{length-set, length-append}
 use Rattle.scope.proofs.Listed.{listed-length, take-add, fits-ok, fits-no}
 use borrow.Author.Needs.{needs}
 use Rattle.scope.proofs.Places.add.Statement.{statement}

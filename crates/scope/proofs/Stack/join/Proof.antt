@@ -1,14 +1,10 @@
-use Prim.Native.Nat.{ℕ, _≤_, _<_, _-_, _+_}
-use mathlib.Core.Path.{_≡_, refl, sym, _∙_, ap}
+use Prim.Native.Nat.{_≤_, _-_}
+use mathlib.Core.Path.{_≡_, refl, sym, _∙_}
 use borrow.Author.Needs.{needs}
 use native.Mathlib.Omega.{arith}
-use mathlib.Core.Bool.{Bool, true, false}
+use mathlib.Core.Bool.{true, false}
 use borrow.Author.Tests.{not-true, not-false}
-use Rattle.fields.proofs.Tests.{false-true}
-use Rattle.tables.specs.Limits.{version1}
-use Rattle.rules.specs.Rules.{states, joins}
-use Rattle.rules.specs.Walk.{crowded}
-use Rattle.scope.specs.View.{seen, view, Sound}
+use Rattle.scope.specs.View.{Sound}
 use Rattle.scope.proofs.Seen.{stored-sound}
 use Rattle.scope.proofs.Joined.{Joining, joining-none, joining-more, crowd-any, all-no, all-ok}
 use Rattle.scope.proofs.Stack.join.Statement.{statement}

@@ -1,7 +1,6 @@
-use Prim.Native.Nat.{ℕ, _≤_, _<_, _-_, _+_}
-use mathlib.Core.Path.{_≡_, refl, sym, _∙_, ap}
+use Prim.Native.Nat.{_≤_, _-_}
+use mathlib.Core.Path.{_≡_, refl, sym, _∙_}
 use borrow.Author.Needs.{needs}
-use native.Mathlib.Omega.{arith}
 use Rattle.scope.specs.View.{seen, view}
 use Rattle.scope.proofs.Seen.{counted-sound, counted-view}
 use Rattle.scope.proofs.Frames.{leave, leave-more, leave-stop, leave-end, leave-pop}

@@ -1,11 +1,11 @@
-use Prim.Native.Nat.{ℕ, _≤_, _<_, _-_, _+_}
+use Prim.Native.Nat.{ℕ, _≤_, _-_}
 use mathlib.Core.Path.{_≡_, refl, sym, _∙_, ap}
 use borrow.Author.Needs.{needs}
 use native.Mathlib.Omega.{arith}
 use mathlib.Core.Logic.{⊎-elim}
 use Rattle.rules.specs.Stack.{inFrame}
 use Rattle.scope.specs.Kinds.{put, said}
-use Rattle.scope.specs.View.{listed, stateOf, seen, view, Sound}
+use Rattle.scope.specs.View.{listed, stateOf, seen, view}
 use Rattle.scope.proofs.Seen.{Marking, done-none, marking-skip, marking-put}
 use Rattle.scope.proofs.Frames.{mark-frame}
 use Rattle.scope.proofs.Stack.mark.Statement.{statement}

@@ -1,8 +1,7 @@
-use Prim.Native.Nat.{ℕ, _≤_, _<_, _-_, _+_}
-use mathlib.Core.Path.{_≡_, refl, sym, _∙_, ap}
+use Prim.Native.Nat.{_-_}
+use mathlib.Core.Path.{sym, _∙_, ap}
 use native.Mathlib.Omega.{arith}
 use borrow.Author.Tests.{eq-eqb}
-use mathlib.Core.Bool.{false}
 use Rattle.rules.specs.State.{State}
 use Rattle.rules.specs.Stack.{mark}
 use Rattle.scope.specs.View.{view, Made}

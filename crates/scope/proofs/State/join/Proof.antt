@@ -1,6 +1,5 @@
-use Prim.Native.Nat.{ℕ, _≤_, _<_, _-_, _+_}
-use mathlib.Core.Path.{_≡_, refl, sym, _∙_, ap}
-use native.Mathlib.Omega.{arith}
+use Prim.Native.Nat.{_-_}
+use mathlib.Core.Path.{sym, _∙_}
 use Rattle.scope.proofs.Joined.{join-then-alive, join-else-alive, join-same, join-differ}
 use borrow.Author.Needs.{needs}
 use Rattle.scope.proofs.State.join.Statement.{statement}
