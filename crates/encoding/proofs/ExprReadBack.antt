@@ -19,7 +19,8 @@ use Rattle.encoding.specs.Body.{encodeExpr, encodeExprs}
 use Rattle.encoding.specs.Valid.{ValidScope, argBelow, ValidNode, EachExpr, ValidExpr}
 use Rattle.encoding.proofs.Parts.{split, here, two-here, four-here, field-read-back, goes, passes}
 use Rattle.encoding.proofs.Runs.{many-none, many-more}
-use Rattle.encoding.proofs.ExprWritten.{arg-width, count-width, last-width, one-arg}
+use Rattle.body.proofs.Standing.{one-arg}
+use Rattle.encoding.proofs.ExprWritten.{arg-width, count-width, last-width}
 
 -- the argument as it is read before the children and after them: 0 where it has no bytes
 record Args (names b k x : ℕ) : Type 0 where

@@ -20,7 +20,8 @@ use Rattle.body.specs.Stands.{count}
 use Rattle.encoding.specs.Valid.{argBelow, ValidNode, EachExpr, ValidExpr}
 use Rattle.encoding.proofs.Parts.{two-small}
 use Rattle.encoding.proofs.Runs.{many-all}
-use Rattle.encoding.proofs.ExprWritten.{arg-width, last-width, one-arg}
+use Rattle.body.proofs.Standing.{one-arg}
+use Rattle.encoding.proofs.ExprWritten.{arg-width, last-width}
 use Rattle.encoding.proofs.TablesValid.{field-none}
 
 pub four-small : (s : List ℕ) → Bytes s → (p : ℕ) → four s p < 4294967296

@@ -2,27 +2,26 @@
 -- Assumes nothing.
 use mathlib.Core.Path.{_≡_, refl, sym, ap, subst₂}
 use mathlib.Core.List.{List, [], _∷_}
-use mathlib.Core.Bool.{Bool, true, false, cond, _||_}
-use mathlib.Core.Logic.{_⊎_, inl, inr, ⊎-elim}
+use mathlib.Core.Bool.{cond}
+use mathlib.Core.Logic.{_⊎_, inl, ⊎-elim}
 use Prim.Native.Nat.{ℕ, zero, suc, _+_, _-_, _≤_, _<_}
 use native.Mathlib.Omega.{arith}
 use borrow.Author.Tests.{leb-true, ltb-true}
 use lib.ListN.{length, getD}
-use lib.Dec.{T, eqb, eqb→eq, eqb·suc-zero}
+use lib.Dec.{eqb, eqb·suc-zero}
 use Rattle.fields.specs.Parsed.{Parsed, ok}
 use Rattle.fields.specs.Number.{two, four}
 use Rattle.fields.specs.Bytes.{twoBytes, fourBytes, numberBytes, Bytes}
 use Rattle.fields.proofs.Inverse.{bound, ensure-ok, impossible}
-use Rattle.fields.proofs.Rules.{at}
 use Rattle.body.specs.Expr.{Head, Expr, Exprs, node, none, more, argWidth, countWidth, lastWidth, Scope, named, headAt, endAt, restAt, exprAt, exprsBy, exprsAt}
 use Rattle.body.specs.Stands.{count}
+use Rattle.body.proofs.Standing.{one-arg}
 use Rattle.encoding.specs.Written.{Written}
 use Rattle.encoding.specs.Body.{encodeExpr, encodeExprs}
 use Rattle.encoding.proofs.Parts.{at-most, byte-at, then, nothing, upto, from, being, two-at, four-at, field-written}
 use Rattle.encoding.proofs.Runs.{many-all}
 
--- the table of layouts: no argument or count takes more than two bytes, and no tag has both a name after the children and an
--- argument before them
+-- the table of layouts: no argument or count takes more than two bytes
 pub arg-width : (k : ℕ) → k < 16 → getD argWidth k 0 ≤ 2
 unfolding argWidth
 arg-width k lt = at-most 2 argWidth tt k lt
@@ -34,19 +33,6 @@ count-width k lt = at-most 2 countWidth tt k lt
 pub last-width : (k : ℕ) → k < 16 → getD lastWidth k 0 ≤ 2
 unfolding lastWidth
 last-width k lt = at-most 2 lastWidth tt k lt
-
-oneArg : ℕ → ℕ → Bool
-oneArg k x = eqb x 0 || eqb (getD argWidth k 0) 0
-
-or-cases : (a b : Bool) → T (a || b) → T a ⊎ T b
-or-cases true b x = inl tt
-or-cases false b x = inr x
-
-pub one-arg : (k : ℕ) → k < 16 → (getD lastWidth k 0 ≡ 0) ⊎ (getD argWidth k 0 ≡ 0)
-unfolding oneArg argWidth lastWidth
-one-arg k lt =
-    ⊎-elim (λ x. inl (eqb→eq _ _ x)) (λ x. inr (eqb→eq _ _ x))
-    (or-cases (eqb (getD lastWidth k 0) 0) (eqb (getD argWidth k 0) 0) (at oneArg lastWidth tt k lt))
 
 -- the argument stands before the children, or after them
 before-kept : (k b x a : ℕ) → (k ≡ 0) ⊎ (b ≡ 0) → numberBytes b x ≡ numberBytes b (cond (eqb k 0) x a)

@@ -11,11 +11,7 @@ use lib.ListN.{length, getD}
 use lib.Dec.{eqb}
 use Rattle.fields.proofs.Tests.{split}
 use Rattle.tables.specs.Name.{bytesAt, nameOf, sameBytes, startsWith}
-
-pub bytes-length : (s : List ℕ) (p n : ℕ) → length (bytesAt s p n) ≡ n
-unfolding bytesAt
-bytes-length s p zero = refl
-bytes-length s p (suc n) = ap suc (bytes-length s (p + 1) n)
+use Rattle.tables.proofs.Names.{length-bytes}
 
 pub rest-bytes : (s : List ℕ) (p n i : ℕ) → i < n → bytesAt s (p + i) (n - i) ≡ getD s (p + i) 0 ∷ bytesAt s (p + (i + 1)) (n - (i + 1))
 unfolding bytesAt
@@ -66,7 +62,7 @@ same-length (x ∷ xs) (y ∷ ys) n =
 module _ (s word : List ℕ) (at : ℕ) {n : ℕ} (e : n ≡ getD s at 0) where
   pub name-length : length (nameOf s at) ≡ n
   unfolding nameOf
-  name-length = bytes-length s (at + 1) (getD s at 0) ∙ sym e
+  name-length = length-bytes s (at + 1) (getD s at 0) ∙ sym e
 
   pub name-short : n < length word → false ≡ startsWith word (nameOf s at)
   name-short lt = sym (starts-short word (nameOf s at) (let l = name-length in omega arith))

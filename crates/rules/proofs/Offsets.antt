@@ -11,7 +11,7 @@ use lib.ListN.{length, getD, length-append}
 use lib.Dec.{eqb}
 use lib.Seq.{drop-length}
 use Rattle.fields.specs.Bytes.{Bytes, twoBytes, fourBytes, numberBytes}
-use Rattle.fields.proofs.Tests.{split, and-true}
+use Rattle.fields.proofs.Tests.{split, and-true, false-true}
 use Rattle.tables.specs.Limits.{Limits}
 use Rattle.tables.specs.Tables.{Tables}
 use Rattle.body.specs.Expr.{Head, Expr, Exprs, node, none, more, argWidth, countWidth, lastWidth, noopUnary, through, throughFirst}
@@ -60,11 +60,8 @@ unfolding numberBytes argWidth
 one-width h e = rw e refl
 
 -- a node that is, as it stands, a call
-absurd-bool : {C : Type 0} → false ≡ true → C
-absurd-bool e = let z : _≡_ {A = ℕ} 0 1 = cc in absurd (omega arith)
-
 not-call : {C : Type 0} {f : Expr} (v : View) → isCall v ≡ false → v ≡ aCall f → C
-not-call v n e = absurd-bool (sym n ∙ ap isCall e)
+not-call v n e = false-true (sym n ∙ ap isCall e)
 
 by-tag : (h : Head) (f : Expr) (a b c d k : Bool) → eqb (h .tag) 6 ≡ c → (ks : Exprs)
     → cond a (anIdent (h .arg) (h .span)) (cond b (aThis (h .span)) (cond c (callView ks) (cond d (deleteView ks) (cond k (fieldView h ks) other)))) ≡ aCall f
@@ -164,12 +161,12 @@ of-left s p [] = tt
 of-left s p (dropOf q n t ∷ ds) = of-left s p ds
 
 is-call : (v : View) → isCall v ≡ true → (f : Expr) × (v ≡ aCall f)
-is-call (anIdent n p) e = absurd-bool e
-is-call (aThis p) e = absurd-bool e
-is-call (aField p t n) e = absurd-bool e
-is-call (aDelete c) e = absurd-bool e
+is-call (anIdent n p) e = false-true e
+is-call (aThis p) e = false-true e
+is-call (aField p t n) e = false-true e
+is-call (aDelete c) e = false-true e
 is-call (aCall f) e = (f, refl)
-is-call other e = absurd-bool e
+is-call other e = false-true e
 
 of-unused : (s : List ℕ) (a : Bool) (p : ℕ) (e : Expr) (at q : ℕ) → Written s (at + 5) (encodeExpr e) q → Warned s (unused (a && isCall (view e)) p e at)
 unfolding Warned
