@@ -53,10 +53,10 @@ module _ {A L : Type 0} (nil : L) (cons : A → L → L) (f : ℕ → Parsed A) 
 
 -- a number in no bytes, one or two
 module _ (fault limit : ℕ) (s : List ℕ) (p : ℕ) {m q : ℕ} where
-  no-number : fieldAt fault limit 0 s p ≡ ok m q → (m ≡ 0) × (q ≡ p)
+  pub no-number : fieldAt fault limit 0 s p ≡ ok m q → (m ≡ 0) × (q ≡ p)
   no-number e = let g = field-ok e in let z : q ≡ p + 0 = g .end in (g .is, omega arith)
 
-  one-byte : fieldAt fault limit 1 s p ≡ ok m q → (m ≡ getD s p 0) × (q ≡ p + 1) × (q ≤ length s) × (getD s p 0 < limit)
+  pub one-byte : fieldAt fault limit 1 s p ≡ ok m q → (m ≡ getD s p 0) × (q ≡ p + 1) × (q ≤ length s) × (getD s p 0 < limit)
   one-byte e =
       let g = field-ok e in
       let z : q ≡ p + 1 = g .end in
@@ -90,14 +90,14 @@ module _ (t : Scope) (s : List ℕ) (d p : ℕ) {m q : ℕ} {es : Exprs} {r : �
 
 -- no block, or one, and no flag after it
 module _ (f : ℕ → Parsed Block) (s : List ℕ) (r : ℕ) {u w v n : ℕ} {bs cs : List Block} (e2 : fieldAt 8 2 0 s u ≡ ok w v) (e3 : manyOf [] _∷_ f w v ≡ ok cs n) where
-  no-block : manyOf [] _∷_ f 0 r ≡ ok bs u → n ≡ r
+  pub no-block : manyOf [] _∷_ f 0 r ≡ ok bs u → n ≡ r
   no-block e1 =
       let g = no-number _ _ _ _ e2 in
       let a : n ≡ v = many-none [] _∷_ f w v (g .0) e3 .1 in
       let b : u ≡ r = many-none [] _∷_ f 0 r refl e1 .1 in
       a ∙ g .1 ∙ b
 
-  one-block : manyOf [] _∷_ f 1 r ≡ ok bs u → (b : Block) × (f r ≡ ok b n) × (bs ≡ b ∷ [])
+  pub one-block : manyOf [] _∷_ f 1 r ≡ ok bs u → (b : Block) × (f r ≡ ok b n) × (bs ≡ b ∷ [])
   one-block e1 =
       let g = no-number _ _ _ _ e2 in
       let a : n ≡ v = many-none [] _∷_ f w v (g .0) e3 .1 in
@@ -105,28 +105,28 @@ module _ (f : ℕ → Parsed Block) (s : List ℕ) (r : ℕ) {u w v n : ℕ} {bs
       (b .0, b .1 ∙ ap (ok (b .0)) (sym (a ∙ g .1)), b .2)
 
 -- the steps of a statement of tag k
-record Parts (f : ℕ → Parsed Block) (t : Scope) (s : List ℕ) (at : ℕ) (x : Stmt) (n k : ℕ) : Type 0 where
-  tag : x .front .head .tag ≡ k
-  low : 0 < k
-  high : k < 11
-  fits : getD headBytes k 0 ≤ length s - at
-  binds : bindsOk (t .names) (t .types) (getD headBytes k 0) s at ≡ true
-  span : x .front .head .span ≡ cond (eqb k 1) 0 (four s (at + 1))
-  name : x .front .head .name ≡ cond (eqb (getD headBytes k 0) 9) (two s (at + 5)) 0
-  ty : x .front .head .ty ≡ cond (eqb (getD headBytes k 0) 9) (two s (at + 7)) 0
-  m : ℕ
-  p : ℕ
-  q : ℕ
-  r : ℕ
-  u : ℕ
-  w : ℕ
-  v : ℕ
-  flag : fieldAt 8 2 (getD valueFlag k 0) s (at + getD headBytes k 0) ≡ ok m p
-  values : exprsAt t s (t .exprDepth) (getD valueCount k 0 + m) p ≡ ok (x .front .values) q
-  type : fieldAt 8 (t .types) (getD typeWidth k 0) s q ≡ ok (x .front .last) r
-  blocks : manyOf [] _∷_ f (getD blockCount k 0) r ≡ ok (x .blocks) u
-  other : fieldAt 8 2 (getD elseFlag k 0) s u ≡ ok w v
-  others : manyOf [] _∷_ f w v ≡ ok (x .others) n
+pub record Parts (f : ℕ → Parsed Block) (t : Scope) (s : List ℕ) (at : ℕ) (x : Stmt) (n k : ℕ) : Type 0 where
+  pub tag : x .front .head .tag ≡ k
+  pub low : 0 < k
+  pub high : k < 11
+  pub fits : getD headBytes k 0 ≤ length s - at
+  pub binds : bindsOk (t .names) (t .types) (getD headBytes k 0) s at ≡ true
+  pub span : x .front .head .span ≡ cond (eqb k 1) 0 (four s (at + 1))
+  pub name : x .front .head .name ≡ cond (eqb (getD headBytes k 0) 9) (two s (at + 5)) 0
+  pub ty : x .front .head .ty ≡ cond (eqb (getD headBytes k 0) 9) (two s (at + 7)) 0
+  pub m : ℕ
+  pub p : ℕ
+  pub q : ℕ
+  pub r : ℕ
+  pub u : ℕ
+  pub w : ℕ
+  pub v : ℕ
+  pub flag : fieldAt 8 2 (getD valueFlag k 0) s (at + getD headBytes k 0) ≡ ok m p
+  pub values : exprsAt t s (t .exprDepth) (getD valueCount k 0 + m) p ≡ ok (x .front .values) q
+  pub type : fieldAt 8 (t .types) (getD typeWidth k 0) s q ≡ ok (x .front .last) r
+  pub blocks : manyOf [] _∷_ f (getD blockCount k 0) r ≡ ok (x .blocks) u
+  pub other : fieldAt 8 2 (getD elseFlag k 0) s u ≡ ok w v
+  pub others : manyOf [] _∷_ f w v ≡ ok (x .others) n
 
 record HeadParts (t : Scope) (s : List ℕ) (at : ℕ) (h : StmtHead) (q : ℕ) : Type 0 where
   tag : getD s at 0 ≡ h .tag
@@ -162,7 +162,7 @@ head-parts t s at h q e =
     }
 
 module _ (f : ℕ → Parsed Block) (t : Scope) (s : List ℕ) where
-  parts : (at : ℕ) (x : Stmt) (n : ℕ) → stmtAt f t s at ≡ ok x n → Parts f t s at x n (getD s at 0)
+  pub parts : (at : ℕ) (x : Stmt) (n : ℕ) → stmtAt f t s at ≡ ok x n → Parts f t s at x n (getD s at 0)
   parts at x n e =
       let r = stmt-read f t s x at n e in
       let g = head-parts t s at (x .front .head) (r .p1) (r .head) in
@@ -479,7 +479,7 @@ stmts-count f t s (suc k) at c n e =
 someHead : ℕ → ℕ → Bool
 someHead k x = eqb k 0 || ltb 0 x
 
-some-head : (k : ℕ) → 0 < k → k < 11 → 0 < getD headBytes k 0
+pub some-head : (k : ℕ) → 0 < k → k < 11 → 0 < getD headBytes k 0
 unfolding someHead headBytes
 some-head zero low lt = absurd (omega arith)
 some-head (suc k) low lt = ltb→lt _ _ (subst (λ b. T (b || ltb 0 (getD headBytes (suc k) 0))) (eqb·suc-zero k) (at someHead headBytes tt (suc k) lt))

@@ -43,7 +43,7 @@ pub record Inner (s : List ℕ) (p n : ℕ) (ks xs : Exprs) : Type 0 where
   pub items : xs ≡ none
   pub stands : Stands c s (p + 8) n
 
-inner : (s : List ℕ) (p n : ℕ) (h : Head) (ks xs : Exprs) → h .tag ≡ 3 → Stands (node h ks xs) s p n → Inner s p n ks xs
+pub inner : (s : List ℕ) (p n : ℕ) (h : Head) (ks xs : Exprs) → h .tag ≡ 3 → Stands (node h ks xs) s p n → Inner s p n ks xs
 unfolding Stands StandAll argWidth fixedCount countWidth lastWidth
 inner s p n h none xs e g = let f : count none ≡ getD fixedCount 3 0 = rw e at (g .3) in absurd (omega arith)
 inner s p n h (more c (more d ds)) xs e g = let f : count (more c (more d ds)) ≡ getD fixedCount 3 0 = rw e at (g .3) in absurd (omega arith)

@@ -3,6 +3,6 @@ pub mod Resolved
 pub mod Asked
 pub mod Start
 pub mod Follows
-mod Laws
+pub mod Laws
 mod Ends
 mod Stages

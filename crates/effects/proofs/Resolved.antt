@@ -1,4 +1,4 @@
--- The effects of an expression are its raw effects, resolved against the locals.
+-- The effects of expressions are their raw effects, resolved against the locals.
 -- Assumes nothing.
 use mathlib.Core.Path.{_≡_, refl, sym, ap, _∙_}
 use mathlib.Core.Bool.{Bool, true, false, cond, _&&_}
@@ -105,6 +105,6 @@ module _ (Γ : Shape) where
           (join _ _ (group T (handed (getD countWidth (h .tag) 0) (h .tag)) ks) _ (groups (handed (getD countWidth (h .tag) 0) (h .tag)) ks)
           (join _ _ (group T (handed 0 (h .tag)) xs) _ (groups (handed 0 (h .tag)) xs) (finish-law (node h ks xs))))
 
-      groups : (b : Bool) (es : Exprs) → whole.group T Γ b es ≡ resolveAll Γ (group T b es)
+      pub groups : (b : Bool) (es : Exprs) → whole.group T Γ b es ≡ resolveAll Γ (group T b es)
       groups b none = nothing
       groups b (more e es) = join _ _ (raws T e) _ (resolved e) (join _ _ (handIf T b e) _ (hand-law b e) (groups b es))

@@ -1,40 +1,38 @@
 -- The start and the end of a scan, for the loop that holds the array; and that a step leads on.
-use mathlib.Core.Path.{_≡_, refl, _∙_}
+use mathlib.Core.Path.{_≡_, refl, sym, ap, _∙_}
+use mathlib.Core.Bool.{false}
 use mathlib.Core.Logic.{inl}
 use mathlib.Core.List.{List, [], _∷_, append-nil}
 use Prim.Native.Nat.{ℕ, _-_, _≤_, _<_}
 use native.Mathlib.Omega.{arith}
 use lib.ListN.{length, length-set}
 use Rattle.tables.specs.Tables.{Tables}
-use Rattle.body.specs.Expr.{Expr, node, none, more, lastWidth}
-use Rattle.body.specs.Stands.{Stands, StandAll}
-use Rattle.body.specs.Depth.{depth, Walkable}
+use Rattle.body.specs.Expr.{Exprs, node, none, lastWidth}
+use Rattle.body.specs.Stands.{StandAll, count}
+use Rattle.body.specs.Depth.{depthAll, WalkableAll}
+use Rattle.body.proofs.Standing.{end-all}
 use Rattle.rules.specs.Effects.{handed, takes}
-use Rattle.effects.specs.Raw.{raws, group, finish}
+use Rattle.effects.specs.Raw.{group, finish}
 use Rattle.effects.specs.Scan.{Stage, Fits, Stacked, rest, pending, rootOf, topOf, Ready, Waits, Goes, nodesAfter, openAfter}
 use Rattle.effects.specs.declared.Open.{Open}
 use Rattle.effects.specs.declared.Step.{Step}
 
-ends : (e : Expr) (s : List ℕ) (p q : ℕ) → Stands e s p q → q ≤ length s
-unfolding Stands
-ends (node h ks xs) s p q g = g .8
-
--- the start: one child of a node of tag 0
-abbrev pub root : Expr → Stage
-root e = record {
-  code = record { start = 0; left = 1; tag = 0; counted = 0 };
-  whole = node (record { tag = 0; span = 0; ty = 0; arg = 0 }) (more e none) none;
-  kids = more e none;
+-- the start: the expressions are the children of a node of tag 0
+abbrev pub root : Exprs → Stage
+root es = record {
+  code = rootOf (count es);
+  whole = node (record { tag = 0; span = 0; ty = 0; arg = 0 }) es none;
+  kids = es;
   items = none;
 }
 
-pub start-tells : (T : Tables) (e : Expr) → pending T (root e ∷ []) ≡ raws T e
+pub start-tells : (T : Tables) (es : Exprs) → pending T (root es ∷ []) ≡ group T false es
 unfolding pending rest group finish handed takes
-start-tells T e = append-nil _ ∙ append-nil _ ∙ append-nil _
+start-tells T es = append-nil _ ∙ append-nil _
 
-root-fits : (s : List ℕ) (at : ℕ) (e : Expr) (next : ℕ) → Stands e s at next → depth e ≤ 24 → Fits s (root e) 0 at next
-unfolding StandAll depth lastWidth
-root-fits s at e next st d =
+root-fits : (s : List ℕ) (at : ℕ) (es : Exprs) (next : ℕ) → at ≤ length s → StandAll es s at next → depthAll es ≤ 24 → Fits s (root es) 0 at next
+unfolding StandAll depthAll lastWidth
+root-fits s at es next le st d =
     record {
       tag = refl;
       tag16 = omega arith;
@@ -44,20 +42,20 @@ root-fits s at e next st d =
       start = omega arith;
       a = next;
       u = next;
-      kids = (next, st, refl);
+      kids = st;
       number = refl;
       items = omega arith;
       end = omega arith;
-      inside = ends e s at next st;
+      inside = end-all es s at next le st;
       low-kids = omega arith;
       low-items = omega arith;
     }
 
 -- an array that starts with the root
-pub starts : (s : List ℕ) (os : List Open) (at : ℕ) (e : Expr) (next : ℕ) → topOf os 1 ≡ rootOf → Stands e s at next → depth e ≤ 24
-    → Stacked os 1 (root e ∷ []) s at next
+pub starts : (s : List ℕ) (os : List Open) (k at : ℕ) (es : Exprs) (next : ℕ) → topOf os 1 ≡ rootOf k → at ≤ length s → StandAll es s at next → count es ≡ k
+    → depthAll es ≤ 24 → Stacked os 1 (root es ∷ []) s at next
 unfolding Stacked
-starts s os at e next eo st d = (0, next, refl, eo, root-fits s at e next st d, (refl, refl))
+starts s os k at es next eo le st many d = (0, next, refl, eo ∙ ap rootOf (sym many), root-fits s at es next le st d, (refl, refl))
 
 -- the end: nothing is pending, and the position is the end
 pub finished : (T : Tables) (s : List ℕ) (os : List Open) (n p e : ℕ) (frames : List Stage) → n ≤ 0 → Stacked os n frames s p e
@@ -66,11 +64,12 @@ unfolding Stacked pending
 finished T s os n p e [] le g = (refl, g .1)
 finished T s os n p e (f ∷ fs) le g = let z = g .2 in absurd (omega arith)
 
-pub ready-start : (s : List ℕ) (os : List Open) (at : ℕ) → topOf os 1 ≡ rootOf → length os ≡ 26 → Walkable s 24 at → length s ≤ 65536 → Ready s os 1 at
-ready-start s os at eo room w small = record {
-  frames = root (w .e) ∷ [];
+pub ready-start : (s : List ℕ) (os : List Open) (k at : ℕ) → topOf os 1 ≡ rootOf k → length os ≡ 26 → at ≤ length s → WalkableAll s 24 k at → length s ≤ 65536
+    → Ready s os 1 at
+ready-start s os k at eo room le w small = record {
+  frames = root (w .es) ∷ [];
   end = w .next;
-  stacked = starts s os at (w .e) (w .next) eo (w .stands) (w .shallow);
+  stacked = starts s os k at (w .es) (w .next) eo le (w .stand) (w .many) (w .shallow);
   room = room;
   small = small;
 }

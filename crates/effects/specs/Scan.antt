@@ -93,8 +93,9 @@ module _ (T : Tables) where
   pending [] = []
   pending (f ∷ fs) = rest f ++ pending fs
 
-abbrev pub rootOf : Open
-rootOf = record { start = 0; left = 1; tag = 0; counted = 0 }
+-- whoever holds k expressions
+abbrev pub rootOf : ℕ → Open
+rootOf k = record { start = 0; left = k; tag = 0; counted = 0 }
 
 -- the innermost open node
 abbrev pub topOf : List Open → ℕ → Open

@@ -84,7 +84,7 @@ fn wide32(x: u32) -> usize
 }
 
 // The number in two bytes, 0 for what is past the end.
-fn name_at(s: &[u8], at: usize) -> u16
+pub fn name_at(s: &[u8], at: usize) -> u16
     requires { ⌜ at < length (now s) + 16 ⌝ }
     ensures { λ r. ⌜ r ≡ two (now (s .entry)) at ⌝ }
 {
@@ -92,7 +92,7 @@ fn name_at(s: &[u8], at: usize) -> u16
 }
 
 // The place in four bytes, 0 for what is past the end.
-fn span_at(s: &[u8], at: usize) -> u32
+pub fn span_at(s: &[u8], at: usize) -> u32
     requires { ⌜ at < length (now s) + 14 ⌝ }
     ensures { λ r. ⌜ r ≡ four (now (s .entry)) at ⌝ }
 {
@@ -100,7 +100,7 @@ fn span_at(s: &[u8], at: usize) -> u32
 }
 
 // Whether a name is one of the table that begins with `__tmp`.
-fn is_temp(s: &[u8], names: &[usize], n: u16) -> bool
+pub fn is_temp(s: &[u8], names: &[usize], n: u16) -> bool
     requires { ⌜ AllWithin (now s) (now names) ⌝ }
     ensures { λ r. ⌜ ((T : Tables) → map (nameOf (now (s .entry))) (now (names .entry)) ≡ T .names → r ≡ isTempOf T n) ⌝ }
 {
@@ -292,13 +292,13 @@ fn is_handed(counted: u8, tag: u8) -> bool
     false
 }
 
-// Whoever holds the expression: one child.
-pub fn root() -> Open
-    ensures { λ r. ⌜ r ≡ rootOf ⌝ }
+// Whoever holds k expressions: so many children.
+pub fn root(k: u16) -> Open
+    ensures { λ r. ⌜ r ≡ rootOf k ⌝ }
 {
     Open {
         start: 0,
-        left: 1,
+        left: k,
         tag: 0,
         counted: 0,
     }

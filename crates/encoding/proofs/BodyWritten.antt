@@ -72,7 +72,7 @@ module _ (s : List ℕ) (small : Bytes s) where
         many-all [] _∷_ f (λ b p q. Written s p (encodeBlock b) q) (λ bs n p q. Written s p (eachBytes encodeBlock bs) q × (length bs ≡ n))
         (λ p. (nothing, refl)) (λ b bs n p q r x y. (then x (y .0), ap suc (y .1))) each
 
-    stmt-written : (t : Scope) (p : ℕ) (x : Stmt) (q : ℕ) → stmtAt f t s p ≡ ok x q → StmtWritten s x p q
+    pub stmt-written : (t : Scope) (p : ℕ) (x : Stmt) (q : ℕ) → stmtAt f t s p ≡ ok x q → StmtWritten s x p q
     unfolding stmtBytes
     stmt-written t p x q e =
         let g = stmt-read f t s x p q e in

@@ -29,34 +29,34 @@ counted s n bytes rest = let h = length-append bytes rest in omega arith
 
 -- the lengths of statements' bytes
 module _ {X Y : Type 0} where
-  exprStmt-bytes : (s : ℕ) (e : Expr) (y : Y) (r : Code X Y) → length (encodeCode (exprStmt s e y r)) ≡ 5 + length (encodeExpr e) + length (encodeCode r)
+  pub exprStmt-bytes : (s : ℕ) (e : Expr) (y : Y) (r : Code X Y) → length (encodeCode (exprStmt s e y r)) ≡ 5 + length (encodeExpr e) + length (encodeCode r)
   unfolding encodeCode fourBytes twoBytes
   exprStmt-bytes s e y r = let h = length-append (encodeExpr e) (encodeCode r) in omega arith
 
-  variable-bytes : (k : Bool) (s n t : ℕ) (e : Expr) (r : Code X Y) → length (encodeCode (variable k s n t e r)) ≡ 9 + length (encodeExpr e) + length (encodeCode r)
+  pub variable-bytes : (k : Bool) (s n t : ℕ) (e : Expr) (r : Code X Y) → length (encodeCode (variable k s n t e r)) ≡ 9 + length (encodeExpr e) + length (encodeCode r)
   unfolding encodeCode fourBytes twoBytes
   variable-bytes k s n t e r = let h = length-append (encodeExpr e) (encodeCode r) in omega arith
 
-  assign-bytes : (s : ℕ) (e v : Expr) (t : ℕ) (x : X) (r : Code X Y) → length (encodeCode (assign s e v t x r)) ≡ 7 + length (encodeExpr e) + length (encodeExpr v) + length (encodeCode r)
+  pub assign-bytes : (s : ℕ) (e v : Expr) (t : ℕ) (x : X) (r : Code X Y) → length (encodeCode (assign s e v t x r)) ≡ 7 + length (encodeExpr e) + length (encodeExpr v) + length (encodeCode r)
   unfolding encodeCode fourBytes twoBytes
   assign-bytes s e v t x r =
       let h = length-append (encodeExpr e) (encodeExpr v ++ (twoBytes t ++ encodeCode r)) in
       let h′ = length-append (encodeExpr v) (twoBytes t ++ encodeCode r) in
       omega arith
 
-  return-bytes : (s : ℕ) (e : Expr) (t : ℕ) (x : X) (r : Code X Y) → length (encodeCode (return s e t x r)) ≡ 8 + length (encodeExpr e) + length (encodeCode r)
+  pub return-bytes : (s : ℕ) (e : Expr) (t : ℕ) (x : X) (r : Code X Y) → length (encodeCode (return s e t x r)) ≡ 8 + length (encodeExpr e) + length (encodeCode r)
   unfolding encodeCode fourBytes twoBytes
   return-bytes s e t x r = let h = length-append (encodeExpr e) (twoBytes t ++ encodeCode r) in omega arith
 
-  bareReturn-bytes : (s t : ℕ) (r : Code X Y) → length (encodeCode (bareReturn s t r)) ≡ 8 + length (encodeCode r)
+  pub bareReturn-bytes : (s t : ℕ) (r : Code X Y) → length (encodeCode (bareReturn s t r)) ≡ 8 + length (encodeCode r)
   unfolding encodeCode fourBytes twoBytes
   bareReturn-bytes s t r = omega arith
 
-  block-bytes : (s : ℕ) (c r : Code X Y) → length (encodeCode (block s c r)) ≡ 7 + length (encodeCode c) + length (encodeCode r)
+  pub block-bytes : (s : ℕ) (c r : Code X Y) → length (encodeCode (block s c r)) ≡ 7 + length (encodeCode c) + length (encodeCode r)
   unfolding encodeCode
   block-bytes s c r = let h = counted s (size c) (encodeCode c) (encodeCode r) in omega arith
 
-  ifElse-bytes : (s : ℕ) (e : Expr) (ts : ℕ) (t : Code X Y) (us : ℕ) (u r : Code X Y)
+  pub ifElse-bytes : (s : ℕ) (e : Expr) (ts : ℕ) (t : Code X Y) (us : ℕ) (u r : Code X Y)
       → length (encodeCode (ifElse s e ts t us u r)) ≡ 18 + length (encodeExpr e) + length (encodeCode t) + length (encodeCode u) + length (encodeCode r)
   unfolding encodeCode fourBytes twoBytes
   ifElse-bytes s e ts t us u r =
@@ -66,21 +66,21 @@ module _ {X Y : Type 0} where
       let h″ = counted us (size u) (encodeCode u) (encodeCode r) in
       omega arith
 
-  ifThen-bytes : (s : ℕ) (e : Expr) (ts : ℕ) (t r : Code X Y) → length (encodeCode (ifThen s e ts t r)) ≡ 12 + length (encodeExpr e) + length (encodeCode t) + length (encodeCode r)
+  pub ifThen-bytes : (s : ℕ) (e : Expr) (ts : ℕ) (t r : Code X Y) → length (encodeCode (ifThen s e ts t r)) ≡ 12 + length (encodeExpr e) + length (encodeCode t) + length (encodeCode r)
   unfolding encodeCode fourBytes twoBytes
   ifThen-bytes s e ts t r =
       let h = length-append (encodeExpr e) (withCount ts (size t) (encodeCode t) ++ (0 ∷ encodeCode r)) in
       let h′ = counted ts (size t) (encodeCode t) (0 ∷ encodeCode r) in
       omega arith
 
-  while-bytes : (s : ℕ) (e : Expr) (ts : ℕ) (t r : Code X Y) → length (encodeCode (while s e ts t r)) ≡ 11 + length (encodeExpr e) + length (encodeCode t) + length (encodeCode r)
+  pub while-bytes : (s : ℕ) (e : Expr) (ts : ℕ) (t r : Code X Y) → length (encodeCode (while s e ts t r)) ≡ 11 + length (encodeExpr e) + length (encodeCode t) + length (encodeCode r)
   unfolding encodeCode fourBytes twoBytes
   while-bytes s e ts t r =
       let h = length-append (encodeExpr e) (withCount ts (size t) (encodeCode t) ++ encodeCode r) in
       let h′ = counted ts (size t) (encodeCode t) (encodeCode r) in
       omega arith
 
-  jump-bytes : (k : Bool) (s : ℕ) (r : Code X Y) → length (encodeCode (jump k s r)) ≡ 5 + length (encodeCode r)
+  pub jump-bytes : (k : Bool) (s : ℕ) (r : Code X Y) → length (encodeCode (jump k s r)) ≡ 5 + length (encodeCode r)
   unfolding encodeCode fourBytes twoBytes
   jump-bytes k s r = omega arith
 

@@ -1,0 +1,3 @@
+-- What the proofs of several functions and crates use.
+pub mod Fronts
+pub mod Surely

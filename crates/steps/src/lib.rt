@@ -1,0 +1,1 @@
+// Definitions and laws only: a statement by itself, at the head of a list.

@@ -1,0 +1,35 @@
+-- One expression, and the two of an assignment, as the rules name them.
+-- Assumes nothing.
+use mathlib.Core.Path.{_≡_, ap}
+use mathlib.Core.Bool.{false}
+use mathlib.Core.List.{_++_, append-nil}
+use Rattle.tables.specs.Tables.{Tables}
+use Rattle.body.specs.Expr.{Expr, none, more}
+use Rattle.rules.specs.State.{State as Status}
+use Rattle.rules.specs.Stack.{Shape, shape, Stack as Scope}
+use Rattle.rules.specs.Effects.{effects, group, assignEffects}
+use Rattle.rules.specs.Rules.{states, applyAll, evaluate, beforeAssign}
+use Rattle.rules.specs.Report.{reportAll}
+use Rattle.validation.specs.Quiet.{afterAll, toldAll}
+
+module _ (T : Tables) where
+  group-one : (Γ : Shape) (e : Expr) → group T Γ false (more e none) ≡ effects T Γ e
+  unfolding group
+  group-one Γ e = append-nil (effects T Γ e)
+
+  group-two : (Γ : Shape) (d v : Expr) → group T Γ false (more d (more v none)) ≡ assignEffects T Γ d v
+  unfolding group assignEffects
+  group-two Γ d v = ap (λ l. effects T Γ d ++ l) (append-nil (effects T Γ v))
+
+  module _ (σ : Scope Status) where
+    pub after-one : (e : Expr) → afterAll T (more e none) σ ≡ evaluate states T e σ
+    after-one e = ap (λ l. applyAll states l σ) (group-one (shape σ) e)
+
+    pub told-one : (e : Expr) → toldAll T (more e none) σ ≡ reportAll (effects T (shape σ) e) σ
+    told-one e = ap (λ l. reportAll l σ) (group-one (shape σ) e)
+
+    pub after-two : (d v : Expr) → afterAll T (more d (more v none)) σ ≡ beforeAssign states T d v σ
+    after-two d v = ap (λ l. applyAll states l σ) (group-two (shape σ) d v)
+
+    pub told-two : (d v : Expr) → toldAll T (more d (more v none)) σ ≡ reportAll (assignEffects T (shape σ) d v) σ
+    told-two d v = ap (λ l. reportAll l σ) (group-two (shape σ) d v)

@@ -1,0 +1,7 @@
+-- What the proofs of several functions use; callers use Groups, of Entries what joins runs of entries, and of Runs what joins effects.
+pub mod Groups
+pub mod Entries
+pub mod Runs
+mod Single
+mod Steps
+mod Scans

@@ -1,0 +1,178 @@
+-- A block's head, and what is known behind it and at its end.
+-- Assumes nothing.
+use Prim.Native.Nat.{ℕ, suc, _+_, _-_, _*_, _≤_, _<_}
+use native.Mathlib.Omega.{arith}
+use mathlib.Core.Path.{_≡_, refl, sym, ap, _∙_, subst}
+use mathlib.Core.Bool.{Bool, true, false}
+use mathlib.Core.List.{List}
+use mathlib.Core.Option.{Option, none, some}
+use lib.ListN.{length}
+use lib.Seq.{slice}
+use Rattle.fields.specs.Parsed.{ok}
+use Rattle.fields.specs.Number.{two, four}
+use Rattle.fields.specs.Bytes.{Bytes, fourBytes}
+use Rattle.tables.specs.Limits.{version1}
+use Rattle.tables.specs.Tables.{Tables}
+use Rattle.body.specs.Expr.{Scope as Reading}
+use Rattle.body.specs.Stmt.{Tree, Block, blockAt, stmtsAt}
+use Rattle.body.proofs.Statements.{BlockParts, block-parts}
+use Rattle.encoding.proofs.Parts.{four-at}
+use Rattle.rules.specs.State.{State as Status}
+use Rattle.rules.specs.Stack.{shape, Stack as Scope}
+use Rattle.rules.specs.Walk.{walkFault}
+use Rattle.effects.specs.Scan.{Lent, Says}
+use Rattle.scope.specs.View.{view, Sound, Framed}
+use Rattle.scope.specs.declared.Stack.{Stack}
+use Rattle.scope.proofs.Frames.{nested-deeper}
+use Rattle.writing.specs.Stored.{Stored}
+use Rattle.writing.proofs.Stores.{four-length}
+use Rattle.drops.specs.Drops.{Askable, Tells}
+use Rattle.returns.specs.Returns.{StmtThere, BlockThere}
+use Rattle.returns.proofs.Surely.{block-there}
+use Rattle.statements.specs.declared.Place.{Place}
+use Rattle.statements.specs.Act.{Within, Grows}
+use Rattle.statements.proofs.Slices.{written-slice}
+use Rattle.steps.specs.Own.{numberOf}
+use Rattle.steps.proofs.Faults.{real-none, real-walk}
+use Rattle.walk.specs.declared.Env.{Env}
+use Rattle.walk.specs.declared.Walk.{Walk}
+use Rattle.walk.specs.Walks.{Memory, memory, Ready, Safe, Leads, StmtsThere, StmtsWalk, EndThere, EndSafe, Ends, BlockWalks}
+use Rattle.walk.proofs.Wrotes.{grows-both, within-on}
+use Rattle.walk.proofs.Blocks.{Inside, block-done}
+
+-- the span that a block's head copies
+pub span-stored : (s : List ℕ) → Bytes s → (at : ℕ) → at + 6 ≤ length s → {out out′ : List ℕ} {i k : ℕ} → Stored out i (slice at (at + 4) s) out′ k → Stored out i (fourBytes (four s at)) out′ k
+span-stored s small at room {out} {out′} {i} {k} x = subst (λ (v : List ℕ). Stored out i v out′ k) (written-slice (four-at s small at (omega arith))) x
+
+pub span-length : (s : List ℕ) → Bytes s → (at : ℕ) → at + 6 ≤ length s → {out out′ : List ℕ} {i k : ℕ} → Stored out i (slice at (at + 4) s) out′ k → k ≡ i + 4
+span-length s small at room x = let g = span-stored s small at room x .place in let l = four-length (four s at) in omega arith
+
+-- the place behind a block's head
+abbrev pub headed : Place → ℕ → Place
+headed p gap = record { at = p .at + 6; last = p .at + 6; written = gap + 2; errors = p .errors; warnings = p .warnings; lefts = p .lefts; inserted = 0; fits = p .fits }
+
+module _ (s : List ℕ) (p : Place) (gap : ℕ) (room : p .at + 6 ≤ length s) (eg : gap ≡ p .written + 4) where
+  pub head-grows : Grows s p (headed p gap)
+  head-grows = record { on = omega arith; inside = room; written = omega arith; errors = omega arith; warnings = omega arith; lefts = omega arith; inserted = omega arith }
+
+  pub head-inside : Inside s p (headed p gap) gap
+  head-inside = record { at = refl; written = refl; errors = refl; warnings = refl; lefts = refl; inserted = refl; fits = refl }
+
+  pub head-ready : (left left′ : ℕ) (q : Place) (st : Stack) → q ≡ headed p gap → left′ ≡ left - 1 → 0 < left → Ready s left p st → Ready s left′ q st
+  head-ready left left′ q st eq el low r = record {
+    within = subst (Within s) (sym eq) (within-on (r .within) head-grows);
+    depth = let h = r .depth in omega arith;
+    framed = record {
+      sound = r .framed .sound;
+      nested = nested-deeper (12 - left) (12 - left′) (shape (view st)) (let h = r .depth in omega arith) (r .framed .nested);
+    };
+  }
+
+-- the statements of a block that was read
+pub stmts-in : (s : List ℕ) (left left′ at total at′ : ℕ) → left′ ≡ left - 1 → total ≡ two s (at + 4) → at′ ≡ at + 6 → BlockThere s left at → StmtsThere s left′ total at′
+stmts-in s left left′ at total at′ el et ep b =
+    let g = block-parts (b .t) s left at (b .b) (b .next) (b .read) in
+    record {
+      t = b .t;
+      deep = b .deep;
+      c = b .b .code;
+      end = b .next;
+      read = subst (λ (i : ℕ). stmtsAt (b .t) s left′ total i ≡ ok (b .b .code) (b .next)) (sym ep)
+          (subst (λ (k : ℕ). stmtsAt (b .t) s left′ k (at + 6) ≡ ok (b .b .code) (b .next)) (sym et)
+          (subst (λ (l : ℕ). stmtsAt (b .t) s l (two s (at + 4)) (at + 6) ≡ ok (b .b .code) (b .next)) (sym el) (g .stmts)));
+    }
+
+-- the walk of a block's statements, said of the block: depths and places as the code has them
+module _ (T : Tables) (s : List ℕ) (left left′ total : ℕ) (σ : Scope Status) (p q : Place) (gap : ℕ) (w : Walk) (m m₁ m₂ : Memory)
+    (low : 0 < left) (high : left ≤ 12) (el : left′ ≡ left - 1) (et : total ≡ two s (p .at + 4)) (eq : q ≡ headed p gap)
+    (sw : StmtsWalk T s left′ (12 - left′) total σ q m₁ w m₂) where
+  -- a walk of the statements of depth suc (12 - left)
+  depth-same : 12 - left′ ≡ suc (12 - left)
+  depth-same = omega arith
+
+  inner : (t : Reading) → t .exprDepth ≡ 24 → (b : Block) (n : ℕ) → blockAt t s left (p .at) ≡ ok b n
+      → (w .fault ≡ numberOf (walkFault version1 T (b .code) (suc (12 - left)) σ))
+      × (walkFault version1 T (b .code) (suc (12 - left)) σ ≡ none
+      → Leads T s t (left - 1) (suc (12 - left)) (two s (p .at + 4)) (b .code) σ (headed p gap) m₁ 0 (view (w .stack)) (w .place) m₂ n)
+  inner t deep b n e =
+      let g = block-parts t s left (p .at) b n e in
+      let sw1 = subst (λ (l : ℕ). StmtsWalk T s l (12 - left′) total σ q m₁ w m₂) el sw in
+      let sw2 = subst (λ (d : ℕ). StmtsWalk T s (left - 1) d total σ q m₁ w m₂) depth-same sw1 in
+      let sw3 = subst (λ (k : ℕ). StmtsWalk T s (left - 1) (suc (12 - left)) k σ q m₁ w m₂) et sw2 in
+      let sw4 = subst (λ (x : Place). StmtsWalk T s (left - 1) (suc (12 - left)) (two s (p .at + 4)) σ x m₁ w m₂) eq sw3 in
+      sw4 .walks t deep (b .code) n (g .stmts)
+
+  pub head-fault : 0 < w .fault → BlockWalks T s left (suc (12 - left)) σ p m w m₂
+  head-fault lt = record {
+    walks = λ t deep b n e.
+        let i = inner t deep b n e in
+        let f = i .0 in
+        (f, λ z. let y = f ∙ ap numberOf z in absurd (omega arith));
+  }
+
+  -- the last statement was read
+  pub last-there : w .fault ≤ 0 → BlockThere s left (p .at) → 0 < two s (p .at + 4) → StmtThere s (left - 1) (w .place .last)
+  last-there z h few =
+      let i = inner (h .t) (h .deep) (h .b) (h .next) (h .read) in
+      let f = i .0 in
+      let clear = real-none (walkFault version1 T (h .b .code) (suc (12 - left)) σ) (real-walk T (h .b .code) (suc (12 - left)) σ) (sym f ∙ omega arith) in
+      let l = i .1 clear .last few in
+      record { t = h .t; deep = h .deep; x = l .0; next = l .1; read = l .2 }
+
+  pub head-walks : (small : Bytes s) (room : p .at + 6 ≤ length s) (eg : gap ≡ p .written + 4) → w .fault ≤ 0 → (r : Walk) (out′ : List ℕ)
+      → Stored (m .out) (p .written) (fourBytes (four s (p .at))) (m₁ .out) gap
+      → Ends T s left (suc (12 - left)) (view (w .stack)) p gap (w .place) (m₂ .out) r out′
+      → m₁ .errs ≡ m .errs → m₁ .warns ≡ m .warns → m₁ .lefts ≡ m .lefts
+      → BlockWalks T s left (suc (12 - left)) σ p m r (memory out′ (m₂ .errs) (m₂ .warns) (m₂ .lefts))
+  head-walks small room eg z r out′ head ends a₁ a₂ a₃ = record {
+    walks = λ t deep b n e.
+        let i = inner t deep b n e in
+        let f = i .0 in
+        let clear = real-none (walkFault version1 T (b .code) (suc (12 - left)) σ) (real-walk T (b .code) (suc (12 - left)) σ) (sym f ∙ omega arith) in (
+          ends .fault ∙ ap numberOf (sym clear),
+          λ nil. block-done T s t deep left (suc (12 - left)) b n σ (view (w .stack)) p (headed p gap) (w .place) m m₁ m₂ gap r out′
+              (block-parts t s left (p .at) b n e) (head-inside s p gap room eg) head (i .1 clear) ends (memory out′ (m₂ .errs) (m₂ .warns) (m₂ .lefts)) a₁ a₂ a₃ refl refl refl refl,
+        );
+  }
+
+-- what the end of a block asks, and what is safe behind it
+pub asked-of : (s ns ts xs : List ℕ) (count first : ℕ) → Lent s ns ts xs count first → Askable s ts xs
+asked-of s ns ts xs count first l = record { types = l .types; structs = l .structs; lower = l .lower }
+
+pub told-of : (s ns ts xs : List ℕ) (count first : ℕ) (T : Tables) → Says s ns ts xs count first T → Tells s ts xs T
+told-of s ns ts xs count first T h = record { types = h .types; structs = h .structs }
+
+-- behind a block
+pub block-safe : (s : List ℕ) (left left′ : ℕ) (p q : Place) (gap : ℕ) (w r : Walk) → p .at + 6 ≤ length s → gap ≡ p .written + 4 → q ≡ headed p gap
+    → Safe s (12 - left′) q w → w .fault ≤ 0 → EndSafe left (w .place) r → r .place .at ≡ w .place .at → r .place .errors ≡ w .place .errors → r .place .warnings ≡ w .place .warnings
+    → r .place .lefts ≡ w .place .lefts → r .place .inserted ≡ p .inserted → Safe s (12 - left) p r
+block-safe s left left′ p q gap w r room eg eq safe z ends ea ee ew el ei = record {
+  grows = λ clear.
+      let g = subst (λ (x : Place). Grows s x (w .place)) eq (safe .grows (omega arith)) in
+      record {
+        on = omega (arith, g .on);
+        inside = subst (λ (k : ℕ). k ≤ length s) (sym ea) (g .inside);
+        written = omega (arith, g .written, ends .most);
+        errors = omega (arith, g .errors);
+        warnings = omega (arith, g .warnings);
+        lefts = omega (arith, g .lefts);
+        inserted = omega (arith, g .on);
+      };
+  framed = λ clear. ends .framed;
+}
+
+-- the depth of a block's statements
+pub depth-inner : (left left′ : ℕ) → 0 < left → left ≤ 12 → left′ ≡ left - 1 → 12 - left′ ≡ suc (12 - left)
+depth-inner left left′ low high el = omega arith
+
+-- what is lent is lent in a block too
+pub env-lent : {s ns ts xs : List ℕ} (env : Env) {e : Env} {k : ℕ} → e ≡ record { globals = env .globals; first = env .first; left = k } → Lent s ns ts xs (env .globals) (env .first)
+    → Lent s ns ts xs (e .globals) (e .first)
+env-lent {s} {ns} {ts} {xs} env is h = subst (λ (x : Env). Lent s ns ts xs (x .globals) (x .first)) (sym is) h
+
+pub env-says : {s ns ts xs : List ℕ} (env : Env) {e : Env} {k : ℕ} {T : Tables} → e ≡ record { globals = env .globals; first = env .first; left = k } → Says s ns ts xs (env .globals) (env .first) T
+    → Says s ns ts xs (e .globals) (e .first) T
+env-says {s} {ns} {ts} {xs} env {T = T} is h = subst (λ (x : Env). Says s ns ts xs (x .globals) (x .first) T) (sym is) h
+
+pub framed-at : {k l : ℕ} {st : Stack} → k ≡ l → Framed k st → Framed l st
+framed-at {st = st} e h = subst (λ (d : ℕ). Framed d st) e h

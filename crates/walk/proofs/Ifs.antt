@@ -1,0 +1,243 @@
+-- The blocks of an IfElse and a While, from the walks of their blocks.
+-- Assumes nothing.
+use Prim.Native.Nat.{ℕ, zero, suc, _+_, _-_, _≤_, _<_}
+use native.Mathlib.Omega.{arith}
+use mathlib.Core.Path.{_≡_, refl, sym, ap, _∙_, subst}
+use mathlib.Core.Bool.{Bool, true, false, _&&_}
+use mathlib.Core.List.{List, [], _∷_}
+use mathlib.Core.Option.{Option, none, some}
+use lib.ListN.{length, getD}
+use Rattle.fields.specs.Parsed.{ok}
+use Rattle.fields.specs.Bytes.{Bytes}
+use Rattle.tables.specs.Limits.{version1}
+use Rattle.tables.specs.Tables.{Tables}
+use Rattle.body.specs.Expr.{Expr, Scope as Reading}
+use Rattle.body.specs.Stmt.{Tree, Block, ifElse, ifThen, while, blockAt}
+use Rattle.rules.specs.State.{State as Status}
+use Rattle.rules.specs.Stack.{Shape, shape, Stack as Scope}
+use Rattle.rules.specs.Rules.{states, sureFrom, joins, merge, exit}
+use Rattle.rules.specs.Walk.{tooWide, walkFault}
+use Rattle.rules.proofs.Shapes.{shape-merge}
+use Rattle.scope.specs.View.{view, Sound, Framed, Branches, Nested}
+use Rattle.scope.specs.declared.Stack.{Stack}
+use Rattle.scope.proofs.Seen.{length-seen}
+use Rattle.writing.specs.Stored.{Stored}
+use Rattle.returns.specs.Returns.{BlockThere, BranchesThere}
+use Rattle.statements.specs.declared.Place.{Place}
+use Rattle.statements.specs.Act.{Within, Grows}
+use Rattle.steps.specs.Own.{numberOf, Own, byte, both, blockOwn}
+use Rattle.steps.proofs.Faults.{real-none, real-walk}
+use Rattle.steps.proofs.Shaped.{shape-block}
+use Rattle.steps.proofs.Plain.{length-shape}
+use Rattle.walk.specs.declared.Walk.{Walk}
+use Rattle.walk.specs.Walks.{Memory, memory, Wrote, Ready, Safe, BlockDone, BlockWalks, BlocksWalk, ElseDone, ElseWalks, ElseThere, IfThere, Merges, IfWalks, LoopWalks}
+use Rattle.walk.proofs.Wrotes.{wrote-both, grows-both, within-on}
+use Rattle.walk.proofs.Branches.{block-end, first-fault, if-then, if-else, second-fault, loop-blocks}
+
+-- the place behind a flag
+abbrev pub flagged : Place → ℕ → Place
+flagged p written = record { at = p .at + 1; last = p .last; written = written; errors = p .errors; warnings = p .warnings; lefts = p .lefts; inserted = p .inserted; fits = p .fits }
+
+and-none : (a : Bool) → a ≡ (a && true)
+and-none true = refl
+and-none false = refl
+
+none-at : (xs : List ℕ) (i : ℕ) → Stored xs i [] xs i
+none-at xs i = record { cells = refl; place = omega arith }
+
+module _ (s : List ℕ) (p q : Place) (written b : ℕ) (out out₁ errs warns lefts : List ℕ) (eq : q ≡ flagged p written) (x : Stored out (p .written) (b ∷ []) out₁ written) where
+  pub flag-wrote : Wrote (byte b) p (memory out errs warns lefts) q (memory out₁ errs warns lefts)
+  flag-wrote = subst (λ (y : Place). Wrote (byte b) p (memory out errs warns lefts) y (memory out₁ errs warns lefts)) (sym eq) (record {
+    bytes = λ h. x;
+    errors = none-at errs (p .errors);
+    warnings = none-at warns (p .warnings);
+    lefts = none-at lefts (p .lefts);
+    fits = and-none (p .fits);
+  })
+
+module _ (s : List ℕ) (p q : Place) (written b : ℕ) (out out₁ : List ℕ) (eq : q ≡ flagged p written) (x : Stored out (p .written) (b ∷ []) out₁ written) where
+  pub flag-grows : p .at < length s → Grows s p q
+  flag-grows inside =
+      subst (Grows s p) (sym eq) (let w : written ≡ p .written + 1 = x .place in
+      record { on = omega arith; inside = omega arith; written = omega arith; errors = omega arith; warnings = omega arith; lefts = omega arith; inserted = omega arith })
+
+  pub flag-ready : p .at < length s → (left : ℕ) (st : Stack) → Ready s left p st → Ready s left q st
+  flag-ready inside left st r = record { within = within-on (r .within) (flag-grows inside); depth = r .depth; framed = r .framed }
+
+module _ (T : Tables) (s : List ℕ) (left d : ℕ) (σ : Scope Status) (p q : Place) (written : ℕ) (out out₁ errs warns lefts : List ℕ) (eq : q ≡ flagged p written)
+    (x : Stored out (p .written) (getD s (p .at) 0 ∷ []) out₁ written) where
+  -- no second block
+  pub else-none : getD s (p .at) 0 ≡ 0 → (r : Walk) (st : Stack) → r ≡ record { fault = 0; sure = false; place = q; stack = st } → view st ≡ σ
+      → ElseWalks T s left d σ p (memory out errs warns lefts) r (memory out₁ errs warns lefts)
+  else-none z r st er es = record {
+    without = λ h. (
+      ap (λ (w : Walk). w .fault) er,
+      record {
+        wrote = subst (λ (y : Place). Wrote (byte 0) p (memory out errs warns lefts) y (memory out₁ errs warns lefts)) (sym (ap (λ (w : Walk). w .place) er))
+            (flag-wrote s p q written 0 out out₁ errs warns lefts eq (subst (λ (k : ℕ). Stored out (p .written) (k ∷ []) out₁ written) z x));
+        inserted = ap (λ (w : Walk). w .place .inserted) er ∙ ap (λ (y : Place). y .inserted) eq;
+        last = ap (λ (w : Walk). w .place .last) er ∙ ap (λ (y : Place). y .last) eq;
+        at = ap (λ (w : Walk). w .place .at) er ∙ ap (λ (y : Place). y .at) eq;
+        locals = ap (λ (w : Walk). view (w .stack)) er ∙ es;
+        sure = ap (λ (w : Walk). w .sure) er;
+      },
+    );
+    with = λ h. absurd (omega arith);
+  }
+
+  -- the second block
+  pub else-block : (getD s (p .at) 0 ≡ 0 → ⊥) → (r : Walk) (m′ : Memory) → BlockWalks T s left d σ q (memory out₁ errs warns lefts) r m′
+      → ElseWalks T s left d σ p (memory out errs warns lefts) r m′
+  else-block nz r m′ w = record {
+    without = λ h. absurd (nz h);
+    with = λ h t deep b next e.
+        let at : q .at ≡ p .at + 1 = ap (λ (y : Place). y .at) eq in
+        let g = w .walks t deep b next (subst (λ (k : ℕ). blockAt t s left k ≡ ok b next) (sym at) e) in (
+          g .0,
+          λ clear.
+              let a = g .1 clear in
+              record {
+                wrote = subst (λ (k : ℕ). Wrote (both (byte 1) (blockOwn T (b .span) (b .code) d k σ)) p (memory out errs warns lefts) (r .place) m′) at
+                    (wrote-both (flag-wrote s p q written 1 out out₁ errs warns lefts eq (subst (λ (k : ℕ). Stored out (p .written) (k ∷ []) out₁ written) h x)) (a .wrote));
+                inserted = a .inserted ∙ ap (λ (y : Place). y .inserted) eq;
+                last = a .last ∙ ap (λ (y : Place). y .last) eq;
+                at = a .at;
+                locals = a .locals;
+                sure = a .sure;
+              },
+        );
+  }
+
+-- the blocks of an IfElse
+pub then-there : (s : List ℕ) (left at : ℕ) → IfThere s left at → BlockThere s left at
+then-there s left at i = let h = i .there in record { t = h .t; deep = h .deep; b = h .b; next = h .flag; read = h .body }
+
+module _ (T : Tables) (s : List ℕ) (small : Bytes s) (left d : ℕ) (σ : Scope Status) (p : Place) (m : Memory) (v : Walk) (m₁ : Memory) (bw : BlockWalks T s left (suc d) σ p m v m₁) where
+  -- a fault of the first block
+  pub if-first : 0 < v .fault → IfWalks T s left d σ p m v m₁
+  if-first lt = record {
+    without = λ t deep b q e z sp x c. first-fault T s small t left d σ p m (ifThen sp x (b .span) (b .code) c) b _ refl v m₁ (q + 1) (bw .walks t deep b q e .0) lt;
+    with = λ t deep b q e z u next e′ sp x c. first-fault T s small t left d σ p m (ifElse sp x (b .span) (b .code) (u .span) (u .code) c) b _ refl v m₁ next (bw .walks t deep b q e .0) lt;
+  }
+
+  pub loop-first : 0 < v .fault → LoopWalks T s left d σ p m v m₁
+  loop-first lt = record { walks = λ t deep b q e sp x c. first-fault T s small t left d σ p m (while sp x (b .span) (b .code) c) b _ refl v m₁ q (bw .walks t deep b q e .0) lt }
+
+  module _ (z : v .fault ≤ 0) where
+    -- the first block without a fault
+    first-clear : (t : Reading) → t .exprDepth ≡ 24 → (b : Block) (q : ℕ) → blockAt t s left (p .at) ≡ ok b q → walkFault version1 T (b .code) (suc d) σ ≡ none
+    first-clear t deep b q e =
+        let f = bw .walks t deep b q e .0 in
+        real-none (walkFault version1 T (b .code) (suc d) σ) (real-walk T (b .code) (suc d) σ) (sym f ∙ omega arith)
+
+    first-done : (t : Reading) (deep : t .exprDepth ≡ 24) (b : Block) (q : ℕ) → blockAt t s left (p .at) ≡ ok b q → BlockDone T b (suc d) σ p m v m₁ q
+    first-done t deep b q e = bw .walks t deep b q e .1 (first-clear t deep b q e)
+
+    pub loop-walks : (w r : Walk) → w .place ≡ v .place → view (w .stack) ≡ σ → w .sure ≡ false → Merges false σ (view (v .stack)) w r → LoopWalks T s left d σ p m r m₁
+    loop-walks w r ew ev es g = record {
+      walks = λ t deep b q e sp x c.
+          loop-blocks T s small t left d σ p m b v m₁ q (first-clear t deep b q e) (first-done t deep b q e) sp x c w r ew ev es g;
+    }
+
+    -- the flag was read where the first block ends
+    pub else-there : IfThere s left (p .at) → ElseThere s left (v .place .at)
+    else-there i =
+        let h = i .there in
+        let at : v .place .at ≡ h .flag = first-done (h .t) (h .deep) (h .b) (h .flag) (h .body) .at in
+        record {
+          inside = let l = h .end in omega arith;
+          flag = subst (λ (k : ℕ). getD s k 0 < 2) (sym at) (i .flag);
+          with = λ lt.
+              let o = h .other (subst (λ (k : ℕ). 0 < getD s k 0) at lt) in
+              record { t = h .t; deep = h .deep; b = o .0; next = o .1; read = subst (λ (k : ℕ). blockAt (h .t) s left (k + 1) ≡ ok (o .0) (o .1)) (sym at) (o .2) };
+        }
+
+    module _ (w : Walk) (m₂ : Memory) (ew : ElseWalks T s left (suc d) σ (v .place) m₁ w m₂) where
+      flag-at : (t : Reading) (deep : t .exprDepth ≡ 24) (b : Block) (q : ℕ) → blockAt t s left (p .at) ≡ ok b q → {k : ℕ} → getD s q 0 ≡ k → getD s (v .place .at) 0 ≡ k
+      flag-at t deep b q e {k} h = subst (λ (i : ℕ). getD s i 0 ≡ k) (sym (first-done t deep b q e .at)) h
+
+      other-at : (t : Reading) (deep : t .exprDepth ≡ 24) (b : Block) (q : ℕ) → blockAt t s left (p .at) ≡ ok b q → (u : Block) (next : ℕ) → blockAt t s left (q + 1) ≡ ok u next
+          → blockAt t s left (v .place .at + 1) ≡ ok u next
+      other-at t deep b q e u next e′ = subst (λ (i : ℕ). blockAt t s left (i + 1) ≡ ok u next) (sym (first-done t deep b q e .at)) e′
+
+      -- a fault of the second block
+      pub if-second : 0 < w .fault → IfWalks T s left d σ p m w m₂
+      if-second lt = record {
+        without = λ t deep b q e h sp x c. let f = ew .without (flag-at t deep b q e h) .0 in absurd (omega arith);
+        with = λ t deep b q e h u next e′ sp x c.
+            second-fault T s small t left d σ p m b v m₁ q (first-clear t deep b q e) (first-done t deep b q e) sp x u c w m₂ next
+            (ew .with (flag-at t deep b q e h) t deep u next (other-at t deep b q e u next e′) .0) lt;
+      }
+
+      pub if-walks : w .fault ≤ 0 → (r : Walk) → Merges (v .sure) σ (view (v .stack)) w r → IfWalks T s left d σ p m r m₂
+      if-walks y r g = record {
+        without = λ t deep b q e h sp x c.
+            if-then T s small t left d σ p m b v m₁ q (first-clear t deep b q e) (first-done t deep b q e) w r m₂ g sp x c (ew .without (flag-at t deep b q e h) .1);
+        with = λ t deep b q e h u next e′ sp x c.
+            let k = ew .with (flag-at t deep b q e h) t deep u next (other-at t deep b q e u next e′) in
+            let f = k .0 in
+            let free = real-none (walkFault version1 T (u .code) (suc d) σ) (real-walk T (u .code) (suc d) σ) (sym f ∙ omega arith) in
+            if-else T s small t left d σ p m b v m₁ q (first-clear t deep b q e) (first-done t deep b q e) w r m₂ g sp x u next c (block-end s small t left (p .at) b q e) free (k .1 free);
+      }
+
+-- the shapes of the branches' stacks
+pub shape-count : (a b : Stack) → shape (view a) ≡ shape (view b) → a .count ≡ b .count
+shape-count a b e =
+    let x = length-seen (a .count) a in
+    let y = length-seen (b .count) b in
+    let u = length-shape (view a) in
+    let v = length-shape (view b) in
+    let w = ap length e in
+    omega arith
+
+module _ (T : Tables) (s : List ℕ) (left d : ℕ) (σ : Scope Status) (nested : Nested d (shape σ)) (p : Place) (m : Memory) (v : Walk) (m₁ : Memory)
+    (bw : BlockWalks T s left (suc d) σ p m v m₁) (z : v .fault ≤ 0) where
+  pub block-shape : BlockThere s left (p .at) → shape (view (v .stack)) ≡ shape σ
+  block-shape h =
+      let g = bw .walks (h .t) (h .deep) (h .b) (h .next) (h .read) in
+      let f = g .0 in
+      let clear = real-none (walkFault version1 T (h .b .code) (suc d) σ) (real-walk T (h .b .code) (suc d) σ) (sym f ∙ omega arith) in
+      ap shape (g .1 clear .locals) ∙ shape-block T (h .b .code) d σ nested
+
+module _ (T : Tables) (s : List ℕ) (left d : ℕ) (σ : Scope Status) (nested : Nested d (shape σ)) (p : Place) (m : Memory) (w : Walk) (m₁ : Memory)
+    (ew : ElseWalks T s left (suc d) σ p m w m₁) (z : w .fault ≤ 0) where
+  pub else-shape : ElseThere s left (p .at) → shape (view (w .stack)) ≡ shape σ
+  else-shape h = go (getD s (p .at) 0) refl
+    where
+      go : (k : ℕ) → getD s (p .at) 0 ≡ k → shape (view (w .stack)) ≡ shape σ
+      go zero e = ap shape (ew .without e .1 .locals)
+      go (suc k) e =
+          let b = h .with (omega arith) in
+          let one : getD s (p .at) 0 ≡ 1 = let l = h .flag in omega arith in
+          let g = ew .with one (b .t) (b .deep) (b .b) (b .next) (b .read) in
+          let f = g .0 in
+          let clear = real-none (walkFault version1 T (b .b .code) (suc d) σ) (real-walk T (b .b .code) (suc d) σ) (sym f ∙ omega arith) in
+          ap shape (g .1 clear .locals) ∙ shape-block T (b .b .code) d σ nested
+
+-- behind two branches
+pub merge-safe : (s : List ℕ) (d : ℕ) (σ τ : Scope Status) (b : Bool) (p : Place) (w r : Walk) → Nested d (shape σ) → shape τ ≡ shape σ → shape (view (w .stack)) ≡ shape σ
+    → Merges b σ τ w r → (r .fault ≡ 0 → Sound (r .stack)) → Grows s p (w .place) → Safe s d p r
+merge-safe s d σ τ b p w r nested et ew g sound on = record {
+  grows = λ z. subst (Grows s p) (sym (g .place)) on;
+  framed = λ z. record {
+    sound = sound z;
+    nested = subst (Nested d) (sym (ap shape (g .locals z) ∙ shape-merge states b (w .sure) σ τ (view (w .stack)) (shape σ) refl et ew)) nested;
+  };
+}
+
+-- the code's tests and results
+pub there-at : {s : List ℕ} {left i j : ℕ} → i ≡ j → BlockThere s left j → BlockThere s left i
+there-at {s} {left} e h = subst (BlockThere s left) (sym e) h
+
+above : (k : ℕ) → (k ≡ 0 → ⊥) → 0 < k
+above zero h = absurd (h refl)
+above (suc k) h = omega arith
+
+pub above-none : {k : ℕ} → (k ≡ 0 → ⊥) → 0 < k
+above-none {k} h = above k h
+
+pub branches-of : (a b : Stack) (st : Stack) → b ≡ st → Sound a → Sound st → shape (view a) ≡ shape (view st) → Branches a b
+branches-of a b st e x y h = subst (Branches a) (sym e) (record { sound = x; other = y; alike = shape-count a st h })
+
+pub grows-to : {s : List ℕ} {p q r : Place} → r ≡ q → Grows s p q → Grows s p r
+grows-to {s} {p} e g = subst (Grows s p) (sym e) g
