@@ -7,7 +7,7 @@ use mathlib.Core.Bool.{Bool, true, false, cond, not, _&&_}
 use mathlib.Core.List.{List, [], _∷_, _++_, append-assoc, append-nil}
 use mathlib.Core.Option.{Option, none, some}
 use borrow.Author.Tests.{leb-true}
-use lib.ListN.{length}
+use lib.ListN.{length, length-append}
 use Rattle.fields.proofs.Tests.{false-true}
 use lib.Dec.{leb}
 use lib.Seq.{sets}
@@ -144,6 +144,15 @@ module _ (T : Tables) (s : List ℕ) (t : Reading) (deep : t .exprDepth ≡ 24) 
       ∙ ap (λ (k : ℕ). fourBytes (four s (p .at)) ++ (twoBytes k ++ (g .o .bytes ++ deleteBytes ds))) (counted ∙ sym (rest-low count low)))
       (both-stored head (patched gapped body (e .counts)))
 
+  block-long : r .place .written ≡ p .written + length (withCount (four s (p .at)) (size whole) (encodeCode whole))
+  block-long =
+      let a = length-append (fourBytes (four s (p .at))) (twoBytes (size whole) ++ encodeCode whole) in
+      let b = length-append (twoBytes (size whole)) (encodeCode whole) in
+      let c = ap length code in
+      let f = length-append (g .o .bytes) (deleteBytes ds) in
+      let h = two-length (size whole) in
+      omega (arith, head .place, inside .written, g .wrote .long, e .deletes .place)
+
   told : report T (b .code) d (p .at + 6) σ ≡ g .o .reports
   told =
       ap (λ (k : ℕ). report T (b .code) d k σ) (sym (inside .at)) ∙ g .reports
@@ -170,6 +179,7 @@ module _ (T : Tables) (s : List ℕ) (t : Reading) (deep : t .exprDepth ≡ 24) 
       errors = listed errors a₁ b₁ (inside .errors) (e .errors) (g .wrote .errors);
       warnings = listed warnings a₂ b₂ (inside .warnings) (e .warnings) (g .wrote .warnings);
       lefts = listed lefts a₃ b₃ (inside .lefts) (e .lefts) (g .wrote .lefts);
+      long = subst (λ (sp : ℕ). r .place .written ≡ p .written + length (withCount sp (size (returned T (b .code) sp d false σ)) (encodeCode (returned T (b .code) sp d false σ)))) (sym (parts .span)) block-long;
       fits = subst (λ (sp : ℕ). r .place .fits ≡ (p .fits && (leb (size (returned T (b .code) sp d false σ)) 65535 && countsFit 65535 (returned T (b .code) sp d false σ)))) (sym (parts .span)) block-fits;
     };
     inserted = e .inserted;

@@ -70,6 +70,7 @@ module _ (T : Tables) (c : Tree) (d : ℕ) (σ : Scope Status) (p q : Place) (a 
   pub front-wrote : Wrote (frontOwn T c (p .at) σ) p before-it (a .place) after-it
   front-wrote = record {
     bytes = λ h. at-place (e .written) (acts .bytes);
+    long = at-place (e .written) (acts .bytes) .place;
     errors =
         let g : errors (toldAll T (valuesOf c) σ ++ fronts) ≡ toldAll T (valuesOf c) σ =
         errors-append (toldAll T (valuesOf c) σ) fronts ∙ ap (λ (x : List Report). errors (toldAll T (valuesOf c) σ) ++ x) (front-errors T c (p .at) (valued T c σ))

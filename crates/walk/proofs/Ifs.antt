@@ -49,6 +49,7 @@ module _ (s : List ℕ) (p q : Place) (written b : ℕ) (out out₁ errs warns l
   pub flag-wrote : Wrote (byte b) p (memory out errs warns lefts) q (memory out₁ errs warns lefts)
   flag-wrote = subst (λ (y : Place). Wrote (byte b) p (memory out errs warns lefts) y (memory out₁ errs warns lefts)) (sym eq) (record {
     bytes = λ h. x;
+    long = x .place;
     errors = none-at errs (p .errors);
     warnings = none-at warns (p .warnings);
     lefts = none-at lefts (p .lefts);

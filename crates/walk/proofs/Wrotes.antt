@@ -5,7 +5,7 @@ use native.Mathlib.Omega.{arith}
 use mathlib.Core.Path.{_≡_, refl, sym, ap, _∙_, subst}
 use mathlib.Core.Bool.{Bool, true, false, _&&_}
 use mathlib.Core.List.{List, [], _∷_, _++_, append-nil}
-use lib.ListN.{length}
+use lib.ListN.{length, length-append}
 use Rattle.tables.specs.Limits.{version1}
 use Rattle.fields.proofs.Tests.{and-true}
 use Rattle.rules.specs.Report.{Report, errors, warnings, lefts}
@@ -45,6 +45,7 @@ wrote-both {a} {b} {p} {q} {r} x y = record {
   errors = stored-both errors errors-append (a .reports) (b .reports) (x .errors) (y .errors);
   warnings = stored-both warnings warnings-append (a .reports) (b .reports) (x .warnings) (y .warnings);
   lefts = stored-both lefts lefts-append (a .reports) (b .reports) (x .lefts) (y .lefts);
+  long = let l = length-append (a .bytes) (b .bytes) in omega (arith, x .long, y .long);
   fits = y .fits ∙ ap (λ (z : Bool). z && b .fits) (x .fits) ∙ and-assoc (p .fits) (a .fits) (b .fits);
 }
 
@@ -62,6 +63,7 @@ wrote-nothing {p} {q} {m} e = record {
   errors = subst (Stored (m .errs) (p .errors) [] (m .errs)) (e .errors) (none-stored (m .errs) (p .errors));
   warnings = subst (Stored (m .warns) (p .warnings) [] (m .warns)) (e .warnings) (none-stored (m .warns) (p .warnings));
   lefts = subst (Stored (m .lefts) (p .lefts) [] (m .lefts)) (e .lefts) (none-stored (m .lefts) (p .lefts));
+  long = let w = e .written in omega arith;
   fits = sym (e .fits) ∙ and-none (p .fits);
 }
 

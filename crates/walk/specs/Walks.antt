@@ -46,12 +46,13 @@ pub record Memory : Type 0 where
 abbrev pub memory : List ℕ → List ℕ → List ℕ → List ℕ → Memory
 memory out errs warns lefts = record { out = out; errs = errs; warns = warns; lefts = lefts }
 
--- from one place to another o was stored
+-- from one place to another o was stored, its bytes as far as no block counts too many
 pub record Wrote (o : Own) (p : Place) (m : Memory) (q : Place) (m′ : Memory) : Type 0 where
   pub bytes : q .fits ≡ true → Stored (m .out) (p .written) (o .bytes) (m′ .out) (q .written)
   pub errors : Stored (m .errs) (p .errors) (entriesOf version1 (errors (o .reports))) (m′ .errs) (q .errors)
   pub warnings : Stored (m .warns) (p .warnings) (entriesOf version1 (warnings (o .reports))) (m′ .warns) (q .warnings)
   pub lefts : Stored (m .lefts) (p .lefts) (entriesOf version1 (lefts (o .reports))) (m′ .lefts) (q .lefts)
+  pub long : q .written ≡ p .written + length (o .bytes)
   pub fits : q .fits ≡ (p .fits && o .fits)
 
 -- a statement without a fault: what is stored, where it ends, the deletes put in, where it began, the locals

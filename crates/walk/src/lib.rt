@@ -628,7 +628,7 @@ fn inside(p: Place, gap: usize) -> Place
 }
 
 // A block, with so much depth left.
-fn transform_block(
+pub fn transform_block(
     s: &[u8],
     ns: &[usize],
     ts: &[usize],
