@@ -117,7 +117,7 @@ by-two k n = ⊎-elim
     (λ (h : k < suc (n / 2)). le-leb (2 * k) n (omega arith) ∙ sym (le-leb k (n / 2) (omega arith)))
     (λ (h : suc (n / 2) ≤ k). lt-leb (2 * k) n (omega arith) ∙ sym (lt-leb k (n / 2) (omega arith))) (less k (suc (n / 2)))
 
-fault-some : (x : Option ℕ) (n : ℕ) → n ≡ numberOf x → 0 < n → x ≡ some n
+pub fault-some : (x : Option ℕ) (n : ℕ) → n ≡ numberOf x → 0 < n → x ≡ some n
 fault-some none n e h = absurd (omega arith)
 fault-some (some m) n e h = ap some (sym e)
 

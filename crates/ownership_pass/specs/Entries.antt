@@ -11,8 +11,8 @@ use Rattle.rules.specs.Verdict.{Lent, Verdict, refuses, answers, passVerdict, r
 use Rattle.walk.specs.Walks.{Memory, memory}
 use Rattle.ownership_pass.specs.declared.Outcome.{Outcome}
 use Rattle.ownership_pass.specs.declared.Outcome.the-variants.{Accepted, Refused}
-use Rattle.ownership_pass.specs.declared.Room.{Room}
-use Rattle.ownership_pass.specs.declared.Room.the-variants.{Needed, Denied}
+use Rattle.ownership_pass.specs.declared.Answer.{Answer}
+use Rattle.ownership_pass.specs.declared.Answer.the-variants.{Needed, Denied}
 
 -- the memory lent as document 01 counts it: bytes, and entries of 12, 2 and 2 numbers
 abbrev pub lentOf : Memory → Lent
@@ -51,14 +51,21 @@ totalsAfter (Accepted t) old = t .written ∷ t .errors ∷ t .warnings ∷ t .l
 totalsAfter (Refused n) old = old
 
 -- the entry that answers the room: the first fault of 1 to 13, or a number within document 01's bounds
-abbrev pub RoomIs : List ℕ → Room → Type 0
+abbrev pub RoomIs : List ℕ → Answer → Type 0
 RoomIs s (Denied n) = roomFault version1 s ≡ some n
 RoomIs s (Needed n) = (i : Image) × (decode version1 s ≡ accepted i) × (imageFault version1 i ≡ none) × RoomFor version1 i n
 
-abbrev pub roomNumber : Room → ℕ
-roomNumber (Needed n) = 0
-roomNumber (Denied n) = n
+-- as a number, 0 for accepted, and the bytes, on a fault unchanged
+abbrev pub answerNumber : Answer → ℕ
+answerNumber (Needed n) = 0
+answerNumber (Denied n) = n
 
-abbrev pub roomAfter : Room → ℕ → ℕ
+abbrev pub roomAfter : Answer → ℕ → ℕ
 roomAfter (Needed n) old = n
 roomAfter (Denied n) old = old
+
+pub record RoomLeaves (s : List ℕ) (old r new : ℕ) : Type 0 where
+  pub answer : Answer
+  pub is : RoomIs s answer
+  pub number : r ≡ answerNumber answer
+  pub leaves : new ≡ roomAfter answer old

@@ -45,6 +45,11 @@ pub record ImageWalks (s : List ℕ) (m : Memory) (r : Walk) (m′ : Memory) : T
   pub walks : (i : Image) → decode version1 s ≡ accepted i
       → (r .fault ≡ numberOf (imageFault version1 i)) × (imageFault version1 i ≡ none → ImageDone i m (r .place) m′)
 
+-- the same without what is stored
+pub record Measures (s : List ℕ) (r : Walk) : Type 0 where
+  pub walks : (i : Image) → decode version1 s ≡ accepted i
+      → (r .fault ≡ numberOf (imageFault version1 i)) × (imageFault version1 i ≡ none → r .place .written ≡ length (encode version1 (returnedImage i)))
+
 -- 14 or 15 where a place is past the lengths lent or a block counts too many, else 0
 abbrev pub lackOf : Place → ℕ → ℕ → ℕ → ℕ → ℕ
 lackOf p bytes errs warns lefts =

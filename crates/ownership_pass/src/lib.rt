@@ -7,8 +7,9 @@ ghost use lib.Dec.{leb};
 ghost use lib.ListN.{length};
 ghost use lib.Seq.{sets, slice};
 ghost use Rattle.walk.specs.Walks.{memory};
-ghost use Rattle.ownership_pass.specs.Images.{Stands, ImageWalks, lackOf};
-ghost use Rattle.ownership_pass.specs.Entries.{Passes, outcomeOf, memoryAfter, verdictOn, numberOf, totalsAfter, RoomIs, roomNumber, roomAfter};
+ghost use Rattle.ownership_pass.specs.Images.{Stands, ImageWalks, Measures, lackOf};
+ghost use Rattle.ownership_pass.specs.Entries.{Passes, outcomeOf, memoryAfter, verdictOn, numberOf, totalsAfter, RoomIs, RoomLeaves};
+use image::Rest;
 use statements::Place;
 use walk::Env;
 use walk::Walk;
@@ -28,7 +29,7 @@ pub enum Outcome {
 }
 
 // What the entry that answers the room answers; of a denial, the fault.
-pub enum Room {
+pub enum Answer {
     Needed(usize),
     Denied(u8),
 }
@@ -162,4 +163,228 @@ fn judge(
     }
     walk_image(s, ns, ts, xs, env, entry, body, out, errs, warns, lefts);
     accepted(p)
+}
+
+// Our own memory for an image of at most 2,048 bytes.
+fn judge_short(
+    s: &[u8],
+    ns: &[usize],
+    ts: &[usize],
+    xs: &[usize],
+    env: Env,
+    entry: usize,
+    body: usize,
+    out: &mut [u8],
+    errs: &mut [u32],
+    warns: &mut [u32],
+    lefts: &mut [u32],
+) -> Outcome
+    requires { ⌜ Stands (now s) (now ns) (now ts) (now xs) env entry body ⌝ }
+    ensures { λ r. ⌜ Passes (now (s .entry)) (memory (now (out .entry)) (now (errs .entry)) (now (warns .entry)) (now (lefts .entry))) r (memory (now (out .exit)) (now (errs .exit)) (now (warns .exit)) (now (lefts .exit))) ⌝ }
+{
+    let mut bytes = [0u8; 4096];
+    let mut told = [0u32; 384];
+    let mut warned = [0u32; 64];
+    let mut left = [0u32; 64];
+    judge(
+        s,
+        ns,
+        ts,
+        xs,
+        env,
+        entry,
+        body,
+        &mut bytes,
+        &mut told,
+        &mut warned,
+        &mut left,
+        out,
+        errs,
+        warns,
+        lefts,
+    )
+}
+
+// Our own memory for a longer one.
+fn judge_long(
+    s: &[u8],
+    ns: &[usize],
+    ts: &[usize],
+    xs: &[usize],
+    env: Env,
+    entry: usize,
+    body: usize,
+    out: &mut [u8],
+    errs: &mut [u32],
+    warns: &mut [u32],
+    lefts: &mut [u32],
+) -> Outcome
+    requires { ⌜ Stands (now s) (now ns) (now ts) (now xs) env entry body ⌝ }
+    ensures { λ r. ⌜ Passes (now (s .entry)) (memory (now (out .entry)) (now (errs .entry)) (now (warns .entry)) (now (lefts .entry))) r (memory (now (out .exit)) (now (errs .exit)) (now (warns .exit)) (now (lefts .exit))) ⌝ }
+{
+    let mut bytes = [0u8; 65536];
+    let mut told = [0u32; 6144];
+    let mut warned = [0u32; 1024];
+    let mut left = [0u32; 1024];
+    judge(
+        s,
+        ns,
+        ts,
+        xs,
+        env,
+        entry,
+        body,
+        &mut bytes,
+        &mut told,
+        &mut warned,
+        &mut left,
+        out,
+        errs,
+        warns,
+        lefts,
+    )
+}
+
+// The walk into no memory: how many bytes, numbers and which fault.
+fn measure(
+    s: &[u8],
+    ns: &[usize],
+    ts: &[usize],
+    xs: &[usize],
+    env: Env,
+    entry: usize,
+    body: usize,
+) -> Walk
+    requires { ⌜ Stands (now s) (now ns) (now ts) (now xs) env entry body ⌝ }
+    ensures { λ r. ⌜ Measures (now (s .entry)) r ⌝ }
+{
+    let mut bytes = [0u8; 0];
+    let mut told = [0u32; 0];
+    let mut warned = [0u32; 0];
+    let mut left = [0u32; 0];
+    walk_image(
+        s,
+        ns,
+        ts,
+        xs,
+        env,
+        entry,
+        body,
+        &mut bytes,
+        &mut told,
+        &mut warned,
+        &mut left,
+    )
+}
+
+// What the walk asks of the rest of an image's layout.
+fn env_of(rest: Rest) -> Env
+    ensures { λ r. ⌜ r ≡ record { globals = rest .«global_count»; first = rest .globals; left = 12 } ⌝ }
+{
+    Env {
+        globals: rest.global_count,
+        first: rest.globals,
+        left: 12,
+    }
+}
+
+// The body with the deletes inserted, and what is reported, into the memory lent.
+pub fn pass(
+    s: &[u8],
+    out: &mut [u8],
+    errs: &mut [u32],
+    warns: &mut [u32],
+    lefts: &mut [u32],
+) -> Outcome
+    ensures { λ r. ⌜ Passes (now (s .entry)) (memory (now (out .entry)) (now (errs .entry)) (now (warns .entry)) (now (lefts .entry))) r (memory (now (out .exit)) (now (errs .exit)) (now (warns .exit)) (now (lefts .exit))) ⌝ }
+{
+    let read = image::read_image(s);
+    let fault = read.fault;
+    if 0 < fault {
+        return Outcome::Refused(fault);
+    }
+    let layout = read.layout;
+    let rest = layout.rest;
+    let names = layout.names;
+    let types = layout.types;
+    let structs = layout.structs;
+    let ns = &names[..layout.name_count];
+    let ts = &types[..layout.type_count];
+    let xs = &structs[..rest.struct_count];
+    let env = env_of(rest);
+    let entry = rest.entry;
+    let body = rest.body;
+    if s.len() <= 2048 {
+        return judge_short(s, ns, ts, xs, env, entry, body, out, errs, warns, lefts);
+    }
+    judge_long(s, ns, ts, xs, env, entry, body, out, errs, warns, lefts)
+}
+
+// The bytes that the body given back needs.
+pub fn room(s: &[u8]) -> Answer
+    ensures { λ r. ⌜ RoomIs (now (s .entry)) r ⌝ }
+{
+    let read = image::read_image(s);
+    let fault = read.fault;
+    if 0 < fault {
+        return Answer::Denied(fault);
+    }
+    let layout = read.layout;
+    let rest = layout.rest;
+    let names = layout.names;
+    let types = layout.types;
+    let structs = layout.structs;
+    let ns = &names[..layout.name_count];
+    let ts = &types[..layout.type_count];
+    let xs = &structs[..rest.struct_count];
+    let w = measure(s, ns, ts, xs, env_of(rest), rest.entry, rest.body);
+    let found = w.fault;
+    if 0 < found {
+        return Answer::Denied(found);
+    }
+    let p = w.place;
+    Answer::Needed(p.written)
+}
+
+// For C and Rust: 0 and the totals, or the fault's number.
+#[no_mangle]
+pub extern "C" fn ownership_pass(
+    image: &[u8],
+    output: &mut [u8],
+    errors: &mut [u32],
+    warnings: &mut [u32],
+    left: &mut [u32],
+    totals: &mut [u64; 4],
+) -> u32
+    ensures { λ r. ⌜ (r ≡ numberOf (outcomeOf (verdictOn (now (image .entry)) (memory (now (output .entry)) (now (errors .entry)) (now (warnings .entry)) (now (left .entry))))))
+        × (now (totals .exit) ≡ totalsAfter (outcomeOf (verdictOn (now (image .entry)) (memory (now (output .entry)) (now (errors .entry)) (now (warnings .entry)) (now (left .entry))))) (now (totals .entry)))
+        × (memory (now (output .exit)) (now (errors .exit)) (now (warnings .exit)) (now (left .exit))
+        ≡ memoryAfter (verdictOn (now (image .entry)) (memory (now (output .entry)) (now (errors .entry)) (now (warnings .entry)) (now (left .entry)))) (memory (now (output .entry)) (now (errors .entry)) (now (warnings .entry)) (now (left .entry)))) ⌝ }
+{
+    match pass(image, output, errors, warnings, left) {
+        Outcome::Refused(fault) => fault as u32,
+        Outcome::Accepted(t) => {
+            *totals = [
+                t.written as u64,
+                t.errors as u64,
+                t.warnings as u64,
+                t.lefts as u64,
+            ];
+            0
+        }
+    }
+}
+
+// For C and Rust: 0 and the bytes needed, or the fault's number.
+#[no_mangle]
+pub extern "C" fn ownership_room(image: &[u8], room_needed: &mut u64) -> u32
+    ensures { λ r. ⌜ RoomLeaves (now (image .entry)) (now (room_needed .entry)) r (now (room_needed .exit)) ⌝ }
+{
+    match room(image) {
+        Answer::Denied(fault) => fault as u32,
+        Answer::Needed(bytes) => {
+            *room_needed = bytes as u64;
+            0
+        }
+    }
 }

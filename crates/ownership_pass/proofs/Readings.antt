@@ -1,0 +1,99 @@
+-- From the reader's layout to the walk, and the room.
+-- Assumes nothing.
+use Prim.Native.Nat.{ℕ, _+_, _≤_, _<_}
+use native.Mathlib.Omega.{arith}
+use mathlib.Core.Path.{_≡_, refl, sym, ap, _∙_, subst}
+use mathlib.Core.List.{List}
+use mathlib.Core.Option.{Option, none, some}
+use lib.ListN.{length, take, length-take, length-map}
+use Rattle.tables.specs.Name.{nameOf}
+use Rattle.tables.specs.Ty.{typeIn}
+use Rattle.tables.specs.Signature.{structIn}
+use Rattle.tables.specs.Answer.{Listed}
+use Rattle.tables.specs.Limits.{version1}
+use Rattle.image.specs.Image.{Image, Decoded, accepted, refused, decode, encode, faultOf}
+use Rattle.image.specs.Layout.{Laid, Reads}
+use Rattle.image.specs.declared.Layout.{Layout}
+use Rattle.image.specs.declared.ImageRead.{ImageRead}
+use Rattle.image.proofs.Asking.{asking}
+use Rattle.image.proofs.Numbered.{zero-accepted}
+use Rattle.rules.specs.Report.{returnedImage}
+use Rattle.rules.specs.Walk.{imageFault}
+use Rattle.rules.specs.Verdict.{roomFault, roomFaultOf, RoomFor}
+use Rattle.rules.proofs.Longer.{room-met}
+use Rattle.steps.specs.Own.{numberOf}
+use Rattle.steps.proofs.Faults.{real-none}
+use Rattle.walk.specs.Walks.{Memory}
+use Rattle.walk.specs.declared.Env.{Env}
+use Rattle.walk.specs.declared.Walk.{Walk}
+use Rattle.ownership_pass.specs.declared.Answer.{Answer}
+use Rattle.ownership_pass.specs.declared.Answer.the-variants.{Needed, Denied}
+use Rattle.ownership_pass.specs.Entries.{RoomIs}
+use Rattle.ownership_pass.specs.Images.{Stands, ImageWalks, Measures}
+use Rattle.ownership_pass.proofs.Rooms.{fault-some, real-image}
+
+pub measured : (s : List ℕ) {m m′ : Memory} {r : Walk} → ImageWalks s m r m′ → Measures s r
+measured s g = record { walks = λ i e. (g .walks i e .0, λ z. g .walks i e .1 z .long) }
+
+abbrev pub envIn : Layout → Env
+envIn l = record { globals = l .rest .«global_count»; first = l .rest .globals; left = 12 }
+
+-- as many positions as entries
+listed-few : {A : Type 0} (view : ℕ → A) (s starts : List ℕ) (xs : List A) → Listed view s starts xs → length xs ≤ length starts
+listed-few view s starts xs g =
+    let a = ap length (g .placed) in
+    let b = length-map (take (length xs) starts) view in
+    let c = length-take (length xs) starts in
+    omega arith
+
+module _ (s : List ℕ) (r : ImageRead) (g : Reads s r) (z : 0 < r .fault → ⊥) where
+  found : (i : Image) × (decode version1 s ≡ accepted i)
+  found = zero-accepted version1 s (sym (g .fault) ∙ omega (arith, z))
+
+  abbrev laid : Laid s (found .0) (r .layout)
+  laid = g .layout (found .0) (found .1)
+
+  pub names-few : r .layout .«name_count» ≤ length (r .layout .names)
+  names-few = omega (arith, laid .nameCount, listed-few (nameOf s) s _ _ (laid .names))
+
+  pub types-few : r .layout .«type_count» ≤ length (r .layout .types)
+  types-few = omega (arith, laid .typeCount, listed-few (typeIn s) s _ _ (laid .types))
+
+  pub structs-few : r .layout .rest .«struct_count» ≤ length (r .layout .structs)
+  structs-few = omega (arith, laid .rest .structCount, listed-few (structIn s) s _ _ (laid .rest .structs))
+
+  pub stands-of : (env : Env) → env ≡ envIn (r .layout)
+      → Stands s (take (r .layout .«name_count») (r .layout .names)) (take (r .layout .«type_count») (r .layout .types)) (take (r .layout .rest .«struct_count») (r .layout .structs)) env (r .layout .rest .entry) (r .layout .rest .body)
+  stands-of env ee =
+      let a = asking s (found .0) (r .layout) (found .1) laid in
+      subst (λ (x : Env). Stands s (take (r .layout .«name_count») (r .layout .names)) (take (r .layout .«type_count») (r .layout .types)) (take (r .layout .rest .«struct_count») (r .layout .structs)) x (r .layout .rest .entry) (r .layout .rest .body)) (sym ee)
+      (record {
+        i = found .0;
+        read = found .1;
+        lent = record { names = a .namesWithin; types = a .typesWithin; structs = a .structsWithin; lower = a .lower; globals = laid .rest .globalsFit };
+        says = record { names = a .names; types = a .types; structs = a .structs; globals = laid .rest .globals };
+        left = refl;
+        entered = laid .rest .entry;
+        walked = laid .rest .body;
+      })
+
+  module _ (w : Walk) (h : Measures s w) where
+    walk-fault : w .fault ≡ numberOf (imageFault version1 (found .0))
+    walk-fault = h .walks (found .0) (found .1) .0
+
+    pub room-denied : 0 < w .fault → RoomIs s (Denied (w .fault))
+    unfolding roomFault
+    room-denied k = ap (roomFaultOf version1) (found .1) ∙ fault-some (imageFault version1 (found .0)) (w .fault) walk-fault k
+
+    pub room-needed : (0 < w .fault → ⊥) → RoomIs s (Needed (w .place .written))
+    room-needed k =
+        let n : imageFault version1 (found .0) ≡ none = real-none (imageFault version1 (found .0)) (real-image (found .0)) (sym walk-fault ∙ omega (arith, k)) in
+        (found .0, found .1, n, subst (RoomFor version1 (found .0)) (sym (h .walks (found .0) (found .1) .1 n)) (room-met version1 (found .0)))
+
+pub room-unread : (s : List ℕ) (n : ℕ) → n ≡ faultOf (decode version1 s) → 0 < n → RoomIs s (Denied n)
+unfolding roomFault faultOf
+room-unread s n e h = go (decode version1 s) refl
+  where
+    go : (d : Decoded) → decode version1 s ≡ d → roomFault version1 s ≡ some n
+    go (accepted i) z = absurd (omega (arith, e ∙ ap faultOf z))
+    go (refused k) z = ap (roomFaultOf version1) z ∙ ap some (sym (e ∙ ap faultOf z))

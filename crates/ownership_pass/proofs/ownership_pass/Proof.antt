@@ -1,0 +1,81 @@
+use borrow.Author.Needs.{needs}
+use Rattle.ownership_pass.proofs.ownership_pass.Statement.{statement}
+use Rattle.ownership_pass.proofs.ownership_pass.Tie as tie
+use Rattle.ownership_pass.proofs.ownership_pass.Reads as reads
+use Rattle.ownership_pass.proofs.ownership_pass.Lts as lts
+use Rattle.ownership_pass.proofs.pass.Reads as pass-reads
+
+-- src/lib.rt:364:11
+pass-requires : tie.Need-pass-requires
+pass-requires c κs = search needs
+
+-- src/lib.rt:365:26
+enum-known-fault : tie.Need-enum-known-fault
+enum-known-fault c = search needs
+
+-- src/lib.rt:365:36
+cast-result : tie.Need-cast-result
+cast-result c = search needs
+
+-- src/lib.rt:366:27
+enum-known-t : tie.Need-enum-known-t
+enum-known-t c = search needs
+
+-- src/lib.rt:350:1
+same-length : tie.Need-same-length
+same-length c = search needs
+
+-- src/lib.rt:350:1
+same-length-2 : tie.Need-same-length-2
+same-length-2 c = search needs
+
+-- src/lib.rt:350:1
+same-length-3 : tie.Need-same-length-3
+same-length-3 c = search needs
+
+-- src/lib.rt:350:1
+same-length-4 : tie.Need-same-length-4
+same-length-4 c = search needs
+
+-- src/lib.rt:350:1
+returns : tie.Need-returns
+returns c = ?
+
+-- src/lib.rt:350:1
+same-length-5 : tie.Need-same-length-5
+same-length-5 c = search needs
+
+-- src/lib.rt:350:1
+same-length-6 : tie.Need-same-length-6
+same-length-6 c = search needs
+
+-- src/lib.rt:350:1
+same-length-7 : tie.Need-same-length-7
+same-length-7 c = search needs
+
+-- src/lib.rt:350:1
+same-length-8 : tie.Need-same-length-8
+same-length-8 c = search needs
+
+-- src/lib.rt:350:1
+returns-2 : tie.Need-returns-2
+returns-2 c = ?
+
+pub ownership-pass-spec : {M : Type 1} → statement M
+ownership-pass-spec =
+    tie.close
+    (tie.spec
+    pass-requires
+    enum-known-fault
+    cast-result
+    enum-known-t
+    same-length
+    same-length-2
+    same-length-3
+    same-length-4
+    returns
+    same-length-5
+    same-length-6
+    same-length-7
+    same-length-8
+    returns-2)
