@@ -3,7 +3,7 @@
 use Prim.Native.Nat.{ℕ, _+_, _≤_, _<_}
 use native.Mathlib.Omega.{arith}
 use mathlib.Core.Path.{_≡_, refl, sym, ap, _∙_, subst}
-use mathlib.Core.List.{List}
+use mathlib.Core.List.{List, [], _∷_}
 use mathlib.Core.Option.{Option, none, some}
 use lib.ListN.{length, take, length-take, length-map}
 use Rattle.tables.specs.Name.{nameOf}
@@ -28,7 +28,11 @@ use Rattle.walk.specs.declared.Env.{Env}
 use Rattle.walk.specs.declared.Walk.{Walk}
 use Rattle.ownership_pass.specs.declared.Answer.{Answer}
 use Rattle.ownership_pass.specs.declared.Answer.the-variants.{Needed, Denied}
-use Rattle.ownership_pass.specs.Entries.{RoomIs}
+use Rattle.ownership_pass.specs.declared.Totals.{Totals}
+use Rattle.ownership_pass.specs.declared.Outcome.{Outcome}
+use Rattle.ownership_pass.specs.declared.Outcome.the-variants.{Accepted, Refused}
+use Rattle.ownership_pass.specs.Entries.{Passes, outcomeOf, memoryAfter, verdictOn, totalsAfter, RoomIs, RoomLeaves}
+use Rattle.ownership_pass.specs.Entries.{numberOf as outcomeNumber}
 use Rattle.ownership_pass.specs.Images.{Stands, ImageWalks, Measures}
 use Rattle.ownership_pass.proofs.Rooms.{fault-some, real-image}
 
@@ -97,3 +101,24 @@ room-unread s n e h = go (decode version1 s) refl
     go : (d : Decoded) → decode version1 s ≡ d → roomFault version1 s ≡ some n
     go (accepted i) z = absurd (omega (arith, e ∙ ap faultOf z))
     go (refused k) z = ap (roomFaultOf version1) z ∙ ap some (sym (e ∙ ap faultOf z))
+
+-- the entries for C, by the outcome
+module _ (s : List ℕ) (m m′ : Memory) (r : Outcome) (g : Passes s m r m′) where
+  abbrev Leaves : ℕ → List ℕ → List ℕ → Type 0
+  Leaves n old new = (n ≡ outcomeNumber (outcomeOf (verdictOn s m))) × (new ≡ totalsAfter (outcomeOf (verdictOn s m)) old) × (m′ ≡ memoryAfter (verdictOn s m) m)
+
+  pub leaves-refused : (n : ℕ) (old : List ℕ) → r ≡ Refused n → Leaves n old old
+  leaves-refused n old e =
+      let o : outcomeOf (verdictOn s m) ≡ Refused n = sym (g .outcome) ∙ e in
+      (sym (ap outcomeNumber o), sym (ap (λ x. totalsAfter x old) o), g .leaves)
+
+  pub leaves-accepted : (t : Totals) (old : List ℕ) → r ≡ Accepted t → Leaves 0 old (t .written ∷ t .errors ∷ t .warnings ∷ t .lefts ∷ [])
+  leaves-accepted t old e =
+      let o : outcomeOf (verdictOn s m) ≡ Accepted t = sym (g .outcome) ∙ e in
+      (sym (ap outcomeNumber o), sym (ap (λ x. totalsAfter x old) o), g .leaves)
+
+pub room-leaves-denied : (s : List ℕ) (old : ℕ) (a : Answer) → RoomIs s a → (n : ℕ) → a ≡ Denied n → RoomLeaves s old n old
+room-leaves-denied s old a h n e = record { answer = Denied n; is = subst (RoomIs s) e h; number = refl; leaves = refl }
+
+pub room-leaves-needed : (s : List ℕ) (old : ℕ) (a : Answer) → RoomIs s a → (n : ℕ) → a ≡ Needed n → RoomLeaves s old 0 n
+room-leaves-needed s old a h n e = record { answer = Needed n; is = subst (RoomIs s) e h; number = refl; leaves = refl }

@@ -377,13 +377,13 @@ pub extern "C" fn ownership_pass(
 
 // For C and Rust: 0 and the bytes needed, or the fault's number.
 #[no_mangle]
-pub extern "C" fn ownership_room(image: &[u8], room_needed: &mut u64) -> u32
-    ensures { λ r. ⌜ RoomLeaves (now (image .entry)) (now (room_needed .entry)) r (now (room_needed .exit)) ⌝ }
+pub extern "C" fn ownership_room(image: &[u8], needed: &mut u64) -> u32
+    ensures { λ r. ⌜ RoomLeaves (now (image .entry)) (now (needed .entry)) r (now (needed .exit)) ⌝ }
 {
     match room(image) {
         Answer::Denied(fault) => fault as u32,
         Answer::Needed(bytes) => {
-            *room_needed = bytes as u64;
+            *needed = bytes as u64;
             0
         }
     }

@@ -1,4 +1,5 @@
 use borrow.Author.Needs.{needs}
+use Rattle.ownership_pass.proofs.Readings.{leaves-refused, leaves-accepted}
 use Rattle.ownership_pass.proofs.ownership_pass.Statement.{statement}
 use Rattle.ownership_pass.proofs.ownership_pass.Tie as tie
 use Rattle.ownership_pass.proofs.ownership_pass.Reads as reads
@@ -39,7 +40,7 @@ same-length-4 c = search needs
 
 -- src/lib.rt:350:1
 returns : tie.Need-returns
-returns c = ?
+returns c = leaves-refused (c .before .before .before .before .before .before .before .before .before .before .before .before .before .before .before .before .before .before .before .before .before .args .image .now) _ _ (c .before .before .before .before .before .before .before .before .before .before .before .pass .result) (c .before .before .before .before .before .before .before .before .before .before .before .pass .ensures) _ (c .before .before .before .before .before .before .before .before .before .before .before .before .before .before .before .before .before .before .before .before .before .args .totals .now) (c .before .fault .given .1)
 
 -- src/lib.rt:350:1
 same-length-5 : tie.Need-same-length-5
@@ -59,7 +60,7 @@ same-length-8 c = search needs
 
 -- src/lib.rt:350:1
 returns-2 : tie.Need-returns-2
-returns-2 c = ?
+returns-2 c = leaves-accepted (c .before .before .before .before .before .before .before .before .before .before .before .before .before .before .before .before .before .before .before .before .before .before .args .image .now) _ _ (c .before .before .before .before .before .before .before .before .before .before .before .before .pass .result) (c .before .before .before .before .before .before .before .before .before .before .before .before .pass .ensures) _ (c .before .before .before .before .before .before .before .before .before .before .before .before .before .before .before .before .before .before .before .before .before .before .args .totals .now) (c .before .before .t .given .1)
 
 pub ownership-pass-spec : {M : Type 1} → statement M
 ownership-pass-spec =
