@@ -145,9 +145,9 @@ fn judge(
     ensures { λ r. ⌜ Passes (now (s .entry)) (memory (now (out .entry)) (now (errs .entry)) (now (warns .entry)) (now (lefts .entry))) r (memory (now (out .exit)) (now (errs .exit)) (now (warns .exit)) (now (lefts .exit))) ⌝ }
 {
     let w = walk_image(s, ns, ts, xs, env, entry, body, bytes, told, warned, left);
-    let fault = w.fault;
-    if 0 < fault {
-        return Outcome::Refused(fault);
+    let found = w.fault;
+    if 0 < found {
+        return Outcome::Refused(found);
     }
     let p = w.place;
     let lack = room_fault(p, out.len(), errs.len(), warns.len(), lefts.len());

@@ -1,0 +1,71 @@
+-- Demand 3 of the bytes that the entry writes.
+-- Assumes nothing.
+use Prim.Native.Nat.{ℕ}
+use native.Mathlib.Omega.{arith}
+use mathlib.Core.Path.{_≡_, refl, sym, ap, _∙_, subst}
+use mathlib.Core.Bool.{Bool, true, false, cond}
+use mathlib.Core.List.{List}
+use mathlib.Core.Option.{Option, none, some}
+use lib.ListN.{length}
+use Rattle.fields.specs.Bytes.{Bytes}
+use Rattle.tables.specs.Limits.{version1}
+use Rattle.image.specs.Image.{Image, Decoded, accepted, refused, decode, encode}
+use Rattle.image.proofs.RoundTrip.{image-written}
+use Rattle.rules.specs.Report.{returnedImage}
+use Rattle.rules.specs.Walk.{imageFault}
+use Rattle.rules.specs.Verdict.{Lent, Answer, answerOf, Verdict, refuses, answers, listsFit, outputFits, fitted, walked, decided, passVerdict}
+use Rattle.rules.proofs.Project.{demand3}
+use Rattle.rules.proofs.Pieces.{struck}
+use Rattle.walk.specs.Walks.{Memory}
+use Rattle.ownership_pass.specs.declared.Totals.{Totals}
+use Rattle.ownership_pass.specs.declared.Outcome.{Outcome}
+use Rattle.ownership_pass.specs.declared.Outcome.the-variants.{Accepted, Refused}
+use Rattle.ownership_pass.specs.Entries.{Passes, outcomeOf, over, memoryAfter, verdictOn}
+use Rattle.ownership_pass.specs.Promise.{Promise, Kept}
+
+refuses-nothing : {C : Type 0} {n : ℕ} {a : Answer} → refuses n ≡ answers a → C
+refuses-nothing e = let z : _≡_ {A = ℕ} 0 1 = cc in absurd (omega arith)
+
+-- the answer is that of the image
+answer-is : (lent : Lent) (i : Image) (x : Option ℕ) (a : Answer) → walked version1 lent i x ≡ answers a → a ≡ answerOf version1 i
+answer-is lent i (some n) a e = refuses-nothing e
+answer-is lent i none a e = go (listsFit lent (answerOf version1 i)) (outputFits lent i (answerOf version1 i)) e
+  where
+    go : (b c : Bool) → cond b (cond c (answers (answerOf version1 i)) (refuses 15)) (refuses 14) ≡ answers a → a ≡ answerOf version1 i
+    go true true g = cc
+    go true false g = refuses-nothing g
+    go false c g = refuses-nothing g
+
+pub promised : (s : List ℕ) → Bytes s → (lent : Lent) (a : Answer) → passVerdict version1 lent s ≡ answers a → Promise s (a .output)
+unfolding passVerdict
+promised s small lent a e = go (decode version1 s) refl e
+  where
+    go : (d : Decoded) → decode version1 s ≡ d → decided version1 lent d ≡ answers a → Promise s (a .output)
+    go (refused n) z g = refuses-nothing g
+    go (accepted i) z g = record {
+      image = i;
+      read = z;
+      sent = image-written version1 s small i z;
+      given = ap (λ (x : Answer). x .output) (answer-is lent i (imageFault version1 i) a g);
+      plain = demand3 (i .tables) (i .entry) (i .body);
+      struck = struck version1 s small i z;
+    }
+
+-- of every call that is accepted
+pub entry-promised : (s : List ℕ) → Bytes s → (m m′ : Memory) (r : Outcome) → Passes s m r m′ → (t : Totals) → r ≡ Accepted t → Kept s m m′ (t .written)
+entry-promised s small m m′ r g t e = go (verdictOn s m) refl
+  where
+    accepts-nothing : {n : ℕ} → Refused n ≡ Accepted t → Kept s m m′ (t .written)
+    accepts-nothing z = let y : _≡_ {A = ℕ} 0 1 = cc in absurd (omega arith)
+
+    go : (v : Verdict) → verdictOn s m ≡ v → Kept s m m′ (t .written)
+    go (refuses n) z = accepts-nothing (sym (g .outcome ∙ ap outcomeOf z) ∙ e)
+    go (answers a) z =
+        let y : Accepted (record { written = length (a .output); errors = a .errorCount; warnings = a .warningCount; lefts = a .leftCount }) ≡ Accepted t = sym (g .outcome ∙ ap outcomeOf z) ∙ e in
+        let x : record { written = length (a .output); errors = a .errorCount; warnings = a .warningCount; lefts = a .leftCount } ≡ t = cc in
+        record {
+          output = a .output;
+          long = sym (ap (λ (u : Totals). u .written) x);
+          there = ap (λ (u : Memory). u .out) (g .leaves ∙ ap (λ v. memoryAfter v m) z);
+          promise = promised s small _ a z;
+        }
