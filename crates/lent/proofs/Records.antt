@@ -1,4 +1,4 @@
--- Records from numbers: the laws of the writer's loop, and the theorems about what it writes.
+-- Records from numbers: the laws of the writer's loop.
 use Prim.Native.Nat.{ℕ, zero, suc, _*_, _≤_, _<_}
 use mathlib.Core.Path.{_≡_, refl, sym, _∙_, ap}
 use mathlib.Core.Bool.{Bool, true, false, cond, _||_}
@@ -8,6 +8,7 @@ use lib.Dec.{eqb, ltb}
 use lib.ListN.{length, getD, drop, set, length-append, length-drop}
 use lib.Seq.{drop-cons, set-at}
 use borrow.Author.Tests.{ltb-false}
+use Rattle.fields.proofs.Tests.{false-true}
 use Rattle.lent.specs.declared.Report.{Report}
 use Rattle.lent.specs.Records.{recordAt, records, tooFew, Writes}
 
@@ -45,38 +46,34 @@ pub record Fitted (ns : List ℕ) (n : ℕ) (old : List Report) (fault m : ℕ) 
   pub enough : 12 * m ≤ length ns
   pub writes : Writes ns n old (records ns m ++ drop m old) fault
 
+-- where there are not too few
+pub plenty : (ns : List ℕ) (n : ℕ) (old : List Report) → tooFew ns n old ≡ false → (n ≤ length old) × (12 * n ≤ length ns)
+plenty ns n old e = by-test (ltb (length old) n) refl
+  where
+    by-test : (s : Bool) → ltb (length old) n ≡ s → (n ≤ length old) × (12 * n ≤ length ns)
+    by-test true es = false-true (sym e ∙ ap (λ (u : Bool). u || ltb (length ns) (12 * n)) es)
+    by-test false es = (ltb-false (length old) n es, ltb-false (length ns) (12 * n) (sym (ap (λ (u : Bool). u || ltb (length ns) (12 * n)) es) ∙ e))
+
 pub fitted : (ns : List ℕ) (n : ℕ) (old : List Report) (fault m : ℕ) → fault ≡ cond (tooFew ns n old) 14 0 → m ≡ cond (eqb fault 0) n 0
     → Fitted ns n old fault m
 unfolding records
-fitted ns n old fault m ef em = by-test (ltb (length old) n) (ltb (length ns) (12 * n)) refl refl
+fitted ns n old fault m ef em = by-test (tooFew ns n old) refl
   where
-    none : tooFew ns n old ≡ true → Fitted ns n old fault m
-    none e =
-        let f : fault ≡ 14 = ef ∙ ap (λ (t : Bool). cond t 14 0) e in
-        let z : m ≡ 0 = em ∙ ap (λ (x : ℕ). cond (eqb x 0) n 0) f in
-        record {
-          within = omega (arith, z);
-          enough = omega (arith, z);
-          writes = record {
-            answer = ef;
-            structs = ap (λ (k : ℕ). records ns k ++ drop k old) z ∙ ap (λ (t : Bool). cond t old (records ns n ++ drop n old)) (sym e);
-          };
-        }
+    turns : (t : Bool) → tooFew ns n old ≡ t → m ≡ cond (eqb (cond t 14 0) 0) n 0
+    turns t e = em ∙ ap (λ (x : ℕ). cond (eqb x 0) n 0) (ef ∙ ap (λ (u : Bool). cond u 14 0) e)
 
-    by-test : (s t : Bool) → ltb (length old) n ≡ s → ltb (length ns) (12 * n) ≡ t → Fitted ns n old fault m
-    by-test true t es et = none (ap (λ (u : Bool). u || ltb (length ns) (12 * n)) es)
-    by-test false true es et = none (ap (λ (u : Bool). u || ltb (length ns) (12 * n)) es ∙ et)
-    by-test false false es et =
-        let e : tooFew ns n old ≡ false = ap (λ (u : Bool). u || ltb (length ns) (12 * n)) es ∙ et in
-        let f : fault ≡ 0 = ef ∙ ap (λ (t : Bool). cond t 14 0) e in
-        let z : m ≡ n = em ∙ ap (λ (x : ℕ). cond (eqb x 0) n 0) f in
-        let a = ltb-false (length old) n es in
-        let b = ltb-false (length ns) (12 * n) et in
-        record {
-          within = omega (arith, z, a);
-          enough = omega (arith, z, b);
-          writes = record {
-            answer = ef;
-            structs = ap (λ (k : ℕ). records ns k ++ drop k old) z ∙ ap (λ (t : Bool). cond t old (records ns n ++ drop n old)) (sym e);
-          };
-        }
+    written : (t : Bool) (k : ℕ) → tooFew ns n old ≡ t → m ≡ k → records ns k ++ drop k old ≡ cond t old (records ns n ++ drop n old)
+        → Writes ns n old (records ns m ++ drop m old) fault
+    written t k e z l = record {
+      answer = ef;
+      structs = ap (λ (i : ℕ). records ns i ++ drop i old) z ∙ l ∙ ap (λ (u : Bool). cond u old (records ns n ++ drop n old)) (sym e);
+    }
+
+    by-test : (t : Bool) → tooFew ns n old ≡ t → Fitted ns n old fault m
+    by-test true e =
+        let z : m ≡ 0 = turns true e in
+        record { within = omega (arith, z); enough = omega (arith, z); writes = written true 0 e z refl }
+    by-test false e =
+        let z : m ≡ n = turns false e in
+        let a = plenty ns n old e in
+        record { within = omega (arith, z, a .0); enough = omega (arith, z, a .1); writes = written false n e z refl }

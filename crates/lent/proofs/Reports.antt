@@ -8,34 +8,36 @@ use native.Mathlib.Omega.{arith}
 use lib.Dec.{ltb}
 use lib.ListN.{length, getD, take, drop, replicate, length-append}
 use lib.Seq.{getD-drop, take-at, drop-at, length-take-le}
-use borrow.Author.Tests.{ltb-true, ltb-false, le-ltb}
+use borrow.Author.Tests.{ltb-true, le-ltb}
 use Rattle.tables.specs.Limits.{version1}
 use Rattle.rules.specs.Report.{Report as Reported, error, warning, left, errors}
 use Rattle.rules.specs.Verdict.{entryOf, entriesOf}
 use Rattle.lent.specs.declared.Report.{Report}
+use Rattle.lent.proofs.Records.{plenty}
 use Rattle.lent.specs.Records.{recordAt, records, recordOf, recordsOf, tooFew, Writes}
 
 -- 14 exactly where there are too few structs or numbers, and then nothing changes
 pub too-few : (ns : List ℕ) (n : ℕ) (old new : List Report) (fault : ℕ) → Writes ns n old new fault
     → ((length old < n) ⊎ (length ns < 12 * n) → (fault ≡ 14) × (new ≡ old)) × (fault ≡ 14 → (length old < n) ⊎ (length ns < 12 * n))
-too-few ns n old new fault w = by-test (ltb (length old) n) (ltb (length ns) (12 * n)) refl refl
+too-few ns n old new fault w = by-test (tooFew ns n old) refl
   where
-    refused : tooFew ns n old ≡ true → (fault ≡ 14) × (new ≡ old)
-    refused e = (w .answer ∙ ap (λ (t : Bool). cond t 14 0) e, w .structs ∙ ap (λ (t : Bool). cond t old (records ns n ++ drop n old)) e)
+    which : (s : Bool) → ltb (length old) n ≡ s → tooFew ns n old ≡ true → (length old < n) ⊎ (length ns < 12 * n)
+    which true es e = inl (ltb-true (length old) n es)
+    which false es e = inr (ltb-true (length ns) (12 * n) (sym (ap (λ (u : Bool). u || ltb (length ns) (12 * n)) es) ∙ e))
 
-    by-test : (s t : Bool) → ltb (length old) n ≡ s → ltb (length ns) (12 * n) ≡ t
+    neither : (n ≤ length old) × (12 * n ≤ length ns) → (length old < n) ⊎ (length ns < 12 * n) → (fault ≡ 14) × (new ≡ old)
+    neither a (inl h) = absurd (omega (arith, a .0, h))
+    neither a (inr h) = absurd (omega (arith, a .1, h))
+
+    by-test : (t : Bool) → tooFew ns n old ≡ t
         → ((length old < n) ⊎ (length ns < 12 * n) → (fault ≡ 14) × (new ≡ old)) × (fault ≡ 14 → (length old < n) ⊎ (length ns < 12 * n))
-    by-test true t es et = (λ _. refused (ap (λ (u : Bool). u || ltb (length ns) (12 * n)) es), λ _. inl (ltb-true (length old) n es))
-    by-test false true es et = (λ _. refused (ap (λ (u : Bool). u || ltb (length ns) (12 * n)) es ∙ et), λ _. inr (ltb-true (length ns) (12 * n) et))
-    by-test false false es et =
-        let a = ltb-false (length old) n es in
-        let b = ltb-false (length ns) (12 * n) et in
-        let f : fault ≡ 0 = w .answer ∙ ap (λ (t : Bool). cond t 14 0) (ap (λ (u : Bool). u || ltb (length ns) (12 * n)) es ∙ et) in
-        (neither a b, λ g. absurd (omega (arith, f, g)))
-      where
-        neither : n ≤ length old → 12 * n ≤ length ns → (length old < n) ⊎ (length ns < 12 * n) → (fault ≡ 14) × (new ≡ old)
-        neither a b (inl h) = absurd (omega (arith, a, h))
-        neither a b (inr h) = absurd (omega (arith, b, h))
+    by-test true e = (
+      λ _. (w .answer ∙ ap (λ (t : Bool). cond t 14 0) e, w .structs ∙ ap (λ (t : Bool). cond t old (records ns n ++ drop n old)) e),
+      λ _. which (ltb (length old) n) refl e,
+    )
+    by-test false e =
+        let f : fault ≡ 0 = w .answer ∙ ap (λ (t : Bool). cond t 14 0) e in
+        (neither (plenty ns n old e), λ g. absurd (omega (arith, f, g)))
 
 -- the 12 numbers of an error before others, and the record made of them
 eight : (l : List ℕ) → 8 ≤ length l

@@ -24,11 +24,11 @@ unfoldable pub records : List ℕ → ℕ → List Report
 records ns zero = []
 records ns (suc n) = records ns n ++ (recordAt ns n ∷ [])
 
--- 14: errors outnumber the structs lent; so too where fewer numbers are lent than so many errors have
+-- document 01, "Faults", 14: errors outnumber those lent. Fewer than 12 numbers an error answer it too: that document has no such case
 abbrev pub tooFew : List ℕ → ℕ → List Report → Bool
 tooFew ns n old = ltb (length old) n || ltb (length ns) (12 * n)
 
--- what is answered, and the structs after: the records of the first so many errors, the others as they were; with 14 all are
+-- document 01, "Faults": a fault leaves the list untouched; else its first entries are determined, and the rest is unchanged
 pub record Writes (ns : List ℕ) (n : ℕ) (old new : List Report) (fault : ℕ) : Type 0 where
   pub answer : fault ≡ cond (tooFew ns n old) 14 0
   pub structs : new ≡ cond (tooFew ns n old) old (records ns n ++ drop n old)

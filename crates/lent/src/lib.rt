@@ -1,18 +1,29 @@
 // Forms over lent memory (document 01, "What changes shape"): a stack that is changed in place, and errors as records.
 ghost use mathlib.Core.Path.{_≡_};
-ghost use mathlib.Core.Bool.{cond, false, _||_};
+ghost use mathlib.Core.Bool.{cond, _||_};
 ghost use Prim.Native.Nat.{_≤_, _+_, _*_};
 ghost use lib.Dec.{eqb, ltb};
 ghost use lib.ListN.{length};
 ghost use Rattle.rules.specs.State.{deleted, moved, consumed, alive, handState};
 ghost use Rattle.rules.specs.Stack.{mark as marked};
 ghost use Rattle.rules.specs.Rules.{states, register};
-ghost use Rattle.scope.specs.View.{view, Sound, Registers};
+ghost use Rattle.scope.specs.View.{view, Sound};
 ghost use Rattle.lent.specs.Registered.{InPlace};
 ghost use Rattle.lent.specs.Records.{recordAt, Writes};
 use scope::Next;
 use scope::Stack;
 
+// An error as C has it: of the places, the first count.
+#[repr(C)]
+pub struct Report {
+    pub kind: u32,
+    pub place: u32,
+    pub hint: u32,
+    pub count: u32,
+    pub places: [u32; 8],
+}
+
+// Each mark changes the stack lent as its namesake by value does.
 pub fn mark_deleted(stack: &mut Stack, name: u16, place: u32)
     requires { ⌜ Sound (now stack) ⌝ }
     ensures { λ _. ⌜ Sound (now (stack .exit)) × (view (now (stack .exit)) ≡ marked name (states .killed deleted place) (view (now (stack .entry)))) ⌝ }
@@ -74,16 +85,6 @@ pub fn register_local(stack: &mut Stack, name: u16, ty: u16, depth: u8) -> bool
     next.ok
 }
 
-// An error; of the places, the first count.
-#[repr(C)]
-pub struct Report {
-    pub kind: u32,
-    pub place: u32,
-    pub hint: u32,
-    pub count: u32,
-    pub places: [u32; 8],
-}
-
 // The record of an error, by its number.
 fn report_at(numbers: &[u32], i: usize) -> Report
     requires { ⌜ 12 * i + 12 ≤ length (now numbers) ⌝ }
@@ -109,6 +110,7 @@ fn report_at(numbers: &[u32], i: usize) -> Report
     }
 }
 
+// 14: fewer structs than errors, or fewer numbers than they have.
 fn fault_of(count: usize, structs: usize, numbers: usize) -> u32
     ensures { λ r. ⌜ r ≡ cond (ltb structs count || ltb numbers (12 * count)) 14 0 ⌝ }
 {
@@ -121,7 +123,7 @@ fn fault_of(count: usize, structs: usize, numbers: usize) -> u32
     0
 }
 
-// All or none.
+// How many errors are written: all or none.
 fn written(fault: u32, count: usize) -> usize
     ensures { λ r. ⌜ r ≡ cond (eqb fault 0) count 0 ⌝ }
 {
@@ -131,6 +133,7 @@ fn written(fault: u32, count: usize) -> usize
     0
 }
 
+// The records of the first count errors; with 14 nothing changes.
 pub fn write_reports(numbers: &[u32], count: usize, reports: &mut [Report]) -> u32
     ensures { λ r. ⌜ Writes (now (numbers .entry)) count (now (reports .entry)) (now (reports .exit)) r ⌝ }
 {

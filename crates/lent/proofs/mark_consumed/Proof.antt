@@ -1,4 +1,5 @@
 use Prim.Native.Nat.{ℕ}
+use mathlib.Core.Path.{refl}
 use contract.Running.{givenOf, tables, tablesOf}
 use denote.Triple.Spec.{tripleOf}
 use denote.Triple.Table.{entered, cited}
@@ -22,4 +23,4 @@ mark-consumed-spec 𝓤 H 𝓜 𝓖 𝓡 =
     entered 𝓤 H (tripleOf 𝓤 H (𝓖 .A) f.signature (f.spec 𝓤 H (𝓖 .A) (𝓜 .mem) (𝓡 .run)))
     (tables 𝓤 H 𝓜 𝓡 code.env .C) (tables 𝓤 H 𝓜 𝓡 code.env .Λ) key.name code.function (code.unfolded 𝓤 H 𝓜 𝓡)
     (meets callee.name rule 𝓤 H (𝓖 .A) (givenOf 𝓤 H 𝓜 𝓖) (tablesOf 𝓤 H 𝓜 (tables 𝓤 H 𝓜 𝓡 code.env))
-    (cited 𝓤 H (Mark rule 𝓤 H (𝓖 .A)) 𝓜 𝓡 code.env callee.name callee.routine code.calls-scope·Stack·mark-consumed (by-value.met 𝓤 H 𝓜 𝓖 𝓡)))
+    (cited 𝓤 H (Mark rule 𝓤 H (𝓖 .A)) 𝓜 𝓡 code.env callee.name callee.routine refl (by-value.met 𝓤 H 𝓜 𝓖 𝓡)))
