@@ -10,8 +10,9 @@ use lib.ListN.{length, getD, take, drop, replicate, length-append}
 use lib.Seq.{getD-drop, take-at, drop-at, length-take-le}
 use borrow.Author.Tests.{ltb-true, le-ltb}
 use Rattle.tables.specs.Limits.{version1}
-use Rattle.rules.specs.Report.{Report as Reported, error, warning, left, errors}
-use Rattle.rules.specs.Verdict.{entryOf, entriesOf}
+use Rattle.image.specs.Image.{Image}
+use Rattle.rules.specs.Report.{Report as Reported, error, warning, left, errors, reports}
+use Rattle.rules.specs.Verdict.{entryOf, entriesOf, answerOf}
 use Rattle.lent.specs.declared.Report.{Report}
 use Rattle.lent.proofs.Records.{plenty}
 use Rattle.lent.specs.Records.{recordAt, records, recordOf, recordsOf, tooFew, Writes}
@@ -123,3 +124,15 @@ reports-of-errors rs rest old new fault h w =
       w .answer ∙ ap (λ (t : Bool). cond t 14 0) no,
       w .structs ∙ ap (λ (t : Bool). cond t old (records ns n ++ drop n old)) no ∙ ap (λ (l : List Report). l ++ drop n old) (records-of rs rest),
     )
+
+-- so the pass's numbers of an image make the records of its errors
+pub reports-of-image : (i : Image) (rest : List ℕ) (old new : List Report) (fault : ℕ) → answerOf version1 i .errorCount ≤ length old
+    → Writes (answerOf version1 i .errorNumbers ++ rest) (answerOf version1 i .errorCount) old new fault
+    → (fault ≡ 0) × (new ≡ recordsOf (reports i) ++ drop (answerOf version1 i .errorCount) old)
+reports-of-image i = reports-of-errors (reports i)
+
+-- the error that document 01 prints as `error 1 15 0 13`
+pub printed-error : records (entriesOf version1 (error 1 15 0 (13 ∷ []) ∷ [])) 1
+    ≡ record { kind = 1; place = 15; hint = 0; count = 1; places = 13 ∷ 0 ∷ 0 ∷ 0 ∷ 0 ∷ 0 ∷ 0 ∷ 0 ∷ [] } ∷ []
+unfolding records
+printed-error = refl
