@@ -350,14 +350,6 @@ fn evaluated(
     let p = f.first;
     let g = env.globals;
     let n = env.first;
-    let q = validation::are_quiet(s, ns, ts, xs, g, n, &st.names, &st.kinds, st.count, k, p);
-    if q.ok {
-        return Validated {
-            stack: st,
-            errors: told,
-            at: q.at,
-        };
-    }
     validation::validate_exprs(s, ns, ts, xs, g, n, st, k, p, errs, told)
 }
 
