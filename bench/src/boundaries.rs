@@ -75,6 +75,32 @@ pub fn all() -> Vec<(String, Image)> {
     list
 }
 
+/// Around the sizes of the memory that the library has of its own: for images of at most 2,048 bytes 4,096 bytes and 32 entries a list,
+/// for longer ones 65,536 bytes and 512 entries.
+pub fn own_memory() -> Vec<(String, Image)> {
+    let mut list: Vec<(String, Image)> = vec![];
+    for total in 2_046..2_051 {
+        list.push((format!("{total} bytes"), long(total)));
+    }
+    for n in [31, 32, 33, 511, 512, 513] {
+        let errors = (0..n).map(|i| run(21, ident(i as SpanNo, V))).collect();
+        list.push((format!("{n} errors, own memory"), body(&[V], [vec![deletion(20, V)], errors].concat())));
+        let warnings = (0..n).map(|i| run(i as SpanNo, call(21, T, literal(), vec![]))).collect();
+        list.push((format!("{n} warnings, own memory"), body(&[], warnings)));
+        list.push((format!("{n} left behind, own memory"), body(&[V], (0..n).map(|i| back(i as SpanNo)).collect())));
+    }
+    // 32 locals and two returns of a literal: 96 deletes
+    for total in 4_090..4_102 {
+        let mut i = body(&[], [locals(32), vec![give(20, literal()); 3]].concat());
+        let length = write(&i).bytes.len() + 21 * 32 * 4;
+        i.names.extend((0..(total - length) / 60).map(|n| format!("{n:059}").into_bytes()));
+        let rest = (total - length) % 60;
+        i.names.extend((rest > 1).then(|| vec![b'x'; rest - 1]));
+        list.push((format!("about {total} bytes out"), i));
+    }
+    list
+}
+
 fn locals(n: usize) -> Vec<Stmt> {
     (0..n).map(|i| set(30 + i as SpanNo, if i == 0 { V } else { W }, T, literal())).collect()
 }
