@@ -101,6 +101,28 @@ pub fn own_memory() -> Vec<(String, Image)> {
     list
 }
 
+/// The deepest that is accepted: 12 blocks, in each an expression 24 deep, and 64 locals, by each way to nest; short of 2,048 bytes and
+/// over.
+pub fn deepest() -> Vec<(String, Image)> {
+    let mut list: Vec<(String, Image)> = vec![];
+    for (label, way) in [("blocks", 0), ("then", 1), ("else", 2), ("loops", 3), ("each in turn", 4)] {
+        for (size, lets) in [("short", 4), ("long", 64)] {
+            let mut inner = block(20, [locals(lets - 2), vec![run(20, deep_call(24)), give(21, deep(24, ident(22, V)))]].concat());
+            for depth in (1..12).rev() {
+                let statement = match if way == 4 { depth % 4 } else { way } {
+                    0 => Stmt::Block(inner),
+                    1 => Stmt::IfElse { span: 23, condition: deep(24, ident(24, V)), then: inner, other: None },
+                    2 => Stmt::IfElse { span: 23, condition: literal(), then: block(25, vec![]), other: Some(inner) },
+                    _ => Stmt::While { span: 23, condition: deep(24, ident(24, V)), body: inner },
+                };
+                inner = block(26, vec![statement]);
+            }
+            list.push((format!("deepest, {label}, {size}"), Image { body: inner, ..body(&[V, W], vec![]) }));
+        }
+    }
+    list
+}
+
 fn locals(n: usize) -> Vec<Stmt> {
     (0..n).map(|i| set(30 + i as SpanNo, if i == 0 { V } else { W }, T, literal())).collect()
 }

@@ -277,7 +277,7 @@ pub fn differ(images: u64, damaged: u64, seed: u64) -> i32 {
 fn by_hand() -> Vec<(String, Vec<u8>)> {
     let rows = corners::rows().into_iter().map(|r| (r.label.to_string(), r.image));
     let trees = rows.chain([("example".to_string(), corners::example())]).chain(corners::others());
-    let trees = trees.chain(boundaries::all()).chain(boundaries::own_memory());
+    let trees = trees.chain(boundaries::all()).chain(boundaries::own_memory()).chain(boundaries::deepest());
     trees.map(|(label, tree)| (label, image::write(&tree).bytes)).chain(crate::fault_records()).collect()
 }
 

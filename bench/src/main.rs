@@ -1,6 +1,8 @@
 //! The Rust pass beside document 01: `bench/run` says how it is called.
 mod adapter;
 mod answer;
+#[cfg(ours)]
+mod beside;
 mod boundaries;
 mod build;
 mod compare;
@@ -42,24 +44,38 @@ fn command() -> i32 {
         ["differ", images, damaged, seed] => differ::differ(images.parse().unwrap(), damaged.parse().unwrap(), seed.parse().unwrap()),
         #[cfg(not(ours))]
         ["differ", ..] => {
-            eprintln!("there is no library: rt staticlib ownership_pass makes it, or OWNERSHIP_PASS_LIB names its folder; then build anew");
+            eprintln!("{NO_LIBRARY}");
             2
         }
         ["answer"] => print_answer(),
         ["image", label] => print_image(label),
+        ["images", path, many] => stored::write_images(&files.from.join(path), many.parse().unwrap()),
         ["store", path] => stored::store(&files.from.join(path)),
         ["replay", path] => stored::replay(&files.from.join(path)),
         ["records", folder, room, seed] => stored::records(&files.from.join(folder), room.parse().unwrap(), seed.parse().unwrap()),
         #[cfg(feature = "mistakes")]
         ["mistakes", images] => mistakes::find(images.parse().unwrap()),
-        ["speed", runs] => speed::speed(runs.parse().unwrap()),
+        ["speed", runs] => speeds(runs.parse().unwrap()),
         _ => {
             eprintln!(
-                "bench compare IMAGES DAMAGED SEED | differ IMAGES DAMAGED SEED | answer < IMAGE | image LABEL | store FILE | replay FILE | records FOLDER BYTES SEED | speed RUNS"
+                "bench compare IMAGES DAMAGED SEED | differ IMAGES DAMAGED SEED | answer < IMAGE | image LABEL | images FILE MANY | store FILE | replay FILE | records FOLDER BYTES SEED | speed RUNS"
             );
             2
         }
     }
+}
+
+#[cfg(not(ours))]
+const NO_LIBRARY: &str =
+    "there is no library: rt staticlib ownership_pass makes it, or OWNERSHIP_PASS_LIB names its folder; then build anew";
+
+fn speeds(runs: usize) -> i32 {
+    speed::speed(runs);
+    #[cfg(ours)]
+    beside::beside(runs);
+    #[cfg(not(ours))]
+    println!("{NO_LIBRARY}");
+    0
 }
 
 /// mod.rs reads the file of a span at every use of a tracked name, so there is one, in a folder of its own.
