@@ -10,7 +10,7 @@
 #include <string.h>
 #include <sys/mman.h>
 
-enum { PAINTED = 4 << 20, PAINT = 0xa5, KINDS = 4 };
+enum { PAINTED = 2 << 20, PAINT = 0xa5, KINDS = 4 };
 
 /* What is lent: bytes, and numbers of errors, warnings and left-behind entries. */
 struct lent {
@@ -141,10 +141,12 @@ static size_t stack_of(uint8_t *stack, struct job *j) {
         die("no thread", "stack");
     pthread_join(thread, NULL);
     pthread_attr_destroy(&attributes);
-    size_t free = 0;
-    while (free < PAINTED && stack[free] == PAINT)
-        free++;
-    return PAINTED - free;
+    uint64_t word, paint;
+    size_t unused = 0;
+    memset(&paint, PAINT, sizeof paint);
+    while (unused < PAINTED && (memcpy(&word, stack + unused, sizeof word), word == paint))
+        unused += sizeof word;
+    return PAINTED - unused;
 }
 
 static uint8_t *file_of(const char *path, size_t *length) {
@@ -170,7 +172,7 @@ struct seen {
 };
 
 static void measure(struct seen *s, const char *label, const uint8_t *image, size_t length) {
-    for (int entry = 0; entry < 3; entry++) {
+    for (int entry = s->images > 0; entry < 3; entry++) {
         struct job j = {entry, image, length, &s->roomy, 0};
         size_t bytes = stack_of(s->stack, &j);
         if (bytes > s->most[entry]) {
