@@ -1,15 +1,34 @@
-//! With the feature `mistakes`: a copy of src/rules.rs for each mistake of mistakes.txt, and the list of them.
+//! Links the static library `ownership_pass`, if there is one: the cfg `ours`. With the feature `mistakes`: a copy of src/rules.rs for
+//! each mistake of mistakes.txt, and the list of them.
 use std::fmt::Write;
-use std::path::PathBuf;
+use std::path::{Path, PathBuf};
 
 fn main() {
     println!("cargo:rerun-if-changed=build.rs");
-    if std::env::var("CARGO_FEATURE_MISTAKES").is_err() {
-        return;
+    let here = PathBuf::from(std::env::var("CARGO_MANIFEST_DIR").unwrap());
+    link(&here);
+    if std::env::var("CARGO_FEATURE_MISTAKES").is_ok() {
+        copies(&here);
     }
+}
+
+// The library of the folder that OWNERSHIP_PASS_LIB names, else of ../target/staticlib.
+fn link(here: &Path) {
+    println!("cargo:rustc-check-cfg=cfg(ours)");
+    println!("cargo:rerun-if-env-changed=OWNERSHIP_PASS_LIB");
+    let folder = std::env::var("OWNERSHIP_PASS_LIB").map_or(here.join("../target/staticlib"), PathBuf::from);
+    let library = folder.join("libownership_pass.a");
+    println!("cargo:rerun-if-changed={}", library.display());
+    if library.exists() {
+        println!("cargo:rustc-link-search=native={}", folder.display());
+        println!("cargo:rustc-link-lib=static=ownership_pass");
+        println!("cargo:rustc-cfg=ours");
+    }
+}
+
+fn copies(here: &Path) {
     println!("cargo:rerun-if-changed=mistakes.txt");
     println!("cargo:rerun-if-changed=src/rules.rs");
-    let here = PathBuf::from(std::env::var("CARGO_MANIFEST_DIR").unwrap());
     let out = PathBuf::from(std::env::var("OUT_DIR").unwrap());
     let rules = std::fs::read_to_string(here.join("src/rules.rs")).unwrap();
     // `//!` lines belong to a file's top

@@ -89,13 +89,12 @@ pub fn of_image(image: &Image) -> Outcome {
     let mut numbers = Numbers::of(image, &names, &arena);
     let setting = Setting { image, numbers: &numbers, arena: &arena };
 
-    let (fault, states) = probed(&setting);
+    let mut marking = ToHir { numbers: &numbers, marks: Marks { on: true, ..Marks::default() } };
+    let Probed { fault, states, body: marked, errors: again, warnings: marks } = setting.probe(&mut marking);
     if fault != 0 {
         return Err(fault);
     }
     let (body, errors, spans) = setting.run(&mut ToHir { numbers: &numbers, marks: Marks::default() });
-    let mut marking = ToHir { numbers: &numbers, marks: Marks { on: true, ..Marks::default() } };
-    let (marked, again, marks) = setting.run(&mut marking);
     assert_eq!(errors, again, "marks change no error");
     let marked_at = |span: &Span| marking.marks.marked[mark_of(*span).expect("a submitted statement")];
     let warnings: Vec<_> = marks.iter().map(|m| (marked_at(m).span, marked_at(m).callee.expect("a call"))).collect();
@@ -104,7 +103,7 @@ pub fn of_image(image: &Image) -> Outcome {
     let marks = marking.marks;
     let mut lefts = vec![];
     left_behind(&marked, &marks, &mut numbers, &mut lefts);
-    let written = image::write(&Image { body: ToImage { numbers: &mut numbers }.block(&body), ..image.clone() });
+    let written = image::write_with(image, &ToImage { numbers: &mut numbers }.block(&body));
 
     Ok(Answer { output: written.bytes, counts_fit: written.counts_fit, errors, warnings, lefts, states })
 }
@@ -140,16 +139,26 @@ impl<'hir> Setting<'_, 'hir> {
         let errors = pass.errors().iter().filter_map(error_of).collect();
         (body, errors, pass.warnings.iter().map(warned_span).collect())
     }
+
+    /// The copy of mod.rs with probes: faults 12 and 13 and the states after the body too.
+    fn probe(&self, to_hir: &mut ToHir<'_, 'hir>) -> Probed<'hir> {
+        let signature = adapter::signature(self.image, self.numbers, self.arena);
+        let mut body = to_hir.block(&self.image.body);
+        let mut pass = ownership_probe::HirOwnershipPass::new(self.arena, &signature);
+        run_pass!(pass, self, &mut body);
+        let (fault, states) = probe::taken();
+        let states = states.into_iter().map(|(_, kind, places)| (kind, places.into_iter().map(span_number).collect())).collect();
+        let errors = pass.errors().iter().filter_map(error_of).collect();
+        Probed { fault, states, body, errors, warnings: pass.warnings.iter().map(warned_span).collect() }
+    }
 }
 
-/// Faults 12 and 13, and the states after the body, from the copy of mod.rs with probes.
-fn probed(setting: &Setting<'_, '_>) -> (u8, Vec<State>) {
-    let signature = adapter::signature(setting.image, setting.numbers, setting.arena);
-    let mut body = ToHir { numbers: setting.numbers, marks: Marks::default() }.block(&setting.image.body);
-    let mut pass = ownership_probe::HirOwnershipPass::new(setting.arena, &signature);
-    run_pass!(pass, setting, &mut body);
-    let (fault, states) = probe::taken();
-    (fault, states.into_iter().map(|(_, kind, places)| (kind, places.into_iter().map(span_number).collect())).collect())
+struct Probed<'hir> {
+    fault: u8,
+    states: Vec<State>,
+    body: HirBlock<'hir>,
+    errors: Vec<Error>,
+    warnings: Vec<Span>,
 }
 
 fn warned_span(w: &HirWarning) -> Span {

@@ -75,6 +75,54 @@ pub fn all() -> Vec<(String, Image)> {
     list
 }
 
+/// Around the sizes of the memory that the library has of its own: for images of at most 2,048 bytes 4,096 bytes and 32 entries a list,
+/// for longer ones 65,536 bytes and 512 entries.
+pub fn own_memory() -> Vec<(String, Image)> {
+    let mut list: Vec<(String, Image)> = vec![];
+    for total in 2_046..2_051 {
+        list.push((format!("{total} bytes"), long(total)));
+    }
+    for n in [31, 32, 33, 511, 512, 513] {
+        let errors = (0..n).map(|i| run(21, ident(i as SpanNo, V))).collect();
+        list.push((format!("{n} errors, own memory"), body(&[V], [vec![deletion(20, V)], errors].concat())));
+        let warnings = (0..n).map(|i| run(i as SpanNo, call(21, T, literal(), vec![]))).collect();
+        list.push((format!("{n} warnings, own memory"), body(&[], warnings)));
+        list.push((format!("{n} left behind, own memory"), body(&[V], (0..n).map(|i| back(i as SpanNo)).collect())));
+    }
+    // 32 locals and two returns of a literal: 96 deletes
+    for total in 4_090..4_102 {
+        let mut i = body(&[], [locals(32), vec![give(20, literal()); 3]].concat());
+        let length = write(&i).bytes.len() + 21 * 32 * 4;
+        i.names.extend((0..(total - length) / 60).map(|n| format!("{n:059}").into_bytes()));
+        let rest = (total - length) % 60;
+        i.names.extend((rest > 1).then(|| vec![b'x'; rest - 1]));
+        list.push((format!("about {total} bytes out"), i));
+    }
+    list
+}
+
+/// The deepest that is accepted: 12 blocks, in each an expression 24 deep, and 64 locals, by each way to nest; short of 2,048 bytes and
+/// over.
+pub fn deepest() -> Vec<(String, Image)> {
+    let mut list: Vec<(String, Image)> = vec![];
+    for (label, way) in [("blocks", 0), ("then", 1), ("else", 2), ("loops", 3), ("each in turn", 4)] {
+        for (size, lets) in [("short", 4), ("long", 64)] {
+            let mut inner = block(20, [locals(lets - 2), vec![run(20, deep_call(24)), give(21, deep(24, ident(22, V)))]].concat());
+            for depth in (1..12).rev() {
+                let statement = match if way == 4 { depth % 4 } else { way } {
+                    0 => Stmt::Block(inner),
+                    1 => Stmt::IfElse { span: 23, condition: deep(24, ident(24, V)), then: inner, other: None },
+                    2 => Stmt::IfElse { span: 23, condition: literal(), then: block(25, vec![]), other: Some(inner) },
+                    _ => Stmt::While { span: 23, condition: deep(24, ident(24, V)), body: inner },
+                };
+                inner = block(26, vec![statement]);
+            }
+            list.push((format!("deepest, {label}, {size}"), Image { body: inner, ..body(&[V, W], vec![]) }));
+        }
+    }
+    list
+}
+
 fn locals(n: usize) -> Vec<Stmt> {
     (0..n).map(|i| set(30 + i as SpanNo, if i == 0 { V } else { W }, T, literal())).collect()
 }

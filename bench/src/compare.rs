@@ -105,7 +105,7 @@ fn round_trip(tree: &Image) -> Vec<u8> {
     let arena = HirArena::new();
     let mut numbers = Numbers::of(tree, &names, &arena);
     let hir = ToHir { numbers: &numbers, marks: Marks::default() }.block(&tree.body);
-    image::write(&Image { body: ToImage { numbers: &mut numbers }.block(&hir), ..tree.clone() }).bytes
+    image::write_with(tree, &ToImage { numbers: &mut numbers }.block(&hir)).bytes
 }
 
 /// The way of the compiler: HIR, an image with numbers of its own, its answer, and HIR again. Told in the numbers of the first image the
@@ -138,7 +138,7 @@ fn compiler_way(tree: &Image, rust: &Answer) -> bool {
     // an output that is no image can't be read
     let Ok(returned) = reader::read(&answer.output) else { return same_reports };
     let body = ToHir { numbers: &own, marks: Marks::default() }.block(&returned.body);
-    let output = image::write(&Image { body: ToImage { numbers: &mut numbers }.block(&body), ..tree.clone() });
+    let output = image::write_with(tree, &ToImage { numbers: &mut numbers }.block(&body));
     same_reports && output.bytes == rust.output
 }
 
@@ -152,7 +152,7 @@ fn returned_is_read(a: &Answer) -> bool {
 }
 
 /// 21 × (statements in all blocks + 1) × (registrations + 1)
-fn room_bound(tree: &Image) -> usize {
+pub fn room_bound(tree: &Image) -> usize {
     let (mut statements, mut registrations) = (0, tree.entry.params.len() + (tree.entry.receiver >= 2) as usize);
     count(&tree.body, &mut statements, &mut registrations);
     21 * (statements + 1) * (registrations + 1)

@@ -53,6 +53,28 @@ enum Spans {
 }
 
 pub fn image(seed: u64) -> Image {
+    let sizes = |random: &mut Random| match random.below(100) {
+        0..60 => random.between(1, 12),
+        60..90 => random.between(8, 40),
+        90..99 => random.between(30, 150),
+        _ => random.between(200, 900),
+    };
+    image_of(seed, sizes)
+}
+
+/// Mostly short, for runs of millions.
+pub fn short(seed: u64) -> Image {
+    let sizes = |random: &mut Random| match random.below(1000) {
+        0..800 => random.between(1, 12),
+        800..980 => random.between(8, 40),
+        980..999 => random.between(30, 150),
+        _ => random.between(200, 900),
+    };
+    image_of(seed, sizes)
+}
+
+// With a body of so many statements, about.
+fn image_of(seed: u64, sizes: impl Fn(&mut Random) -> usize) -> Image {
     let mut g = Generator {
         random: Random::new(seed),
         image: Image::default(),
@@ -73,12 +95,7 @@ pub fn image(seed: u64) -> Image {
     g.globals();
     g.choose_hot();
     g.entry();
-    g.budget = match g.random.below(100) {
-        0..60 => g.random.between(1, 12),
-        60..90 => g.random.between(8, 40),
-        90..99 => g.random.between(30, 150),
-        _ => g.random.between(200, 900),
-    };
+    g.budget = sizes(&mut g.random);
     g.image.body = g.block(1);
     g.image
 }

@@ -136,10 +136,15 @@ pub struct Written {
 }
 
 pub fn write(image: &Image) -> Written {
+    write_with(image, &image.body)
+}
+
+/// With another body.
+pub fn write_with(image: &Image, body: &Block) -> Written {
     let mut out = Written { bytes: vec![0, 0, 0, 0, 1], counts_fit: true };
     tables(&mut out, image);
     entry(&mut out, &image.entry);
-    block(&mut out, &image.body);
+    block(&mut out, body);
     let length = out.bytes.len() as u32 - 4;
     out.bytes[..4].copy_from_slice(&length.to_be_bytes());
     out

@@ -1,14 +1,20 @@
 //! The Rust pass beside document 01: `bench/run` says how it is called.
 mod adapter;
 mod answer;
+#[cfg(ours)]
+mod beside;
 mod boundaries;
 mod build;
 mod compare;
 mod corners;
+#[cfg(ours)]
+mod differ;
 mod generator;
 mod image;
 #[cfg(feature = "mistakes")]
 mod mistakes;
+#[cfg(ours)]
+mod ours;
 mod random;
 mod reader;
 mod rules;
@@ -34,21 +40,42 @@ fn command() -> i32 {
     let files = Files::new();
     match words[..] {
         ["compare", images, damaged, seed] => compare(images.parse().unwrap(), damaged.parse().unwrap(), seed.parse().unwrap()),
+        #[cfg(ours)]
+        ["differ", images, damaged, seed] => differ::differ(images.parse().unwrap(), damaged.parse().unwrap(), seed.parse().unwrap()),
+        #[cfg(not(ours))]
+        ["differ", ..] => {
+            eprintln!("{NO_LIBRARY}");
+            2
+        }
         ["answer"] => print_answer(),
         ["image", label] => print_image(label),
+        ["images", path, many] => stored::write_images(&files.from.join(path), many.parse().unwrap()),
         ["store", path] => stored::store(&files.from.join(path)),
         ["replay", path] => stored::replay(&files.from.join(path)),
         ["records", folder, room, seed] => stored::records(&files.from.join(folder), room.parse().unwrap(), seed.parse().unwrap()),
         #[cfg(feature = "mistakes")]
         ["mistakes", images] => mistakes::find(images.parse().unwrap()),
-        ["speed", runs] => speed::speed(runs.parse().unwrap()),
+        ["speed", runs] => speeds(runs.parse().unwrap()),
         _ => {
             eprintln!(
-                "bench compare IMAGES DAMAGED SEED | answer < IMAGE | image LABEL | store FILE | replay FILE | records FOLDER BYTES SEED | speed RUNS"
+                "bench compare IMAGES DAMAGED SEED | differ IMAGES DAMAGED SEED | answer < IMAGE | image LABEL | images FILE MANY | store FILE | replay FILE | records FOLDER BYTES SEED | speed RUNS"
             );
             2
         }
     }
+}
+
+#[cfg(not(ours))]
+const NO_LIBRARY: &str =
+    "there is no library: rt staticlib ownership_pass makes it, or OWNERSHIP_PASS_LIB names its folder; then build anew";
+
+fn speeds(runs: usize) -> i32 {
+    speed::speed(runs);
+    #[cfg(ours)]
+    beside::beside(runs);
+    #[cfg(not(ours))]
+    println!("{NO_LIBRARY}");
+    0
 }
 
 /// mod.rs reads the file of a span at every use of a tracked name, so there is one, in a folder of its own.
@@ -155,28 +182,35 @@ fn example() -> usize {
 /// The second reader on the images of crates/faults, beside the outcomes stored there.
 fn fault_images() -> usize {
     let folder = Path::new(env!("CARGO_MANIFEST_DIR")).join("../crates/faults");
-    let (Ok(data), Ok(lines)) = (std::fs::read(folder.join("data/images")), std::fs::read_to_string(folder.join("stdout"))) else {
-        println!("crates/faults has no stored images");
-        return 1;
-    };
-    let (mut at, mut wrong, mut count) = (0, 0, 0);
-    for line in lines.lines() {
-        let label = at + 1 + data[at] as usize;
-        let name = String::from_utf8_lossy(&data[at + 1..label]);
-        let size = u32::from_be_bytes(data[label..label + 4].try_into().unwrap()) as usize;
-        at = label + 4 + size;
-        let outcome = match reader::read(&data[label + 4..at]) {
-            Ok(_) => format!("{name} accepted {size}"),
+    let lines = std::fs::read_to_string(folder.join("stdout")).unwrap_or_default();
+    let records = fault_records();
+    let mut wrong = (records.is_empty() || records.len() != lines.lines().count()) as usize;
+    for ((name, bytes), line) in records.iter().zip(lines.lines()) {
+        let outcome = match reader::read(bytes) {
+            Ok(_) => format!("{name} accepted {}", bytes.len()),
             Err(fault) => format!("{name} refused {fault}"),
         };
         if outcome != line {
             println!("WRONG: {outcome}, stored: {line}");
             wrong += 1;
         }
-        count += 1;
     }
-    println!("the second reader on crates/faults: {count} images, {wrong} wrong");
-    wrong + (at != data.len()) as usize
+    println!("the second reader on crates/faults: {} images, {wrong} wrong", records.len());
+    wrong
+}
+
+/// The stored images of crates/faults with their labels.
+fn fault_records() -> Vec<(String, Vec<u8>)> {
+    let data = std::fs::read(Path::new(env!("CARGO_MANIFEST_DIR")).join("../crates/faults/data/images")).unwrap_or_default();
+    let (mut list, mut at) = (vec![], 0);
+    while at < data.len() {
+        let label = at + 1 + data[at] as usize;
+        let size = u32::from_be_bytes(data[label..label + 4].try_into().unwrap()) as usize;
+        let name = String::from_utf8_lossy(&data[at + 1..label]).into_owned();
+        at = label + 4 + size;
+        list.push((name, data[label + 4..at].to_vec()));
+    }
+    list
 }
 
 /// The corners with no file to read: the same answers, but for the Rust's two panics, where a global is moved and where a result is

@@ -9,7 +9,7 @@ use oracle::atlas_c::atlas_hir::ownership_pass::HirOwnershipPass;
 use oracle::{ownership_probe, probe};
 use std::time::Instant;
 
-pub fn speed(runs: usize) -> i32 {
+pub fn speed(runs: usize) {
     println!("the Rust pass, {runs} runs of each body; nanoseconds for each statement: median, worst");
     println!("{:>28} {:>12} {:>22} {:>22}", "body", "statements", "as published", "file from memory");
     for n in [10, 100, 1000, 4000] {
@@ -23,7 +23,6 @@ pub fn speed(runs: usize) -> i32 {
     }
     let medium = (0..).map(generator::image).find(|i| (100..200).contains(&statements(&i.body)) && answer::of_image(i).is_ok()).unwrap();
     line("a generated body", &medium, runs);
-    0
 }
 
 fn line(label: &str, image: &Image, runs: usize) {
@@ -59,7 +58,7 @@ fn times(runs: usize, mut run: impl FnMut() -> f64) -> (f64, f64) {
     (list[runs / 2], list[runs - 1])
 }
 
-fn statements(block: &crate::image::Block) -> usize {
+pub fn statements(block: &crate::image::Block) -> usize {
     let inner = |s: &Stmt| match s {
         Stmt::Block(b) | Stmt::While { body: b, .. } => statements(b),
         Stmt::IfElse { then, other, .. } => statements(then) + other.as_ref().map_or(0, statements),

@@ -122,6 +122,28 @@ pub fn records(folder: &Path, room: usize, seed: u64) -> i32 {
     0
 }
 
+/// For memory.c: the boundaries, the images of crates/faults, so many generated ones and as many damaged.
+pub fn write_images(path: &Path, many: u64) -> i32 {
+    let trees = boundaries::all().into_iter().chain(boundaries::own_memory()).chain(boundaries::deepest());
+    let mut list: Vec<_> = trees.map(|(label, tree)| (label, image::write(&tree).bytes)).chain(crate::fault_records()).collect();
+    let mut random = Random::new(1);
+    for seed in 0..many {
+        let whole = image::write(&generator::image(seed)).bytes;
+        list.push((format!("damaged {seed}"), generator::damaged(&whole, &mut random)));
+        list.push((format!("seed {seed}"), whole));
+    }
+    let mut data = vec![];
+    for (label, bytes) in &list {
+        data.push(label.len() as u8);
+        data.extend(label.as_bytes());
+        data.extend((bytes.len() as u32).to_be_bytes());
+        data.extend(bytes);
+    }
+    std::fs::write(path, &data).unwrap();
+    println!("{} images, {} bytes", list.len(), data.len());
+    0
+}
+
 /// Each image of a file through the Rust again: its record must be the stored one.
 pub fn replay(path: &Path) -> i32 {
     let file = std::fs::read(path).unwrap();

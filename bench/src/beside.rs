@@ -1,0 +1,300 @@
+//! How long the library's entries take, in one run beside the Rust as published and the Rust with its file answered from memory.
+use crate::adapter::{self, Marks, Numbers, ToHir};
+use crate::answer;
+use crate::build::*;
+use crate::image::{self, Block, Image, Name, SpanNo, Stmt};
+use crate::ours::{self, Lent};
+use crate::random::Random;
+use crate::speed::statements;
+use oracle::atlas_c::atlas_hir::arena::HirArena;
+use oracle::atlas_c::atlas_hir::ownership_pass::HirOwnershipPass;
+use oracle::{ownership_probe, probe};
+use std::time::Instant;
+
+/// Medians for one body, in nanoseconds.
+#[derive(Clone, Copy, Default)]
+struct Times {
+    pass: f64,
+    room: f64,
+    published: f64,
+    memory: f64,
+}
+
+/// Bodies of each size with each number of locals.
+const BODIES: u64 = 3;
+
+pub fn beside(runs: usize) {
+    println!("ours beside the Rust, {BODIES} bodies of each kind, {runs} runs of each; nanoseconds for each statement, medians");
+    let columns =
+        ["locals", "bytes", "bytes out", "statements", "pass", "room", "published", "from memory", "published/pass", "memory/pass"];
+    println!("{}", columns.map(|c| format!("{c:>16}")).concat());
+    let mut all = vec![];
+    for bytes in [200, 2_000, 20_000, 60_000] {
+        for locals in [4, 16, 64] {
+            all.extend(row(bytes, locals, runs));
+        }
+    }
+    println!("with returns that grow it past 65,536 bytes:");
+    for locals in [4, 16, 64] {
+        line(locals, &[grown(60_000, locals)], runs);
+    }
+    let over = |f: fn(&Times) -> f64| median(all.iter().map(f).collect());
+    let least = |f: fn(&Times) -> f64| all.iter().map(f).fold(f64::INFINITY, f64::min);
+    println!(
+        "over all {} bodies, medians: published/pass {:.1}, memory/pass {:.1}, room/pass {:.2}; least published/pass {:.1}, memory/pass {:.1}",
+        all.len(),
+        over(|t| t.published / t.pass),
+        over(|t| t.memory / t.pass),
+        over(|t| t.room / t.pass),
+        least(|t| t.published / t.pass),
+        least(|t| t.memory / t.pass),
+    );
+    for (half, locals) in [(10_000, 4), (10_000, 16), (10_000, 64), (30_000, 4), (30_000, 16), (30_000, 64)] {
+        twice(half, locals, runs);
+    }
+}
+
+// Time at twice the size over the time.
+fn twice(half: usize, locals: usize, runs: usize) {
+    let time = |bytes| {
+        let list: Vec<_> = (0..BODIES).map(|seed| times(&generated(bytes, locals, seed), runs)).collect();
+        [list.iter().map(|t| t.pass).sum::<f64>(), list.iter().map(|t| t.room).sum::<f64>()]
+    };
+    let (once, double) = (time(half), time(2 * half));
+    println!("{} bytes over {half}, {locals} locals: pass {:.2}, room {:.2}", 2 * half, double[0] / once[0], double[1] / once[1]);
+}
+
+fn row(bytes: usize, locals: usize, runs: usize) -> Vec<Times> {
+    let bodies: Vec<_> = (0..BODIES).map(|seed| generated(bytes, locals, seed)).collect();
+    line(locals, &bodies, runs)
+}
+
+fn line(locals: usize, bodies: &[Image], runs: usize) -> Vec<Times> {
+    let all: Vec<_> = bodies.iter().map(|i| times(i, runs)).collect();
+    let count: usize = bodies.iter().map(|i| statements(&i.body)).sum();
+    let [bytes, out] = [0, 1].map(|k| bodies.iter().map(|i| lengths(i)[k]).sum::<usize>() / bodies.len());
+    let sum = |f: fn(&Times) -> f64| all.iter().map(f).sum::<f64>();
+    let each = |f: fn(&Times) -> f64| format!("{:>16.0}", sum(f) / count as f64);
+    let (pass, published, memory) = (sum(|t| t.pass), sum(|t| t.published), sum(|t| t.memory));
+    println!(
+        "{locals:>16}{bytes:>16}{out:>16}{:>16}{}{}{}{}{:>16.1}{:>16.1}",
+        count / bodies.len(),
+        each(|t| t.pass),
+        each(|t| t.room),
+        each(|t| t.published),
+        each(|t| t.memory),
+        published / pass,
+        memory / pass
+    );
+    all
+}
+
+// Bytes of the image and of the one given back.
+fn lengths(i: &Image) -> [usize; 2] {
+    let bytes = image::write(i).bytes;
+    [bytes.len(), answer::of_bytes(&bytes).unwrap().unwrap().output.len()]
+}
+
+// Each run takes all four in turn.
+fn times(image: &Image, runs: usize) -> Times {
+    let names = answer::texts(image);
+    let arena = HirArena::new();
+    let numbers = Numbers::of(image, &names, &arena);
+    let signature = adapter::signature(image, &numbers, &arena);
+    let params = adapter::params(image, &numbers);
+    let hir = || ToHir { numbers: &numbers, marks: Marks::default() }.block(&image.body);
+    let mut lent = Memory::new(image);
+    let mut lists = [const { vec![] }; 4];
+    for _ in 0..runs {
+        lists[0].push(lent.pass());
+        lists[1].push(lent.room());
+        let (mut pass, mut body) = (HirOwnershipPass::new(&arena, &signature), hir());
+        let start = Instant::now();
+        pass.body(&mut body, &params);
+        lists[2].push(start.elapsed().as_nanos() as f64);
+        let (mut pass, mut body) = (ownership_probe::HirOwnershipPass::new(&arena, &signature), hir());
+        let start = Instant::now();
+        pass.body(&mut body, &params);
+        lists[3].push(start.elapsed().as_nanos() as f64);
+        probe::taken();
+    }
+    let [pass, room, published, memory] = lists.map(median);
+    Times { pass, room, published, memory }
+}
+
+fn median(mut list: Vec<f64>) -> f64 {
+    list.sort_by(f64::total_cmp);
+    list[list.len() / 2]
+}
+
+/// An image, and memory enough for its answer.
+struct Memory {
+    image: Vec<u8>,
+    output: Vec<u8>,
+    lists: [Vec<u32>; 3],
+}
+
+impl Memory {
+    fn new(tree: &Image) -> Self {
+        let image = image::write(tree).bytes;
+        let mut room = 0;
+        assert_eq!(ours::room(&image, &mut room), 0);
+        Memory { image, output: vec![0; room as usize], lists: [1 << 16; 3].map(|n| vec![0; n]) }
+    }
+
+    fn pass(&mut self) -> f64 {
+        let mut totals = [0; 4];
+        let [errors, warnings, left] = &mut self.lists;
+        let lent = Lent { output: &mut self.output, errors, warnings, left, totals: &mut totals };
+        let start = Instant::now();
+        let answer = ours::pass(&self.image, lent);
+        let time = start.elapsed().as_nanos() as f64;
+        assert_eq!(answer, 0);
+        time
+    }
+
+    fn room(&mut self) -> f64 {
+        let mut room = 0;
+        let start = Instant::now();
+        let answer = ours::room(&self.image, &mut room);
+        let time = start.elapsed().as_nanos() as f64;
+        assert_eq!(answer, 0);
+        time
+    }
+}
+
+/// A body of about so many bytes with so many locals, parameters among them: uses, moves, consuming calls, deletes and assignments,
+/// branches and loops three deep. What a branch gives up is assigned again after it, so few errors come of it.
+struct Body {
+    random: Random,
+    first: Name,
+    locals: usize,
+    span: SpanNo,
+    /// the locals that are given up
+    gone: Vec<Name>,
+}
+
+fn generated(bytes: usize, locals: usize, seed: u64) -> Image {
+    let mut i = tables();
+    let first = i.names.len() as Name;
+    i.names.extend((0..locals).map(|k| format!("l{k}").into_bytes()));
+    i.entry.params = (0..locals.min(16)).map(|k| (first + k as Name, T)).collect();
+    let mut body = Body { random: Random::new(seed), first, locals, span: 100, gone: vec![] };
+    i.body.statements = (16..locals).map(|k| set(body.at(), first + k as Name, T, literal())).collect();
+    let mut length = image::write(&i).bytes.len();
+    while length < bytes {
+        let more = body.statements(0);
+        length += image::write(&Image { body: block(0, more.clone()), ..Image::default() }).bytes.len() - EMPTY;
+        i.body.statements.extend(more);
+    }
+    i
+}
+
+/// The bytes of an image of nothing.
+const EMPTY: usize = 22;
+
+// With a return of a local in many branches.
+fn grown(bytes: usize, locals: usize) -> Image {
+    let mut i = generated(bytes - 2_000, locals, 0);
+    let first = i.names.len() as Name - locals as Name;
+    let returns = |k: usize| when(20, block(21, vec![give(22, ident(23, first + (k % locals) as Name))]), None);
+    i.body.statements.extend((0..40).map(returns));
+    while answer::of_bytes(&image::write(&i).bytes).unwrap().unwrap().output.len() <= 65_536 {
+        i.body.statements.extend((0..5).map(returns));
+    }
+    i
+}
+
+impl Body {
+    fn at(&mut self) -> SpanNo {
+        self.span += 1;
+        self.span
+    }
+
+    fn name(&mut self) -> Name {
+        self.first + self.random.below(self.locals) as Name
+    }
+
+    /// A local that is held.
+    fn held(&mut self) -> Name {
+        let names: Vec<_> = (0..4).map(|_| self.name()).collect();
+        names.iter().copied().find(|n| !self.gone.contains(n)).unwrap_or(names[0])
+    }
+
+    fn used(&mut self) -> crate::image::Expr {
+        let (at, name) = (self.at(), self.held());
+        ident(at, name)
+    }
+
+    fn statements(&mut self, depth: usize) -> Vec<Stmt> {
+        let at = self.at();
+        match self.random.below(100) {
+            0..40 => {
+                let args = (0..self.random.between(1, 3)).map(|_| self.used()).collect();
+                vec![run(at, call(at, PLAIN, literal(), args))]
+            }
+            40..55 => {
+                let target = self.used();
+                vec![run(at, call(at, PLAIN, field(at, target, W), vec![literal()]))]
+            }
+            55..63 => vec![assign(at, field(at, this(at), W), literal())],
+            63..75 => self.given_up(at),
+            75..85 => self.taken_back(at),
+            85..95 if depth < 3 => self.branch(at, depth),
+            95..97 if depth < 3 => {
+                let body = self.block(at, depth);
+                let given = self.gone.clone();
+                self.all_back(vec![repeat(at, body)], &given)
+            }
+            97 => vec![run(at, call(at, T, literal(), vec![]))],
+            98 if depth > 1 => vec![give(at, literal())],
+            _ => vec![run(at, call(at, PLAIN, literal(), vec![self.used()]))],
+        }
+    }
+
+    fn given_up(&mut self, at: SpanNo) -> Vec<Stmt> {
+        let name = self.held();
+        if self.gone.contains(&name) {
+            return self.taken_back(at);
+        }
+        self.gone.push(name);
+        vec![match self.random.below(4) {
+            0 => deletion(at, name),
+            1 => run(at, call(at, PLAIN, field(at, ident(at, name), TAKE), vec![])),
+            _ => moving(at, ident(at, name)),
+        }]
+    }
+
+    fn taken_back(&mut self, at: SpanNo) -> Vec<Stmt> {
+        match self.gone.pop() {
+            Some(name) => vec![assign(at, ident(at, name), literal())],
+            None => vec![run(at, call(at, PLAIN, literal(), vec![self.used()]))],
+        }
+    }
+
+    fn branch(&mut self, at: SpanNo, depth: usize) -> Vec<Stmt> {
+        let before = self.gone.clone();
+        let then = self.block(at, depth);
+        let mut given = std::mem::replace(&mut self.gone, before);
+        let other = self.random.chance(50).then(|| self.block(at, depth));
+        given.extend(&self.gone);
+        self.all_back(vec![when(at, then, other)], &given)
+    }
+
+    fn block(&mut self, at: SpanNo, depth: usize) -> Block {
+        block(at, (0..self.random.between(1, 4)).flat_map(|_| self.statements(depth + 1)).collect())
+    }
+
+    // Everything given up is assigned, so that a later join gathers no ninth place.
+    fn all_back(&mut self, mut list: Vec<Stmt>, given: &[Name]) -> Vec<Stmt> {
+        let mut names: Vec<_> = given.iter().chain(&self.gone).copied().collect();
+        names.sort();
+        names.dedup();
+        for name in names {
+            let at = self.at();
+            list.push(assign(at, ident(at, name), literal()));
+        }
+        self.gone.clear();
+        list
+    }
+}

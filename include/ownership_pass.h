@@ -1,0 +1,52 @@
+/* Ownership of values in one Atlas77 body: the entries of libownership_pass.a (document 01).
+ *
+ * Both answer 0, accepted, or the number of the first fault:
+ *    1  under 5 bytes, over 65,536, or wrong length    2  version not 1
+ *    3  names      4  types      5  structs      6  globals      7  entry: a rule broken, or bytes run out
+ *    8  body: unknown byte, number outside its table, a Delete's type not 0, or bytes run out
+ *    9  block deeper than 12 or expression deeper than 24    10  bytes left over    11  generic receiver
+ *   12  a 65th local registered at one time    13  a joined state needs a 9th place
+ *   14  errors, warnings or left-behind entries outnumber those lent
+ *   15  the image does not fit the output lent, or a block would count over 65,535 statements
+ * On a fault nothing at all is changed, *room and *totals included.
+ *
+ * Any bytes may be submitted as an image. Every pointer must be non-null and aligned for its type, also where its length is 0, and
+ * valid for its length; what is written to must overlap neither the image nor any other memory lent in the same call. The calls hold
+ * no state, allocate nothing and keep no pointer: threads may call them at one time, each with memory of its own to write to.
+ */
+#ifndef OWNERSHIP_PASS_H
+#define OWNERSHIP_PASS_H
+
+#include <stddef.h>
+#include <stdint.h>
+
+#ifdef __cplusplus
+extern "C" {
+#endif
+
+/* The numbers of one entry of each list, and of totals. Lists are lent as numbers: room for n errors is an errors_len of 12 * n. */
+#define OWNERSHIP_ERROR_NUMBERS 12  /* kind 1 to 8, place, hint, count of other places, 8 other places (unused ones 0) */
+#define OWNERSHIP_WARNING_NUMBERS 2 /* the statement's span, the byte offset of the callee's tag in the submitted image */
+#define OWNERSHIP_LEFT_NUMBERS 2    /* the return's span, the local's name */
+#define OWNERSHIP_TOTALS 4          /* bytes written, errors, warnings, left-behind entries */
+
+/* Gives back the body with the deletes inserted, as a whole image, and what is reported, each list in order. On 0 the first bytes of
+ * output, the first entries of each list and all of totals are written; the rest of what is lent is unchanged. A length that is no
+ * multiple of an entry's numbers lends the whole entries in it. Faults 1 to 15. */
+uint32_t ownership_pass(const uint8_t *image, size_t image_len,
+                        uint8_t *output, size_t output_len,
+                        uint32_t *errors, size_t errors_len,
+                        uint32_t *warnings, size_t warnings_len,
+                        uint32_t *left, size_t left_len,
+                        uint64_t *totals /* OWNERSHIP_TOTALS of them */);
+
+/* The bytes of output that ownership_pass needs for this image: no fewer than it writes, at most
+ * image_len + 21 * (statements in all blocks + 1) * (registrations + 1), a registration being a Let, a Const, a parameter or `this`.
+ * Faults 1 to 13. */
+uint32_t ownership_room(const uint8_t *image, size_t image_len, uint64_t *room);
+
+#ifdef __cplusplus
+}
+#endif
+
+#endif
