@@ -60,9 +60,12 @@ loop-less c = omega (arith, c .before .before .before .before .loop-test .taken)
 -- src/lib.rt:20:5
 loop-again : tie.Need-loop-again Inv-loop μ-loop
 loop-again c =
-    let g = registered _ _ (c .before .before .before .before .before .loop .l) (c .before .register-local .result) (c .before .before .before .before .before .loop .inv .0) (omega (arith, c .before .before .before .before .before .before .before .pre, c .before .before .before .before .before .loop .inv .1, c .before .before .before .before .loop-test .taken)) (c .before .register-local .ensures) in
-    (g .framed, omega (arith, g .count, c .before .before .before .before .before .loop .inv .1), omega (arith, c .before .before .before .before .loop-test .taken),
-    λ T. g .is ∙ ap (register states _ _ 0) (c .before .before .before .before .before .loop .inv .3 T) ∙ entered-next T (c .before .before .before .before .before .before .before .args .s .now) (c .before .before .before .before .before .loop .i) (c .before .before .before .before .before .before .before .args .at) (view (c .before .before .before .before .before .before .before .args .st)) _ _ (c .before .before .before .name-at .ensures) (c .before .before .name-at2 .ensures))
+    let g = registered _ _ (c .before .before .before .before .before .loop .l) (c .before .register-local .result) (c .before .before .before .before .before .loop .inv .0) (omega (arith, c .before .before .before .before .before .before .before .pre, c .before .before .before .before .before .loop .inv .1, c .before .before .before .before .loop-test .taken)) (c .before .register-local .ensures) in (
+      g .framed,
+      omega (arith, g .count, c .before .before .before .before .before .loop .inv .1),
+      omega (arith, c .before .before .before .before .loop-test .taken),
+      λ T. g .is ∙ ap (register states _ _ 0) (c .before .before .before .before .before .loop .inv .3 T) ∙ entered-next T (c .before .before .before .before .before .before .before .args .s .now) (c .before .before .before .before .before .loop .i) (c .before .before .before .before .before .before .before .args .at) (view (c .before .before .before .before .before .before .before .args .st)) _ _ (c .before .before .before .name-at .ensures) (c .before .before .name-at2 .ensures),
+    )
 
 -- src/lib.rt:14:1
 returns : tie.Need-returns Inv-loop μ-loop

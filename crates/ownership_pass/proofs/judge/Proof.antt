@@ -67,28 +67,28 @@ room-fault-requires-2 c κs = search needs
 
 -- src/lib.rt:157:9
 copy-bytes-requires : tie.Need-copy-bytes-requires
-copy-bytes-requires c κs = 
+copy-bytes-requires c κs =
     let l = fits-of (c .before .before .before .before .before .before .before .before .before .before .before .before .before .before .before .before .walk-image .result .place) _ _ _ _ (c .before .before .before .before .before .room-fault .result) (c .before .before .before .before .before .room-fault .ensures) (λ z. omega (arith, z, c .before .before .before .before .if2 .left)) in
     let o = fits-of (c .before .before .before .before .before .before .before .before .before .before .before .before .before .before .before .before .walk-image .result .place) _ _ _ _ (c .before .before .before .room-fault2 .result) (c .before .before .before .room-fault2 .ensures) (λ z. omega (arith, z, c .before .before .if3 .taken)) in
     (omega arith, omega (arith, o .written), omega (arith, c .before .before .before .before .before .before .before .before .before .before .before .before .before .before .before .before .before .before .before .before .before .before .before .before .before .before .before .before .before .before .before .before .before .pre .1, c .before .before .before .before .before .before .before .before .before .before .before .before .before .before .before .before .walk-image .kept .1 .1 .1 .1 .1 .1 .1 .0), omega arith)
 
 -- src/lib.rt:158:9
 copy-numbers-requires : tie.Need-copy-numbers-requires
-copy-numbers-requires c κs = 
+copy-numbers-requires c κs =
     let l = fits-of (c .before .before .before .before .before .before .before .before .before .before .before .before .before .before .before .before .before .before .before .before .before .walk-image .result .place) _ _ _ _ (c .before .before .before .before .before .before .before .before .before .before .room-fault .result) (c .before .before .before .before .before .before .before .before .before .before .room-fault .ensures) (λ z. omega (arith, z, c .before .before .before .before .before .before .before .before .before .if2 .left)) in
     let o = fits-of (c .before .before .before .before .before .before .before .before .before .before .before .before .before .before .before .before .before .before .before .before .before .walk-image .result .place) _ _ _ _ (c .before .before .before .before .before .before .before .before .room-fault2 .result) (c .before .before .before .before .before .before .before .before .room-fault2 .ensures) (λ z. omega (arith, z, c .before .before .before .before .before .before .before .if3 .taken)) in
     (omega (arith, o .errors), omega (arith, l .errors))
 
 -- src/lib.rt:159:9
 copy-numbers-requires-2 : tie.Need-copy-numbers-requires-2
-copy-numbers-requires-2 c κs = 
+copy-numbers-requires-2 c κs =
     let l = fits-of (c .before .before .before .before .before .before .before .before .before .before .before .before .before .before .before .before .before .before .before .before .before .before .before .before .before .before .walk-image .result .place) _ _ _ _ (c .before .before .before .before .before .before .before .before .before .before .before .before .before .before .before .room-fault .result) (c .before .before .before .before .before .before .before .before .before .before .before .before .before .before .before .room-fault .ensures) (λ z. omega (arith, z, c .before .before .before .before .before .before .before .before .before .before .before .before .before .before .if2 .left)) in
     let o = fits-of (c .before .before .before .before .before .before .before .before .before .before .before .before .before .before .before .before .before .before .before .before .before .before .before .before .before .before .walk-image .result .place) _ _ _ _ (c .before .before .before .before .before .before .before .before .before .before .before .before .before .room-fault2 .result) (c .before .before .before .before .before .before .before .before .before .before .before .before .before .room-fault2 .ensures) (λ z. omega (arith, z, c .before .before .before .before .before .before .before .before .before .before .before .before .if3 .taken)) in
     (omega (arith, o .warnings), omega (arith, l .warnings))
 
 -- src/lib.rt:160:9
 copy-numbers-requires-3 : tie.Need-copy-numbers-requires-3
-copy-numbers-requires-3 c κs = 
+copy-numbers-requires-3 c κs =
     let l = fits-of (c .before .before .before .before .before .before .before .before .before .before .before .before .before .before .before .before .before .before .before .before .before .before .before .before .before .before .before .before .before .before .before .walk-image .result .place) _ _ _ _ (c .before .before .before .before .before .before .before .before .before .before .before .before .before .before .before .before .before .before .before .before .room-fault .result) (c .before .before .before .before .before .before .before .before .before .before .before .before .before .before .before .before .before .before .before .before .room-fault .ensures) (λ z. omega (arith, z, c .before .before .before .before .before .before .before .before .before .before .before .before .before .before .before .before .before .before .before .if2 .left)) in
     let o = fits-of (c .before .before .before .before .before .before .before .before .before .before .before .before .before .before .before .before .before .before .before .before .before .before .before .before .before .before .before .before .before .before .before .walk-image .result .place) _ _ _ _ (c .before .before .before .before .before .before .before .before .before .before .before .before .before .before .before .before .before .before .room-fault2 .result) (c .before .before .before .before .before .before .before .before .before .before .before .before .before .before .before .before .before .before .room-fault2 .ensures) (λ z. omega (arith, z, c .before .before .before .before .before .before .before .before .before .before .before .before .before .before .before .before .before .if3 .taken)) in
     (omega (arith, o .lefts), omega (arith, l .lefts))
