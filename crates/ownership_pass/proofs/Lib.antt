@@ -1,3 +1,4 @@
 pub mod Whole
 pub mod Rooms
 pub mod Readings
+pub mod Within
