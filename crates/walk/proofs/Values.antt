@@ -239,20 +239,3 @@ module _ (s : List ℕ) (left at : ℕ) (there : StmtThere s left at) where
 
     pub front-bounded : (n : ℕ) (r : Validated) → Bounded (h .first) n r → Bounded (frontAt s at .first) n r
     front-bounded n r e = subst (λ (f : Front). Bounded (f .first) n r) eh e
-
-    -- a scan that said yes leaves the stack and the errors as they were
-    pub quiet-evaluated : (T : Tables) (st : Stack) (q : Quiet) (old : List ℕ) (n : ℕ) → Calm T s (h .values) (h .first) (view st) q → q .ok ≡ true
-        → Evaluated T s (frontAt s at .values) (frontAt s at .first) (view st) old n old (record { stack = st; errors = n; at = q .at })
-    quiet-evaluated T st q old n e on =
-        let k = front-calm T (view st) q e in
-        record {
-          locals = λ es next g. sym (k .calm on es next g .0);
-          errors = λ es next g. stored-as (ap (entriesOf version1) (k .calm on es next g .1)) (none-stored old n);
-          end = λ es next g. k .calm on es next g .2;
-        }
-
-    pub quiet-bounded : (T : Tables) (st : Stack) (q : Quiet) (n : ℕ) → Sound st → Calm T s (h .values) (h .first) (view st) q → q .ok ≡ true
-        → Bounded (frontAt s at .first) n (record { stack = st; errors = n; at = q .at })
-    quiet-bounded T st q n sound e on =
-        let k = calm-ends T (view st) q (front-calm T (view st) q e) on in
-        record { sound = sound; most = let a = k .on in omega arith }

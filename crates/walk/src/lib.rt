@@ -483,12 +483,12 @@ fn transform_statements(
     let mut n = total;
     while 0 < n {
         n -= 1;
-        let a = &l.names;
-        let b = &l.types;
-        let c = &l.depths;
-        let d = &l.kinds;
-        let k = l.count;
-        let r = quiet_statement(s, ns, ts, xs, env, a, b, c, d, k, q, out, warns, lefts);
+        let ln = &l.names;
+        let lt = &l.types;
+        let ld = &l.depths;
+        let lk = &l.kinds;
+        let m = l.count;
+        let r = quiet_statement(s, ns, ts, xs, env, ln, lt, ld, lk, m, q, out, warns, lefts);
         q = r.place;
         if !r.done {
             let w = transform_statement(s, ns, ts, xs, env, q, l, out, errs, warns, lefts);
