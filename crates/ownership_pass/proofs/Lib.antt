@@ -2,3 +2,4 @@ pub mod Whole
 pub mod Rooms
 pub mod Readings
 pub mod Promises
+pub mod Within
