@@ -54,14 +54,18 @@ pub fn beside(runs: usize) {
     }
 }
 
-// Time at twice the size over the time.
+// Time at twice the size over the time, both in each run.
 fn twice(half: usize, locals: usize, runs: usize) {
-    let time = |bytes| {
-        let list: Vec<_> = (0..BODIES).map(|seed| times(&generated(bytes, locals, seed), runs)).collect();
-        [list.iter().map(|t| t.pass).sum::<f64>(), list.iter().map(|t| t.room).sum::<f64>()]
-    };
-    let (once, double) = (time(half), time(2 * half));
-    println!("{} bytes over {half}, {locals} locals: pass {:.2}, room {:.2}", 2 * half, double[0] / once[0], double[1] / once[1]);
+    let memory = |bytes| (0..BODIES).map(|seed| Memory::new(&generated(bytes, locals, seed))).collect::<Vec<_>>();
+    let (mut once, mut double) = (memory(half), memory(2 * half));
+    let (mut pass, mut room) = (vec![], vec![]);
+    for _ in 0..runs {
+        for (a, b) in once.iter_mut().zip(&mut double) {
+            pass.push(b.pass() / a.pass());
+            room.push(b.room() / a.room());
+        }
+    }
+    println!("{} bytes over {half}, {locals} locals: pass {:.2}, room {:.2}", 2 * half, median(pass), median(room));
 }
 
 fn row(bytes: usize, locals: usize, runs: usize) -> Vec<Times> {

@@ -63,6 +63,7 @@ pub fn image(seed: u64) -> Image {
 }
 
 /// Mostly short, for runs of millions.
+#[cfg(ours)]
 pub fn short(seed: u64) -> Image {
     let sizes = |random: &mut Random| match random.below(1000) {
         0..800 => random.between(1, 12),
