@@ -1,31 +1,67 @@
-// Reads one image from standard input and prints in decimals what the pass answers, as document 01 shows: the totals and a line for each
+// Reads one image from standard input and writes in decimals what the pass answers, as document 01 shows: the totals and a line for each
 // entry of the lists, or the fault.
 ghost use mathlib.Core.Path.{_≡_};
-ghost use Prim.Native.Nat.{_+_, _*_, _≤_, min};
+ghost use mathlib.Core.List.{List, [], _∷_, _++_};
+ghost use Prim.Native.Nat.{_+_, _-_, _*_, _≤_, _<_, min};
 ghost use lib.ListN.{length};
+ghost use lib.Seq.{slice};
+ghost use Rattle.writing.specs.Stored.{Stored};
+ghost use Rattle.ownership.specs.Text.{acceptedWord, refusedWord, spell, numbers, line, errorLine, pairLine, lines, Reports};
 use libc::STDIN_FILENO;
 use libc::STDOUT_FILENO;
 use ownership_pass::Outcome;
 use ownership_pass::Totals;
 
-fn print(text: &[u8]) {
-    io::write_all(STDOUT_FILENO, text);
+fn wide(x: u32) -> u64
+    ensures { λ r. ⌜ r ≡ x ⌝ }
+{
+    x as u64
 }
 
-fn print_number(n: usize) {
-    print(b" ");
-    io::print_decimal(STDOUT_FILENO, n as u64);
+// The decimal digits of a number of at most `more` + 1.
+fn put_digits(out: &mut [u8], at: usize, n: u64, more: usize) -> usize
+    requires { ⌜ at + more < 4294967296 ⌝ }
+    ensures { λ r. ⌜ Stored (now (out .entry)) at (spell more n) (now (out .exit)) r × (r ≤ at + more + 1) ⌝ }
+{
+    if more == 0 {
+        return writing::put(out, at, (48 + n % 10) as u8);
+    }
+    if n < 10 {
+        return writing::put(out, at, (48 + n) as u8);
+    }
+    let next = put_digits(out, at, n / 10, more - 1);
+    writing::put(out, next, (48 + n % 10) as u8)
+}
+
+// A blank and a number.
+fn put_number(out: &mut [u8], at: usize, n: u64) -> usize
+    requires { ⌜ at < 4294960000 ⌝ }
+    ensures { λ r. ⌜ Stored (now (out .entry)) at (32 ∷ spell 19 n) (now (out .exit)) r × (r ≤ at + 21) ⌝ }
+{
+    let next = writing::put(out, at, 32);
+    put_digits(out, next, n, 19)
 }
 
 // Some of a list's numbers.
-fn print_numbers(list: &[u32], from: usize, to: usize)
-    requires { ⌜ to ≤ length (now list) ⌝ }
+fn put_numbers(out: &mut [u8], at: usize, list: &[u32], from: usize, to: usize) -> usize
+    requires { ⌜ (at < 4294900000) × (from ≤ to) × (to ≤ length (now list)) × (to ≤ from + 12) ⌝ }
+    ensures { λ r. ⌜ Stored (now (out .entry)) at (numbers (slice from to (now (list .entry)))) (now (out .exit)) r × (r ≤ at + 21 * (to - from)) ⌝ }
 {
     let mut i = from;
+    let mut p = at;
     while i < to {
-        print_number(list[i] as usize);
+        p = put_number(out, p, wide(list[i]));
         i += 1;
     }
+    p
+}
+
+// A word or a line's end.
+fn put_text(out: &mut [u8], at: usize, text: &[u8]) -> usize
+    requires { ⌜ (at < 4294967296) × (length (now text) ≤ 16) ⌝ }
+    ensures { λ r. ⌜ Stored (now (out .entry)) at (now (text .entry)) (now (out .exit)) r × (r ≡ at + length (now (text .entry))) ⌝ }
+{
+    writing::copy_bytes(text, 0, text.len(), out, at)
 }
 
 // How many other places an error's entry shows: its count, of which it has room for 8.
@@ -35,68 +71,95 @@ fn others(count: u32) -> usize
     if count < 8 { count as usize } else { 8 }
 }
 
-// An error's kind, place and hint, and its other places without their count.
-fn print_error(errs: &[u32], at: usize)
-    requires { ⌜ at + 12 ≤ length (now errs) ⌝ }
+// An error's line: the entry without its count.
+fn put_error(out: &mut [u8], at: usize, errs: &[u32], entry: usize) -> usize
+    requires { ⌜ (at < 4294800000) × (entry + 12 ≤ length (now errs)) ⌝ }
+    ensures { λ r. ⌜ Stored (now (out .entry)) at (errorLine (now (errs .entry)) entry) (now (out .exit)) r × (r ≤ at + 240) ⌝ }
 {
-    let places = at + 4;
-    print(b"error");
-    print_numbers(errs, at, at + 3);
-    print_numbers(errs, places, places + others(errs[at + 3]));
-    print(b"\n");
+    let count = entry + 3;
+    let places = entry + 4;
+    let named = put_text(out, at, b"error");
+    let told = put_numbers(out, named, errs, entry, count);
+    let shown = put_numbers(out, told, errs, places, places + others(errs[count]));
+    put_text(out, shown, b"\n")
 }
 
-fn print_errors(errs: &[u32], many: usize)
-    requires { ⌜ 12 * many ≤ length (now errs) ⌝ }
+// The lines of the first errors.
+fn put_errors(out: &mut [u8], at: usize, errs: &[u32], many: usize) -> usize
+    requires { ⌜ (at < 1000000) × (many ≤ 256) × (12 * many ≤ length (now errs)) ⌝ }
+    ensures { λ r. ⌜ Stored (now (out .entry)) at (lines (errorLine (now (errs .entry))) 12 many 0) (now (out .exit)) r × (r ≤ at + 240 * many) ⌝ }
 {
-    let mut i = 0;
-    while i < many {
-        print_error(errs, 12 * i);
-        i += 1;
+    let mut left = many;
+    let mut entry = 0;
+    let mut p = at;
+    while 0 < left {
+        p = put_error(out, p, errs, entry);
+        entry += 12;
+        left -= 1;
     }
+    p
 }
 
-// A line of two numbers for each entry of a list.
-fn print_pairs(word: &[u8], list: &[u32], many: usize)
-    requires { ⌜ 2 * many ≤ length (now list) ⌝ }
+// A word and the two numbers of an entry.
+fn put_pair(out: &mut [u8], at: usize, word: &[u8], list: &[u32], entry: usize) -> usize
+    requires { ⌜ (at < 4294800000) × (length (now word) ≤ 8) × (entry + 2 ≤ length (now list)) ⌝ }
+    ensures { λ r. ⌜ Stored (now (out .entry)) at (pairLine (now (word .entry)) (now (list .entry)) entry) (now (out .exit)) r × (r ≤ at + 52) ⌝ }
 {
-    let mut i = 0;
-    while i < many {
-        print(word);
-        print_numbers(list, 2 * i, 2 * i + 2);
-        print(b"\n");
-        i += 1;
+    let named = put_text(out, at, word);
+    let told = put_numbers(out, named, list, entry, entry + 2);
+    put_text(out, told, b"\n")
+}
+
+// The lines of a list's first entries.
+fn put_pairs(out: &mut [u8], at: usize, word: &[u8], list: &[u32], many: usize) -> usize
+    requires { ⌜ (at < 1000000) × (many ≤ 256) × (length (now word) ≤ 8) × (2 * many ≤ length (now list)) ⌝ }
+    ensures { λ r. ⌜ Stored (now (out .entry)) at (lines (pairLine (now (word .entry)) (now (list .entry))) 2 many 0) (now (out .exit)) r × (r ≤ at + 52 * many) ⌝ }
+{
+    let mut left = many;
+    let mut entry = 0;
+    let mut p = at;
+    while 0 < left {
+        p = put_pair(out, p, word, list, entry);
+        entry += 2;
+        left -= 1;
     }
+    p
 }
 
-fn print_totals(t: Totals) {
-    print(b"accepted");
-    print_number(t.written);
-    print_number(t.errors);
-    print_number(t.warnings);
-    print_number(t.lefts);
-    print(b"\n");
+fn put_totals(out: &mut [u8], t: Totals) -> usize
+    ensures { λ r. ⌜ Stored (now (out .entry)) 0 (line acceptedWord (t .written ∷ t .errors ∷ t .warnings ∷ t .lefts ∷ [])) (now (out .exit)) r × (r ≤ 100) ⌝ }
+{
+    let named = put_text(out, 0, b"accepted");
+    let written = put_number(out, named, t.written as u64);
+    let errors = put_number(out, written, t.errors as u64);
+    let warnings = put_number(out, errors, t.warnings as u64);
+    let lefts = put_number(out, warnings, t.lefts as u64);
+    put_text(out, lefts, b"\n")
 }
 
-fn print_refused(fault: u8) {
-    print(b"refused");
-    print_number(fault as usize);
-    print(b"\n");
+fn put_refused(out: &mut [u8], fault: u8) -> usize
+    ensures { λ r. ⌜ Stored (now (out .entry)) 0 (line refusedWord (fault ∷ [])) (now (out .exit)) r × (r ≤ 100) ⌝ }
+{
+    let named = put_text(out, 0, b"refused");
+    let told = put_number(out, named, fault as u64);
+    put_text(out, told, b"\n")
 }
 
-// What the pass answers to an image, with 65,536 bytes and 256 entries a list lent.
-fn report(s: &[u8]) {
-    let mut out = [0u8; 65536];
+// The text of what the pass answers to an image, with 65,536 bytes and 256 entries a list lent.
+fn report(s: &[u8], out: &mut [u8]) -> usize
+    ensures { λ r. ⌜ Reports (now (s .entry)) (now (out .entry)) (now (out .exit)) r × (r ≤ 131072) ⌝ }
+{
+    let mut bytes = [0u8; 65536];
     let mut errs = [0u32; 3072];
     let mut warns = [0u32; 512];
     let mut lefts = [0u32; 512];
-    match ownership_pass::pass(s, &mut out, &mut errs, &mut warns, &mut lefts) {
-        Outcome::Refused(fault) => print_refused(fault),
+    match ownership_pass::pass(s, &mut bytes, &mut errs, &mut warns, &mut lefts) {
+        Outcome::Refused(fault) => put_refused(out, fault),
         Outcome::Accepted(t) => {
-            print_totals(t);
-            print_errors(&errs, t.errors);
-            print_pairs(b"warning", &warns, t.warnings);
-            print_pairs(b"left", &lefts, t.lefts);
+            let totals = put_totals(out, t);
+            let errors = put_errors(out, totals, &errs, t.errors);
+            let warnings = put_pairs(out, errors, b"warning", &warns, t.warnings);
+            put_pairs(out, warnings, b"left", &lefts, t.lefts)
         }
     }
 }
@@ -104,6 +167,8 @@ fn report(s: &[u8]) {
 // A byte more than any image has, so that longer input is refused.
 fn main() {
     let mut image = [0u8; 65537];
+    let mut text = [0u8; 131072];
     let n = io::read_full(STDIN_FILENO, &mut image);
-    report(&image[..n]);
+    let end = report(&image[..n], &mut text);
+    io::write_all(STDOUT_FILENO, &text[..end]);
 }

@@ -1,91 +1,100 @@
 use native.Mathlib.Omega.{arith}
 use Rattle.ownership_pass.proofs.Within.{within}
+use Rattle.ownership.proofs.Reported.{told-refused, told-accepted}
 use borrow.Author.Needs.{needs}
 use Rattle.ownership.proofs.report.Statement.{statement}
 use Rattle.ownership.proofs.report.Tie as tie
 use Rattle.ownership.proofs.report.Reads as reads
 use Rattle.ownership.proofs.report.Lts as lts
-use Rattle.ownership.proofs.print_errors.Reads as print-errors-reads
-use Rattle.ownership.proofs.print_pairs.Reads as print-pairs-reads
-use Rattle.ownership.proofs.print_refused.Reads as print-refused-reads
-use Rattle.ownership.proofs.print_totals.Reads as print-totals-reads
+use Rattle.ownership.proofs.put_errors.Reads as put-errors-reads
+use Rattle.ownership.proofs.put_pairs.Reads as put-pairs-reads
+use Rattle.ownership.proofs.put_refused.Reads as put-refused-reads
+use Rattle.ownership.proofs.put_totals.Reads as put-totals-reads
 use Rattle.ownership_pass.proofs.pass.Reads as pass-reads
 
--- src/main.rt:93:35
+-- src/main.rt:156:35
 slice-aggregate-pass : tie.Need-slice-aggregate-pass
 slice-aggregate-pass c = search needs
 
--- src/main.rt:93:45
+-- src/main.rt:156:47
 slice-aggregate-pass-2 : tie.Need-slice-aggregate-pass-2
 slice-aggregate-pass-2 c = search needs
 
--- src/main.rt:93:56
+-- src/main.rt:156:58
 slice-aggregate-pass-3 : tie.Need-slice-aggregate-pass-3
 slice-aggregate-pass-3 c = search needs
 
--- src/main.rt:93:68
+-- src/main.rt:156:70
 slice-aggregate-pass-4 : tie.Need-slice-aggregate-pass-4
 slice-aggregate-pass-4 c = search needs
 
--- src/main.rt:93:11
+-- src/main.rt:156:11
 pass-requires : tie.Need-pass-requires
 pass-requires c κs = search needs
 
--- src/main.rt:94:26
+-- src/main.rt:157:26
 enum-known-fault : tie.Need-enum-known-fault
 enum-known-fault c = search needs
 
--- src/main.rt:94:36
-print-refused-requires : tie.Need-print-refused-requires
-print-refused-requires c κs = search needs
+-- src/main.rt:157:36
+put-refused-requires : tie.Need-put-refused-requires
+put-refused-requires c κs = search needs
 
--- src/main.rt:95:27
+-- src/main.rt:158:27
 enum-known-t : tie.Need-enum-known-t
 enum-known-t c = search needs
 
--- src/main.rt:96:13
-print-totals-requires : tie.Need-print-totals-requires
-print-totals-requires c κs = search needs
+-- src/main.rt:159:17
+put-totals-requires : tie.Need-put-totals-requires
+put-totals-requires c κs = search needs
 
--- src/main.rt:97:26
-slice-aggregate-print-errors : tie.Need-slice-aggregate-print-errors
-slice-aggregate-print-errors c = search needs
+-- src/main.rt:160:50
+slice-aggregate-put-errors : tie.Need-slice-aggregate-put-errors
+slice-aggregate-put-errors c = search needs
 
--- src/main.rt:97:13
-print-errors-requires : tie.Need-print-errors-requires
-print-errors-requires c κs = let w = within _ _ _ (c .before .before .before .before .before .before .before .before .before .pass .ensures) (c .before .before .before .t .given .1) in omega (arith, w .errors)
+-- src/main.rt:160:17
+put-errors-requires : tie.Need-put-errors-requires
+put-errors-requires c κs = let w = within _ _ _ (c .before .before .before .before .before .before .before .before .before .before .before .before .before .pass .ensures) (c .before .before .before .before .before .before .before .t .given .1) in (omega (arith, c .before .before .before .before .put-totals .ensures .1), omega (arith, w .errors), omega (arith, w .errors))
 
--- src/main.rt:98:25
-slice-aggregate-print-pairs : tie.Need-slice-aggregate-print-pairs
-slice-aggregate-print-pairs c = search needs
+-- src/main.rt:161:51
+slice-aggregate-put-pairs : tie.Need-slice-aggregate-put-pairs
+slice-aggregate-put-pairs c = search needs
 
--- src/main.rt:98:37
-slice-aggregate-print-pairs-2 : tie.Need-slice-aggregate-print-pairs-2
-slice-aggregate-print-pairs-2 c = search needs
+-- src/main.rt:161:63
+slice-aggregate-put-pairs-2 : tie.Need-slice-aggregate-put-pairs-2
+slice-aggregate-put-pairs-2 c = search needs
 
--- src/main.rt:98:13
-print-pairs-requires : tie.Need-print-pairs-requires
-print-pairs-requires c κs = let w = within _ _ _ (c .before .before .before .before .before .before .before .before .before .before .before .before .pass .ensures) (c .before .before .before .before .before .before .t .given .1) in omega (arith, w .warnings)
+-- src/main.rt:161:17
+put-pairs-requires : tie.Need-put-pairs-requires
+put-pairs-requires c κs = let w = within _ _ _ (c .before .before .before .before .before .before .before .before .before .before .before .before .before .before .before .before .before .before .before .pass .ensures) (c .before .before .before .before .before .before .before .before .before .before .before .before .before .t .given .1) in (omega (arith, w .errors, c .before .before .before .before .before .before .before .before .before .before .put-totals .ensures .1, c .before .before .before .before .before .put-errors .ensures .1), omega (arith, w .warnings), omega arith, omega (arith, w .warnings))
 
--- src/main.rt:99:25
-slice-aggregate-print-pairs-3 : tie.Need-slice-aggregate-print-pairs-3
-slice-aggregate-print-pairs-3 c = search needs
+-- src/main.rt:162:38
+slice-aggregate-put-pairs-3 : tie.Need-slice-aggregate-put-pairs-3
+slice-aggregate-put-pairs-3 c = search needs
 
--- src/main.rt:99:34
-slice-aggregate-print-pairs-4 : tie.Need-slice-aggregate-print-pairs-4
-slice-aggregate-print-pairs-4 c = search needs
+-- src/main.rt:162:47
+slice-aggregate-put-pairs-4 : tie.Need-slice-aggregate-put-pairs-4
+slice-aggregate-put-pairs-4 c = search needs
 
--- src/main.rt:99:13
-print-pairs-requires-2 : tie.Need-print-pairs-requires-2
-print-pairs-requires-2 c κs = let w = within _ _ _ (c .before .before .before .before .before .before .before .before .before .before .before .before .before .before .before .pass .ensures) (c .before .before .before .before .before .before .before .before .before .t .given .1) in omega (arith, w .lefts)
+-- src/main.rt:162:13
+put-pairs-requires-2 : tie.Need-put-pairs-requires-2
+put-pairs-requires-2 c κs = let w = within _ _ _ (c .before .before .before .before .before .before .before .before .before .before .before .before .before .before .before .before .before .before .before .before .before .before .before .before .before .pass .ensures) (c .before .before .before .before .before .before .before .before .before .before .before .before .before .before .before .before .before .before .before .t .given .1) in (omega (arith, w .errors, w .warnings, c .before .before .before .before .before .before .before .before .before .before .before .before .before .before .before .before .put-totals .ensures .1, c .before .before .before .before .before .before .before .before .before .before .before .put-errors .ensures .1, c .before .before .before .before .before .put-pairs .ensures .1), omega (arith, w .lefts), omega arith, omega (arith, w .lefts))
 
--- src/main.rt:88:1
+-- src/main.rt:149:1
+same-length : tie.Need-same-length
+same-length c = search needs
+
+-- src/main.rt:149:1
 returns : tie.Need-returns
-returns c = search needs
+returns c = (told-refused _ _ (record { bytes = search needs; errors = search needs; warnings = search needs; lefts = search needs }) (c .before .before .before .before .before .before .before .before .before .before .before .pass .ensures) (c .before .before .before .before .before .fault .given .1) (c .before .before .put-refused .ensures .0), omega (arith, c .before .before .put-refused .ensures .1))
 
--- src/main.rt:88:1
+-- src/main.rt:149:1
+same-length-2 : tie.Need-same-length-2
+same-length-2 c = search needs
+
+-- src/main.rt:149:1
 returns-2 : tie.Need-returns-2
-returns-2 c = search needs
+returns-2 c = let w = within _ _ _ (c .before .before .before .before .before .before .before .before .before .before .before .before .before .before .before .before .before .before .before .before .before .before .before .before .before .before .before .before .pass .ensures) (c .before .before .before .before .before .before .before .before .before .before .before .before .before .before .before .before .before .before .before .before .before .before .t .given .1) in (told-accepted _ _ (record { bytes = search needs; errors = search needs; warnings = search needs; lefts = search needs }) (c .before .before .before .before .before .before .before .before .before .before .before .before .before .before .before .before .before .before .before .before .before .before .before .before .before .before .before .before .pass .ensures) (c .before .before .before .before .before .before .before .before .before .before .before .before .before .before .before .before .before .before .before .before .before .before .t .given .1) (c .before .before .before .before .before .before .before .before .before .before .before .before .before .before .before .before .before .before .before .put-totals .ensures .0) (c .before .before .before .before .before .before .before .before .before .before .before .before .before .before .put-errors .ensures .0) (c .before .before .before .before .before .before .before .before .put-pairs .ensures .0) (c .before .before .put-pairs2 .ensures .0), omega (arith, w .errors, w .warnings, w .lefts, c .before .before .before .before .before .before .before .before .before .before .before .before .before .before .before .before .before .before .before .put-totals .ensures .1, c .before .before .before .before .before .before .before .before .before .before .before .before .before .before .put-errors .ensures .1, c .before .before .before .before .before .before .before .before .put-pairs .ensures .1, c .before .before .put-pairs2 .ensures .1))
 
 pub report-spec : {M : Type 1} → statement M
 report-spec =
@@ -97,16 +106,18 @@ report-spec =
     slice-aggregate-pass-4
     pass-requires
     enum-known-fault
-    print-refused-requires
+    put-refused-requires
     enum-known-t
-    print-totals-requires
-    slice-aggregate-print-errors
-    print-errors-requires
-    slice-aggregate-print-pairs
-    slice-aggregate-print-pairs-2
-    print-pairs-requires
-    slice-aggregate-print-pairs-3
-    slice-aggregate-print-pairs-4
-    print-pairs-requires-2
+    put-totals-requires
+    slice-aggregate-put-errors
+    put-errors-requires
+    slice-aggregate-put-pairs
+    slice-aggregate-put-pairs-2
+    put-pairs-requires
+    slice-aggregate-put-pairs-3
+    slice-aggregate-put-pairs-4
+    put-pairs-requires-2
+    same-length
     returns
+    same-length-2
     returns-2)

@@ -1,0 +1,26 @@
+-- Document 01's example as text, by computation; and the ends of what a number's digits are asked for.
+use mathlib.Core.Path.{_≡_, refl}
+use mathlib.Core.List.{List, [], _∷_}
+use Prim.Native.Nat.{ℕ}
+use Rattle.walk.specs.Walks.{memory}
+use Rattle.ownership_pass.specs.declared.Outcome.the-variants.{Accepted, Refused}
+use Rattle.ownership.specs.Text.{spell, numbers, lines, textOf}
+
+-- `accepted 81 1 0 0`, `error 1 15 0 13`
+pub example-text : textOf (Accepted (record { written = 81; errors = 1; warnings = 0; lefts = 0 }))
+    (memory [] (1 ∷ 15 ∷ 0 ∷ 1 ∷ 13 ∷ 0 ∷ 0 ∷ 0 ∷ 0 ∷ 0 ∷ 0 ∷ 0 ∷ []) [] [])
+    ≡ 97 ∷ 99 ∷ 99 ∷ 101 ∷ 112 ∷ 116 ∷ 101 ∷ 100 ∷ 32 ∷ 56 ∷ 49 ∷ 32 ∷ 49 ∷ 32 ∷ 48 ∷ 32 ∷ 48 ∷ 10
+    ∷ 101 ∷ 114 ∷ 114 ∷ 111 ∷ 114 ∷ 32 ∷ 49 ∷ 32 ∷ 49 ∷ 53 ∷ 32 ∷ 48 ∷ 32 ∷ 49 ∷ 51 ∷ 10 ∷ []
+unfolding spell numbers lines
+example-text = refl
+
+-- `refused 15`
+pub refused-text : textOf (Refused 15) (memory [] [] [] []) ≡ 114 ∷ 101 ∷ 102 ∷ 117 ∷ 115 ∷ 101 ∷ 100 ∷ 32 ∷ 49 ∷ 53 ∷ 10 ∷ []
+unfolding spell numbers
+refused-text = refl
+
+-- the largest number of 64 bits has all its 20 digits
+pub largest : spell 19 18446744073709551615
+    ≡ 49 ∷ 56 ∷ 52 ∷ 52 ∷ 54 ∷ 55 ∷ 52 ∷ 52 ∷ 48 ∷ 55 ∷ 51 ∷ 55 ∷ 48 ∷ 57 ∷ 53 ∷ 53 ∷ 49 ∷ 54 ∷ 49 ∷ 53 ∷ []
+unfolding spell
+largest = refl

@@ -1,0 +1,49 @@
+use native.Mathlib.Omega.{arith}
+use Rattle.writing.proofs.Stores.{both-stored}
+use borrow.Author.Needs.{needs}
+use Rattle.ownership.proofs.put_pair.Statement.{statement}
+use Rattle.ownership.proofs.put_pair.Tie as tie
+use Rattle.ownership.proofs.put_pair.Reads as reads
+use Rattle.ownership.proofs.put_pair.Lts as lts
+use Rattle.ownership.proofs.put_numbers.Reads as put-numbers-reads
+use Rattle.ownership.proofs.put_text.Reads as put-text-reads
+
+-- src/main.rt:108:9
+put-text-requires : tie.Need-put-text-requires
+put-text-requires c κs = search needs
+
+-- src/main.rt:109:53
+add-put-numbers : tie.Need-add-put-numbers
+add-put-numbers c = search needs
+
+-- src/main.rt:109:9
+put-numbers-requires : tie.Need-put-numbers-requires
+put-numbers-requires c κs = search needs
+
+-- src/main.rt:110:25
+slice-aggregate-put-text : tie.Need-slice-aggregate-put-text
+slice-aggregate-put-text c = search needs
+
+-- src/main.rt:110:5
+put-text-requires-2 : tie.Need-put-text-requires-2
+put-text-requires-2 c κs = search needs
+
+-- src/main.rt:104:1
+same-length : tie.Need-same-length
+same-length c = search needs
+
+-- src/main.rt:104:1
+returns : tie.Need-returns
+returns c = (both-stored (c .before .before .before .before .before .before .before .before .before .before .before .put-text .ensures .0) (both-stored (c .before .before .before .before .before .before .before .put-numbers .ensures .0) (c .before .before .put-text2 .ensures .0)), omega (arith, c .before .before .before .before .before .before .before .before .before .before .before .put-text .ensures .1, c .before .before .before .before .before .before .before .put-numbers .ensures .1, c .before .before .put-text2 .ensures .1))
+
+pub put-pair-spec : {M : Type 1} → statement M
+put-pair-spec =
+    tie.close
+    (tie.spec
+    put-text-requires
+    add-put-numbers
+    put-numbers-requires
+    slice-aggregate-put-text
+    put-text-requires-2
+    same-length
+    returns)
