@@ -1,6 +1,6 @@
-/* Ownership of values in one Atlas77 body: the entries of libownership_pass.a (document 01).
+/* Ownership of values in one Atlas77 body: the entries of libownership_pass.a and liblent.a (document 01).
  *
- * Both answer 0, accepted, or the number of the first fault:
+ * The first two answer 0, accepted, or the number of the first fault:
  *    1  under 5 bytes, over 65,536, or wrong length    2  version not 1
  *    3  names      4  types      5  structs      6  globals      7  entry: a rule broken, or bytes run out
  *    8  body: unknown byte, number outside its table, a Delete's type not 0, or bytes run out
@@ -44,6 +44,16 @@ uint32_t ownership_pass(const uint8_t *image, size_t image_len,
  * image_len + 21 * (statements in all blocks + 1) * (registrations + 1), a registration being a Let, a Const, a parameter or `this`.
  * Faults 1 to 13. */
 uint32_t ownership_room(const uint8_t *image, size_t image_len, uint64_t *room);
+
+/* An error as a record, of its 12 numbers: of the places, the first count. */
+struct ownership_report {
+    uint32_t kind, place, hint, count, places[8];
+};
+
+/* Turns the numbers of so many errors, as ownership_pass wrote them, into records: of liblent.a (rt staticlib lent). Answers 0, or 14
+ * with nothing changed if fewer than count records or fewer than 12 * count numbers are lent. Records past count are unchanged. */
+uint32_t ownership_reports(const uint32_t *numbers, size_t numbers_len, size_t count,
+                           struct ownership_report *reports, size_t reports_len);
 
 #ifdef __cplusplus
 }
