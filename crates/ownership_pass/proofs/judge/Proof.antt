@@ -19,19 +19,19 @@ walk-image-requires c κs = search needs
 
 -- src/lib.rt:149:9
 same-length : tie.Need-same-length
-same-length c = c .before .before .before .before .before .before .before .before .before .walk-image .kept .1 .1 .1 .1 .1 .1 .1 .0
+same-length c = search needs
 
 -- src/lib.rt:149:9
 same-length-2 : tie.Need-same-length-2
-same-length-2 c = c .before .before .before .before .before .before .before .before .before .walk-image .kept .1 .1 .1 .1 .1 .1 .1 .1 .0
+same-length-2 c = search needs
 
 -- src/lib.rt:149:9
 same-length-3 : tie.Need-same-length-3
-same-length-3 c = c .before .before .before .before .before .before .before .before .before .walk-image .kept .1 .1 .1 .1 .1 .1 .1 .1 .1 .0
+same-length-3 c = search needs
 
 -- src/lib.rt:149:9
 same-length-4 : tie.Need-same-length-4
-same-length-4 c = c .before .before .before .before .before .before .before .before .before .walk-image .kept .1 .1 .1 .1 .1 .1 .1 .1 .1 .1 .0
+same-length-4 c = search needs
 
 -- src/lib.rt:149:9
 returns : tie.Need-returns
@@ -43,19 +43,19 @@ room-fault-requires c κs = search needs
 
 -- src/lib.rt:154:9
 same-length-5 : tie.Need-same-length-5
-same-length-5 c = c .before .before .before .before .before .before .before .before .before .before .before .before .walk-image .kept .1 .1 .1 .1 .1 .1 .1 .0
+same-length-5 c = search needs
 
 -- src/lib.rt:154:9
 same-length-6 : tie.Need-same-length-6
-same-length-6 c = c .before .before .before .before .before .before .before .before .before .before .before .before .walk-image .kept .1 .1 .1 .1 .1 .1 .1 .1 .0
+same-length-6 c = search needs
 
 -- src/lib.rt:154:9
 same-length-7 : tie.Need-same-length-7
-same-length-7 c = c .before .before .before .before .before .before .before .before .before .before .before .before .walk-image .kept .1 .1 .1 .1 .1 .1 .1 .1 .1 .0
+same-length-7 c = search needs
 
 -- src/lib.rt:154:9
 same-length-8 : tie.Need-same-length-8
-same-length-8 c = c .before .before .before .before .before .before .before .before .before .before .before .before .walk-image .kept .1 .1 .1 .1 .1 .1 .1 .1 .1 .1 .0
+same-length-8 c = search needs
 
 -- src/lib.rt:154:9
 returns-2 : tie.Need-returns-2
@@ -103,31 +103,31 @@ same-length-9 c = c .before .before .before .before .before .before .before .bef
 
 -- src/lib.rt:161:9
 same-length-10 : tie.Need-same-length-10
-same-length-10 c = c .before .before .before .before .before .before .before .before .before .before .before .before .before .before .before .before .before .before .before .before .before .before .before .before .before .before .before .before .before .before .before .before .before .before .before .walk-image .kept .1 .1 .1 .1 .1 .1 .1 .1 .0
+same-length-10 c = search needs
 
 -- src/lib.rt:161:9
 same-length-11 : tie.Need-same-length-11
-same-length-11 c = c .before .before .before .before .before .before .before .before .before .before .before .before .before .before .before .before .before .before .before .before .before .before .before .before .before .before .before .before .before .before .before .before .before .before .before .walk-image .kept .1 .1 .1 .1 .1 .1 .1 .1 .1 .0
+same-length-11 c = search needs
 
 -- src/lib.rt:161:9
 same-length-12 : tie.Need-same-length-12
-same-length-12 c = c .before .before .before .before .before .before .before .before .before .before .before .before .before .before .before .before .before .before .before .before .before .before .before .before .before .before .before .before .before .before .before .before .before .before .before .walk-image .kept .1 .1 .1 .1 .1 .1 .1 .1 .1 .1 .0
+same-length-12 c = search needs
 
 -- src/lib.rt:161:9
 same-length-13 : tie.Need-same-length-13
-same-length-13 c = c .before .before .before .before .before .before .before .before .before .before .before .before .before .before .before .before .before .before .copy-bytes .kept .1 .1 .1 .0
+same-length-13 c = search needs
 
 -- src/lib.rt:161:9
 same-length-14 : tie.Need-same-length-14
-same-length-14 c = c .before .before .before .before .before .before .before .before .before .before .before .before .before .copy-numbers .kept .1 .1 .0
+same-length-14 c = search needs
 
 -- src/lib.rt:161:9
 same-length-15 : tie.Need-same-length-15
-same-length-15 c = c .before .before .before .before .before .before .before .before .copy-numbers2 .kept .1 .1 .0
+same-length-15 c = search needs
 
 -- src/lib.rt:161:9
 same-length-16 : tie.Need-same-length-16
-same-length-16 c = c .before .before .before .copy-numbers3 .kept .1 .1 .0
+same-length-16 c = search needs
 
 -- src/lib.rt:161:9
 returns-3 : tie.Need-returns-3
@@ -159,19 +159,19 @@ same-length-20 c = c .before .before .before .before .before .before .before .be
 
 -- src/lib.rt:126:1
 same-length-21 : tie.Need-same-length-21
-same-length-21 c = c .before .before .before .before .before .before .before .before .before .walk-image2 .kept .1 .1 .1 .1 .1 .1 .1 .0
+same-length-21 c = search needs
 
 -- src/lib.rt:126:1
 same-length-22 : tie.Need-same-length-22
-same-length-22 c = c .before .before .before .before .before .before .before .before .before .walk-image2 .kept .1 .1 .1 .1 .1 .1 .1 .1 .0
+same-length-22 c = search needs
 
 -- src/lib.rt:126:1
 same-length-23 : tie.Need-same-length-23
-same-length-23 c = c .before .before .before .before .before .before .before .before .before .walk-image2 .kept .1 .1 .1 .1 .1 .1 .1 .1 .1 .0
+same-length-23 c = search needs
 
 -- src/lib.rt:126:1
 same-length-24 : tie.Need-same-length-24
-same-length-24 c = c .before .before .before .before .before .before .before .before .before .walk-image2 .kept .1 .1 .1 .1 .1 .1 .1 .1 .1 .1 .0
+same-length-24 c = search needs
 
 -- src/lib.rt:126:1
 returns-4 : tie.Need-returns-4
