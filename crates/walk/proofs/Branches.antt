@@ -26,20 +26,10 @@ use Rattle.scope.specs.View.{view}
 use Rattle.steps.specs.Own.{numberOf, Own, byte, both, blockOwn, blocksOwn, blocksFault, blocksAfter}
 use Rattle.steps.proofs.Faults.{Real, real-none, real-walk, real-wide}
 use Rattle.statements.specs.declared.Place.{Place}
-use Rattle.walk.specs.declared.Walk.{Walk}
-use Rattle.walk.specs.Walks.{Memory, Wrote, BlockDone, BlocksDone, BlocksWalk, ElseDone, Merges}
-use Rattle.walk.proofs.Wrotes.{wrote-both}
-
--- where a block ends
-pub block-end : (s : List ℕ) → Bytes s → (t : Reading) (left at : ℕ) (b : Block) (next : ℕ) → blockAt t s left at ≡ ok b next → next ≡ at + (6 + codeBytes (b .code))
-unfolding encodeBlock
-block-end s small t left at b next e =
-    let w = block-written s small t left at b next e .end in
-    let f = four-length (b .span) in
-    let u = two-length (size (b .code)) in
-    let l = length-append (fourBytes (b .span)) (twoBytes (size (b .code)) ++ encodeCode (b .code)) in
-    let k = length-append (twoBytes (size (b .code))) (encodeCode (b .code)) in
-    omega arith
+use Rattle.fronts.specs.declared.Walk.{Walk}
+use Rattle.fronts.specs.Walks.{Memory, Wrote, BlockDone, BlocksDone, BlocksWalk, ElseDone}
+use Rattle.ends.specs.Ends.{Merges}
+use Rattle.fronts.proofs.Wrotes.{wrote-both}
 
 and-true : (a : Bool) → (a && true) ≡ a
 and-true true = refl
@@ -60,14 +50,6 @@ else-left none y e = refl
 else-left (some n) y e = e
 
 module _ (T : Tables) (s : List ℕ) (small : Bytes s) (t : Reading) (left d : ℕ) (σ : Scope Status) (p : Place) (m : Memory) where
-  -- a Block statement
-  pub block-blocks : (b : Block) (r : Walk) (m′ : Memory) (next : ℕ) → (r .fault ≡ numberOf (walkFault version1 T (b .code) (suc d) σ))
-      × (walkFault version1 T (b .code) (suc d) σ ≡ none → BlockDone T b (suc d) σ p m r m′ next) → (c : Tree) → BlocksWalk T (block (b .span) (b .code) c) d σ p m r m′ next
-  block-blocks b r m′ next h c = record {
-    fault = h .0;
-    done = λ e. let g = h .1 e in record { wrote = g .wrote; inserted = g .inserted; last = g .last; at = g .at; locals = g .locals };
-  }
-
   -- a fault of the first block is that of the statement
   pub first-fault : (c : Tree) (b : Block) (y : Option ℕ) → blocksFault T c d σ ≡ orElse (walkFault version1 T (b .code) (suc d) σ) y
       → (r : Walk) (m′ : Memory) (next : ℕ) → r .fault ≡ numberOf (walkFault version1 T (b .code) (suc d) σ) → 0 < r .fault → BlocksWalk T c d σ p m r m′ next

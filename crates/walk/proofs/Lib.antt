@@ -1,14 +1,3 @@
-pub mod Wrotes
-pub mod Leads
 pub mod Blocks
-pub mod Branches
-pub mod Fronts
-pub mod Turns
 pub mod Heads
-pub mod Ends
-pub mod Changes
-pub mod Merging
-pub mod Values
-pub mod Quieter
 pub mod Ifs
-pub mod Acted

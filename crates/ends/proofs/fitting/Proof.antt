@@ -1,0 +1,17 @@
+use mathlib.Core.Path.{refl}
+use borrow.Author.Needs.{needs}
+use Rattle.ends.proofs.fitting.Statement.{statement}
+use Rattle.ends.proofs.fitting.Tie as tie
+use Rattle.ends.proofs.fitting.Reads as reads
+use Rattle.ends.proofs.fitting.Lts as lts
+
+-- src/lib.rt:577:9
+returns : tie.Need-returns
+returns c = rw (c .if1 .taken) refl
+
+-- src/lib.rt:573:1
+returns-2 : tie.Need-returns-2
+returns-2 c = search needs
+
+pub fitting-spec : {M : Type 1} → statement M
+fitting-spec = tie.close (tie.spec returns returns-2)
