@@ -1,6 +1,6 @@
 -- The turns of the loop over statements.
 -- Assumes nothing.
-use Prim.Native.Nat.{ℕ, suc, _+_, _-_, _≤_, _<_}
+use Prim.Native.Nat.{ℕ, zero, suc, _+_, _-_, _≤_, _<_}
 use native.Mathlib.Omega.{arith}
 use mathlib.Core.Path.{_≡_, refl, sym, ap, _∙_, subst}
 use mathlib.Core.Bool.{Bool, true, false, not}
@@ -51,6 +51,12 @@ module _ (T : Tables) (s : List ℕ) (small : Bytes s) (left d total : ℕ) (σ�
         let l = g (h .t) (h .deep) (h .c) (h .end) (h .read) in
         let k = next-of T s small (h .t) left d total (h .c) σ₀ p₀ m₀ (h .end) n σ p m lt l in
         record { t = h .t; deep = h .deep; x = k .x; next = k .next; read = k .read }
+
+    -- and the statements left
+    pub all-rest : StmtsThere s left total (p₀ .at) → StmtsThere s left n (p .at)
+    all-rest h =
+        let l = g (h .t) (h .deep) (h .c) (h .end) (h .read) in
+        record { t = h .t; deep = h .deep; c = l .c; end = h .end; read = l .read }
 
     pub all-quiet : 0 < n → (r : Quietly) (m′ : Memory) → r .done ≡ true → QuietWalks T s left d σ p m r m′ → LeadsAll T s left d total σ₀ p₀ m₀ (n - 1) σ (r .place) m′
     all-quiet lt r m′ did w t deep c end e =
@@ -159,6 +165,43 @@ module _ (s : List ℕ) (left total : ℕ) (p₀ : Place) where
         there = λ h. f .there has;
         fewer = λ h. omega arith;
       })
+
+  -- from the blocks that were reached on to others
+  pub safe-on : (w v : Reached) (q : Place) → 0 < w .tag → ReachSafe s left total p₀ w → (Grows s p₀ (w .place) → Grows s p₀ q) → ((x : Place) → Grows s p₀ q → Grows s q x → Grows s p₀ x)
+      → ReachSafe s left (w .left) q v → ReachSafe s left total p₀ v
+  safe-on w v q some-tag a on then b = record {
+    grows = λ z. then (v .place) (on (a .grows (a .clear some-tag))) (b .grows z);
+    framed = b .framed;
+    clear = b .clear;
+    there = b .there;
+    fewer = λ h. let l = a .fewer some-tag in let k = b .fewer h in omega arith;
+  }
+
+-- the turns that are left of the loop over blocks, by the tag and the statements left: fewer behind each
+pub turnsOf : ℕ → ℕ → ℕ
+turnsOf zero left = 0
+turnsOf (suc tag) left = suc left
+
+abbrev pub turns : Reached → ℕ
+turns w = turnsOf (w .tag) (w .left)
+
+pub fewer-turns : (w v : Reached) → 0 < w .tag → (0 < v .tag → v .left < w .left) → turns v < turns w
+unfolding turnsOf
+fewer-turns w v h f = go (w .tag) (v .tag) h f
+  where
+    go : (a b : ℕ) → 0 < a → (0 < b → v .left < w .left) → turnsOf b (v .left) < turnsOf a (w .left)
+    go zero b h f = absurd (omega arith)
+    go (suc a) zero h f = let k : 0 < suc (w .left) = omega arith in k
+    go (suc a) (suc b) h f = let l = f (omega arith) in let k : suc (v .left) < suc (w .left) = omega arith in k
+
+-- the walk of all statements, where no blocks were reached
+pub reach-over : (T : Tables) (s : List ℕ) (left d total : ℕ) (σ₀ : Scope Status) (p₀ : Place) (m₀ : Memory) (r : Reached) (m : Memory) → Reaches T s left d total σ₀ p₀ m₀ r m → r .tag ≡ 0
+    → (w : Walk) → w ≡ record { fault = r .fault; sure = false; place = r .place; stack = r .stack } → StmtsWalk T s left d total σ₀ p₀ m₀ w m
+reach-over T s left d total σ₀ p₀ m₀ r m g z w e = subst (λ (v : Walk). StmtsWalk T s left d total σ₀ p₀ m₀ v m) (sym e) (g .over z)
+
+pub safe-over : (s : List ℕ) (left n : ℕ) (p : Place) (r : Reached) → ReachSafe s left n p r → (w : Walk) → w ≡ record { fault = r .fault; sure = false; place = r .place; stack = r .stack }
+    → Safe s (12 - left) p w
+safe-over s left n p r g w e = subst (Safe s (12 - left) p) (sym e) (record { grows = g .grows; framed = g .framed })
 
 -- a statement that was not walked without the stack is walked from the same place and memory
 pub front-again : (T : Tables) (s : List ℕ) (left d : ℕ) (σ : Scope Status) (p q : Place) (m n : Memory) (r : Walk) (m′ : Memory) → q ≡ p → n ≡ m

@@ -32,10 +32,11 @@ use Rattle.writing.proofs.Stores.{none-stored, both-stored, patched, two-length
 use Rattle.steps.specs.Own.{Own, returned, blockOwn}
 use Rattle.steps.proofs.Steps.{inserts-bytes, inserts-size, inserts-fit}
 use Rattle.statements.specs.declared.Place.{Place}
-use Rattle.walk.specs.declared.Walk.{Walk}
-use Rattle.walk.specs.Walks.{Memory, Wrote, Leads, BlockDone, tail, Ends}
-use Rattle.walk.proofs.Wrotes.{stored-as}
-use Rattle.walk.proofs.Leads.{leads-end}
+use Rattle.fronts.specs.declared.Walk.{Walk}
+use Rattle.fronts.specs.Walks.{Memory, Wrote, Leads, BlockDone}
+use Rattle.ends.specs.Ends.{tail, Ends}
+use Rattle.fronts.proofs.Wrotes.{stored-as}
+use Rattle.fronts.proofs.Leads.{leads-end}
 
 fits-order : (a b c : Bool) → ((a && b) && c) ≡ (a && (c && (b && true)))
 fits-order true true true = refl

@@ -34,10 +34,11 @@ use Rattle.statements.specs.Act.{Within, Grows}
 use Rattle.statements.proofs.Slices.{written-slice}
 use Rattle.steps.specs.Own.{numberOf}
 use Rattle.steps.proofs.Faults.{real-none, real-walk}
-use Rattle.walk.specs.declared.Env.{Env}
-use Rattle.walk.specs.declared.Walk.{Walk}
-use Rattle.walk.specs.Walks.{Memory, memory, Ready, Safe, Leads, StmtsThere, StmtsWalk, EndThere, EndSafe, Ends, BlockWalks}
-use Rattle.walk.proofs.Wrotes.{grows-both, within-on}
+use Rattle.fronts.specs.declared.Env.{Env}
+use Rattle.fronts.specs.declared.Walk.{Walk}
+use Rattle.fronts.specs.Walks.{Memory, memory, Ready, Safe, Leads, StmtsThere, StmtsWalk, BlockWalks}
+use Rattle.ends.specs.Ends.{EndThere, EndSafe, Ends}
+use Rattle.fronts.proofs.Wrotes.{grows-both, within-on}
 use Rattle.walk.proofs.Blocks.{Inside, block-done}
 
 -- the span that a block's head copies

@@ -29,10 +29,12 @@ use Rattle.steps.specs.Own.{numberOf, Own, byte, both, blockOwn}
 use Rattle.steps.proofs.Faults.{real-none, real-walk}
 use Rattle.steps.proofs.Shaped.{shape-block}
 use Rattle.steps.proofs.Plain.{length-shape}
-use Rattle.walk.specs.declared.Walk.{Walk}
-use Rattle.walk.specs.Walks.{Memory, memory, Wrote, Ready, Safe, BlockDone, BlockWalks, BlocksWalk, ElseDone, ElseWalks, ElseThere, IfThere, Merges, IfWalks, LoopWalks}
-use Rattle.walk.proofs.Wrotes.{wrote-both, grows-both, within-on}
-use Rattle.walk.proofs.Branches.{block-end, first-fault, if-then, if-else, second-fault, loop-blocks}
+use Rattle.fronts.specs.declared.Walk.{Walk}
+use Rattle.fronts.specs.Walks.{Memory, memory, Wrote, Ready, Safe, BlockDone, BlockWalks, BlocksWalk, ElseDone, ElseWalks, ElseThere, IfThere, IfWalks, LoopWalks}
+use Rattle.ends.specs.Ends.{Merges}
+use Rattle.fronts.proofs.Wrotes.{wrote-both, grows-both, within-on}
+use Rattle.fronts.proofs.Block.{block-end}
+use Rattle.walk.proofs.Branches.{first-fault, if-then, if-else, second-fault, loop-blocks}
 
 -- the place behind a flag
 abbrev pub flagged : Place → ℕ → Place

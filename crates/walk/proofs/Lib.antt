@@ -1,3 +1,4 @@
 pub mod Blocks
+pub mod Branches
 pub mod Heads
 pub mod Ifs

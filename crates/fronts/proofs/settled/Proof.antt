@@ -49,13 +49,13 @@ walk-of-requires-3 c κs = search needs
 returns-2 : tie.Need-returns-2
 returns-2 c =
     settles-few (c .before .before .before .before .before .before .before .args .p) _ (c .before .before .before .before .before .before .before .args .taken) (c .before .before .before .before .before .before .changed .result) (c .before .before .before .before .before .before .changed .ensures) (not-false _ (c .before .before .before .if1 .left)) _
-        (c .before .before .before .before .before .before .changed .ensures .is (not-false _ (c .before .before .before .if1 .left)) .1, sym (ap (λ (x : Named). takenIn x (view (c .before .before .before .before .before .before .changed .result .stack))) (c .before .enum-told .given .1))) _ (c .walk-of2 .ensures)
+    (c .before .before .before .before .before .before .changed .ensures .is (not-false _ (c .before .before .before .if1 .left)) .1, sym (ap (λ (x : Named). takenIn x (view (c .before .before .before .before .before .before .changed .result .stack))) (c .before .enum-told .given .1))) _ (c .walk-of2 .ensures)
 
 -- src/lib.rt:114:1
 returns-3 : tie.Need-returns-3
 returns-3 c =
     settles-few (c .before .before .before .before .before .before .before .before .before .args .p) _ (c .before .before .before .before .before .before .before .before .before .args .taken) (c .before .before .before .before .before .before .before .before .changed .result) (c .before .before .before .before .before .before .before .before .changed .ensures) (not-false _ (c .before .before .before .before .before .if1 .left)) _
-        (c .before .mark-deleted .ensures .0, c .before .mark-deleted .ensures .1 ∙ sym (ap (λ (x : Named). takenIn x (view (c .before .before .before .before .before .before .before .before .changed .result .stack))) (c .before .before .before .taken .given .1))) _ (c .walk-of3 .ensures)
+    (c .before .mark-deleted .ensures .0, c .before .mark-deleted .ensures .1 ∙ sym (ap (λ (x : Named). takenIn x (view (c .before .before .before .before .before .before .before .before .changed .result .stack))) (c .before .before .before .taken .given .1))) _ (c .walk-of3 .ensures)
 
 pub settled-spec : {M : Type 1} → statement M
 settled-spec =
