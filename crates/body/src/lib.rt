@@ -4,12 +4,11 @@ ghost use Prim.Native.Nat.{ℕ, _+_, _-_, _≤_, _<_};
 ghost use mathlib.Core.Bool.{cond};
 ghost use lib.ListN.{length, getD};
 ghost use lib.Dec.{eqb};
-ghost use Rattle.fields.specs.Number.{two, four};
+ghost use Rattle.fields.specs.Number.{two};
 ghost use Rattle.fields.specs.Answer.{readOf};
 ghost use Rattle.body.specs.Expr.{Head, Expr, Exprs, fixedCount, argLimit, typeOk, headAt, through, genericReceiver, endAt, exprAt, exprsAt, childrenAt};
 ghost use Rattle.body.specs.Stmt.{StmtHead, Front, bindsOk, stmtHeadAt, valuesAt, frontAt, blockAt, stmtIn, backIn, stmtsAt, blocksAt};
 ghost use Rattle.body.specs.Node.{nodeAt};
-ghost use Rattle.body.specs.StmtNode.{stmtNodeAt};
 ghost use Rattle.body.specs.Stands.{Stands, StandAll, count};
 ghost use Rattle.body.specs.Depth.{Walkable, WalkableAll};
 ghost use Rattle.body.specs.Answer.{scopeOf, startOf, stmtStartOf, frontOf};
@@ -75,21 +74,6 @@ pub enum Node {
     StaticAccess,
     Intrinsic(usize, usize, usize),
     Literal,
-}
-
-// A statement's head, in the order of the tags: span, name and type of a Let or Const, and the position of what follows.
-pub enum StmtNode {
-    Other,
-    Block(usize),
-    Return(usize, usize),
-    Expr(usize, usize),
-    Let(usize, usize, usize, usize),
-    Const(usize, usize, usize, usize),
-    Assign(usize, usize),
-    IfElse(usize, usize),
-    While(usize, usize),
-    Break(usize),
-    Continue(usize),
 }
 
 // What an argument of k bytes stays below: an operator or a name.
@@ -422,38 +406,6 @@ fn read_blocks(s: &[u8], flags: &[u8], env: Env, left: usize, n: usize, at: usiz
         }
     }
     Read::Next(p)
-}
-
-// Four bytes, or 0 for what is past the end.
-fn peek_four(s: &[u8], at: usize) -> usize
-    requires { ⌜ at < length (now s) + 14 ⌝ }
-    ensures { λ r. ⌜ r ≡ four (now (s .entry)) at ⌝ }
-{
-    peek_two(s, at) * 65536 + peek_two(s, at + 2)
-}
-
-// The head of the statement of the tag at a position, whatever follows it; Other past the end and for any other byte.
-pub fn stmt_at(s: &[u8], at: usize) -> StmtNode
-    ensures { λ r. ⌜ r ≡ stmtNodeAt (now (s .entry)) at ⌝ }
-{
-    let tag = peek(s, at);
-    if s.len() <= at {
-        return StmtNode::Other;
-    }
-    let span = peek_four(s, at + 1);
-    match tag {
-        1 => StmtNode::Block(at + 1),
-        2 => StmtNode::Return(span, at + 5),
-        3 => StmtNode::Expr(span, at + 5),
-        4 => StmtNode::Let(span, peek_two(s, at + 5), peek_two(s, at + 7), at + 9),
-        5 => StmtNode::Const(span, peek_two(s, at + 5), peek_two(s, at + 7), at + 9),
-        6 => StmtNode::Assign(span, at + 5),
-        7 => StmtNode::IfElse(span, at + 5),
-        8 => StmtNode::While(span, at + 5),
-        9 => StmtNode::Break(span),
-        10 => StmtNode::Continue(span),
-        _ => StmtNode::Other,
-    }
 }
 
 // The number of items at p, or 0 where the tag has no counted list.
