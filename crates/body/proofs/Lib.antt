@@ -5,5 +5,3 @@ pub mod Walking
 pub mod Skipping
 pub mod StmtRead
 pub mod Statements
-mod Reading
-mod BodyReading
