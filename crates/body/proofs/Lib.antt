@@ -5,6 +5,3 @@ pub mod Walking
 pub mod Skipping
 pub mod StmtRead
 pub mod Statements
-pub mod Heads
-mod Reading
-mod BodyReading

@@ -1,7 +1,6 @@
 pub mod Expr
 pub mod Stmt
 pub mod Node
-pub mod StmtNode
 pub mod Stands
 pub mod Depth
 pub mod Answer

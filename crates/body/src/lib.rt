@@ -1,25 +1,16 @@
-// Reads expressions, statements and blocks: every answer equals what the definitions of specs/ say of the bytes.
+// Answers what stands at a place of a body that was read: every answer equals what the definitions of specs/ say of the bytes.
 ghost use mathlib.Core.Path.{_≡_};
 ghost use Prim.Native.Nat.{ℕ, _+_, _-_, _≤_, _<_};
 ghost use mathlib.Core.Bool.{cond};
-ghost use lib.ListN.{length, getD};
+ghost use lib.ListN.{length};
 ghost use lib.Dec.{eqb};
-ghost use Rattle.fields.specs.Number.{two, four};
-ghost use Rattle.fields.specs.Answer.{readOf};
-ghost use Rattle.body.specs.Expr.{Head, Expr, Exprs, fixedCount, argLimit, typeOk, headAt, through, genericReceiver, endAt, exprAt, exprsAt, childrenAt};
-ghost use Rattle.body.specs.Stmt.{StmtHead, Front, bindsOk, stmtHeadAt, valuesAt, frontAt, blockAt, stmtIn, backIn, stmtsAt, blocksAt};
+ghost use Rattle.fields.specs.Number.{two};
+ghost use Rattle.body.specs.Expr.{Expr, Exprs, through, genericReceiver};
 ghost use Rattle.body.specs.Node.{nodeAt};
-ghost use Rattle.body.specs.StmtNode.{stmtNodeAt};
 ghost use Rattle.body.specs.Stands.{Stands, StandAll, count};
 ghost use Rattle.body.specs.Depth.{Walkable, WalkableAll};
-ghost use Rattle.body.specs.Answer.{scopeOf, startOf, stmtStartOf, frontOf};
-use fields::Number;
-use fields::Read;
-use fields::field;
 use fields::peek;
 use fields::peek_two;
-use fields::room;
-use fields::two_at;
 use fields::wide;
 
 // Expressions by tag, 0 to 15, as in specs/Expr.antt.
@@ -31,30 +22,11 @@ const COUNT_WIDTH: [u8; 16] = [0, 0, 0, 0, 0, 0, 2, 2, 0, 2, 0, 0, 0, 0, 2, 0];
 
 const LAST_WIDTH: [u8; 16] = [0, 0, 0, 0, 0, 0, 0, 0, 0, 0, 0, 2, 0, 0, 0, 0];
 
-// Statements by tag, 0 to 10, as in specs/Stmt.antt.
-const HEAD_BYTES: [u8; 11] = [0, 1, 5, 5, 9, 9, 5, 5, 5, 5, 5];
-
-const VALUE_FLAG: [u8; 11] = [0, 0, 1, 0, 0, 0, 0, 0, 0, 0, 0];
-
-const VALUE_COUNT: [u8; 11] = [0, 0, 0, 1, 1, 1, 2, 1, 1, 0, 0];
-
-const TYPE_WIDTH: [u8; 11] = [0, 0, 2, 0, 0, 0, 2, 0, 0, 0, 0];
-
-const BLOCK_COUNT: [u8; 11] = [0, 1, 0, 0, 0, 0, 0, 1, 1, 0, 0];
-
-const ELSE_FLAG: [u8; 11] = [0, 0, 0, 0, 0, 0, 0, 1, 0, 0, 0];
-
 // How many names and types there are, and how deep an expression may be.
 pub struct Env {
     pub names: usize,
     pub types: usize,
     pub depth: usize,
-}
-
-// A node's tag and the position of what follows its head, or the fault's number.
-pub enum Start {
-    Tag(usize, usize),
-    Bad(u8),
 }
 
 // What stands at a position, in the order of the tags: numbers, and positions of what follows the head.
@@ -75,66 +47,6 @@ pub enum Node {
     StaticAccess,
     Intrinsic(usize, usize, usize),
     Literal,
-}
-
-// A statement's head, in the order of the tags: span, name and type of a Let or Const, and the position of what follows.
-pub enum StmtNode {
-    Other,
-    Block(usize),
-    Return(usize, usize),
-    Expr(usize, usize),
-    Let(usize, usize, usize, usize),
-    Const(usize, usize, usize, usize),
-    Assign(usize, usize),
-    IfElse(usize, usize),
-    While(usize, usize),
-    Break(usize),
-    Continue(usize),
-}
-
-// What an argument of k bytes stays below: an operator or a name.
-fn arg_limit(names: usize, k: usize) -> usize
-    ensures { λ r. ⌜ r ≡ argLimit names k ⌝ }
-{
-    if k == 1 { 5 } else { names }
-}
-
-// A type in the table; a Delete has type 0.
-fn type_ok(env: Env, tag: usize, ty: usize) -> bool
-    ensures { λ r. ⌜ r ≡ typeOk (env .types) tag ty ⌝ }
-{
-    if env.types <= ty {
-        return false;
-    }
-    if tag == 10 {
-        return ty == 0;
-    }
-    true
-}
-
-// A node's head: its tag, span, type and the argument before its children.
-fn read_head(s: &[u8], env: Env, at: usize) -> Start
-    ensures { λ r. ⌜ r ≡ startOf (headAt (env .names) (env .types) (now (s .entry)) at) ⌝ }
-{
-    if room(s, at) < 7 {
-        return Start::Bad(8);
-    }
-    let tag = wide(s[at]);
-    if tag == 0 {
-        return Start::Bad(8);
-    }
-    if 15 < tag {
-        return Start::Bad(8);
-    }
-    let ty = two_at(s, at + 5);
-    if !type_ok(env, tag, ty) {
-        return Start::Bad(8);
-    }
-    let width = wide(ARG_WIDTH[tag]);
-    match field(s, 8, arg_limit(env.names, width), width, at + 7) {
-        Number::Is(_, next) => Start::Tag(tag, next),
-        Number::Wrong(f) => Start::Bad(f),
-    }
 }
 
 // The node of the tag at a position, whatever follows it; Other past the end and for any other byte.
@@ -182,7 +94,7 @@ pub fn strip_noop_unary(s: &[u8], at: usize) -> usize
 }
 
 // Whether the call whose callee stands at `at` has a generic receiver.
-fn generic_receiver(s: &[u8], flags: &[u8], at: usize) -> bool
+pub fn generic_receiver(s: &[u8], flags: &[u8], at: usize) -> bool
     ensures { λ r. ⌜ ((e : Expr) (next : ℕ) → Stands e (now (s .entry)) at next → r ≡ genericReceiver (now (flags .entry)) e) ⌝ }
 {
     let p = strip_noop_unary(s, at);
@@ -194,266 +106,6 @@ fn generic_receiver(s: &[u8], flags: &[u8], at: usize) -> bool
         return false;
     };
     peek(flags, peek_two(s, target + 5)) == 1
-}
-
-// What is left once the children are read: the name of a FieldAccess, and the test of a Call's receiver.
-fn read_end(s: &[u8], flags: &[u8], env: Env, tag: usize, first: usize, at: usize) -> Read
-    requires { ⌜ tag < 16 ⌝ }
-    ensures { λ r. ⌜ ((h : Head) (ks xs : Exprs) (q : ℕ) → h .tag ≡ tag → count ks ≡ getD fixedCount tag 0 → StandAll ks (now (s .entry)) first q
-        → r ≡ readOf (endAt (scopeOf env (now (flags .entry))) (now (s .entry)) h ks xs at)) ⌝ }
-{
-    let width = wide(LAST_WIDTH[tag]);
-    match field(s, 8, env.names, width, at) {
-        Number::Wrong(f) => Read::Fault(f),
-        Number::Is(_, next) => {
-            if tag == 6 {
-                if generic_receiver(s, flags, first) {
-                    return Read::Fault(11);
-                }
-            }
-            Read::Next(next)
-        }
-    }
-}
-
-// An expression, with so much depth left.
-fn read_expr(s: &[u8], flags: &[u8], env: Env, left: usize, at: usize) -> Read
-    ensures { λ r. ⌜ r ≡ readOf (exprAt (scopeOf env (now (flags .entry))) (now (s .entry)) left at) ⌝ }
-{
-    if 0 < left {
-        match read_head(s, env, at) {
-            Start::Bad(f) => Read::Fault(f),
-            Start::Tag(tag, first) => read_children(s, flags, env, left - 1, tag, first),
-        }
-    } else {
-        Read::Fault(9)
-    }
-}
-
-// What follows the head of a node: its fixed children, its counted list, and the end.
-fn read_children(s: &[u8], flags: &[u8], env: Env, left: usize, tag: usize, first: usize) -> Read
-    requires { ⌜ tag < 16 ⌝ }
-    ensures { λ r. ⌜ ((h : Head) → h .tag ≡ tag → r ≡ readOf (childrenAt (scopeOf env (now (flags .entry))) (now (s .entry)) left h first)) ⌝ }
-{
-    let fixed = wide(FIXED_COUNT[tag]);
-    match read_exprs(s, flags, env, left, fixed, first) {
-        Read::Fault(f) => Read::Fault(f),
-        Read::Next(p) => {
-            let width = wide(COUNT_WIDTH[tag]);
-            match field(s, 8, 65536, width, p) {
-                Number::Wrong(f) => Read::Fault(f),
-                Number::Is(n, q) => match read_exprs(s, flags, env, left, n, q) {
-                    Read::Fault(f) => Read::Fault(f),
-                    Read::Next(u) => read_end(s, flags, env, tag, first, u),
-                },
-            }
-        }
-    }
-}
-
-// So many expressions, one after another.
-fn read_exprs(s: &[u8], flags: &[u8], env: Env, left: usize, n: usize, at: usize) -> Read
-    ensures { λ r. ⌜ r ≡ readOf (exprsAt (scopeOf env (now (flags .entry))) (now (s .entry)) left n at) ⌝ }
-{
-    let mut i = n;
-    let mut p = at;
-    while 0 < i {
-        match read_expr(s, flags, env, left, p) {
-            Read::Fault(f) => {
-                return Read::Fault(f);
-            }
-            Read::Next(q) => {
-                p = q;
-                i -= 1;
-            }
-        }
-    }
-    Read::Next(p)
-}
-
-// The name and the type of a Let or Const.
-fn binds_ok(s: &[u8], env: Env, size: usize, at: usize) -> bool
-    requires { ⌜ at < length (now s) ⌝ }
-    ensures { λ r. ⌜ r ≡ bindsOk (env .names) (env .types) size (now (s .entry)) at ⌝ }
-{
-    if size == 9 {
-        if peek_two(s, at + 5) < env.names {
-            return peek_two(s, at + 7) < env.types;
-        }
-        return false;
-    }
-    true
-}
-
-// A statement's head: its tag, span, and the name and type of a Let or Const.
-fn read_stmt_head(s: &[u8], env: Env, at: usize) -> Start
-    ensures { λ r. ⌜ r ≡ stmtStartOf (stmtHeadAt (env .names) (env .types) (now (s .entry)) at) ⌝ }
-{
-    let tag = peek(s, at);
-    if tag == 0 {
-        return Start::Bad(8);
-    }
-    if 10 < tag {
-        return Start::Bad(8);
-    }
-    let size = wide(HEAD_BYTES[tag]);
-    if room(s, at) < size {
-        return Start::Bad(8);
-    }
-    if binds_ok(s, env, size, at) {
-        Start::Tag(tag, at + size)
-    } else {
-        Start::Bad(8)
-    }
-}
-
-// A statement up to its blocks.
-fn read_front(s: &[u8], flags: &[u8], env: Env, at: usize) -> Start
-    ensures { λ r. ⌜ r ≡ frontOf (frontAt (scopeOf env (now (flags .entry))) (now (s .entry)) at) ⌝ }
-{
-    match read_stmt_head(s, env, at) {
-        Start::Bad(f) => Start::Bad(f),
-        Start::Tag(tag, p) => read_values(s, flags, env, tag, p),
-    }
-}
-
-// The values of a statement and the type after them.
-fn read_values(s: &[u8], flags: &[u8], env: Env, tag: usize, p: usize) -> Start
-    requires { ⌜ tag < 11 ⌝ }
-    ensures { λ r. ⌜ ((h : StmtHead) → h .tag ≡ tag → r ≡ frontOf (valuesAt (scopeOf env (now (flags .entry))) (now (s .entry)) h p)) ⌝ }
-{
-    let flag = wide(VALUE_FLAG[tag]);
-    match field(s, 8, 2, flag, p) {
-        Number::Wrong(f) => Start::Bad(f),
-        Number::Is(n, q) => {
-            let count = wide(VALUE_COUNT[tag]);
-            match read_exprs(s, flags, env, env.depth, count + n, q) {
-                Read::Fault(f) => Start::Bad(f),
-                Read::Next(r) => {
-                    let width = wide(TYPE_WIDTH[tag]);
-                    match field(s, 8, env.types, width, r) {
-                        Number::Wrong(f) => Start::Bad(f),
-                        Number::Is(_, u) => Start::Tag(tag, u),
-                    }
-                }
-            }
-        }
-    }
-}
-
-// A block, with so much depth left.
-pub fn read_block(s: &[u8], flags: &[u8], env: Env, left: usize, at: usize) -> Read
-    ensures { λ r. ⌜ r ≡ readOf (blockAt (scopeOf env (now (flags .entry))) (now (s .entry)) left at) ⌝ }
-{
-    let bytes = room(s, at);
-    if left == 0 {
-        return Read::Fault(9);
-    }
-    if bytes < 6 {
-        return Read::Fault(8);
-    }
-    let n = two_at(s, at + 4);
-    read_stmts(s, flags, env, left - 1, n, at + 6)
-}
-
-// So many statements; their blocks have so much depth left.
-fn read_stmts(s: &[u8], flags: &[u8], env: Env, left: usize, n: usize, at: usize) -> Read
-    ensures { λ r. ⌜ r ≡ readOf (stmtsAt (scopeOf env (now (flags .entry))) (now (s .entry)) left n at) ⌝ }
-{
-    let mut i = n;
-    let mut p = at;
-    while 0 < i {
-        match read_stmt(s, flags, env, left, p) {
-            Read::Fault(f) => {
-                return Read::Fault(f);
-            }
-            Read::Next(q) => {
-                p = q;
-                i -= 1;
-            }
-        }
-    }
-    Read::Next(p)
-}
-
-// A statement; its blocks have so much depth left.
-fn read_stmt(s: &[u8], flags: &[u8], env: Env, left: usize, at: usize) -> Read
-    ensures { λ r. ⌜ r ≡ readOf (stmtIn (scopeOf env (now (flags .entry))) (now (s .entry)) left at) ⌝ }
-{
-    match read_front(s, flags, env, at) {
-        Start::Bad(f) => Read::Fault(f),
-        Start::Tag(tag, p) => read_back(s, flags, env, left, tag, p),
-    }
-}
-
-// The blocks of a statement.
-fn read_back(s: &[u8], flags: &[u8], env: Env, left: usize, tag: usize, p: usize) -> Read
-    requires { ⌜ tag < 11 ⌝ }
-    ensures { λ r. ⌜ ((h : Front) → h .head .tag ≡ tag → r ≡ readOf (backIn (scopeOf env (now (flags .entry))) (now (s .entry)) left h p)) ⌝ }
-{
-    let count = wide(BLOCK_COUNT[tag]);
-    match read_blocks(s, flags, env, left, count, p) {
-        Read::Fault(f) => Read::Fault(f),
-        Read::Next(q) => {
-            let flag = wide(ELSE_FLAG[tag]);
-            match field(s, 8, 2, flag, q) {
-                Number::Wrong(f) => Read::Fault(f),
-                Number::Is(n, r) => read_blocks(s, flags, env, left, n, r),
-            }
-        }
-    }
-}
-
-// So many blocks, one after another.
-fn read_blocks(s: &[u8], flags: &[u8], env: Env, left: usize, n: usize, at: usize) -> Read
-    ensures { λ r. ⌜ r ≡ readOf (blocksAt (scopeOf env (now (flags .entry))) (now (s .entry)) left n at) ⌝ }
-{
-    let mut i = n;
-    let mut p = at;
-    while 0 < i {
-        match read_block(s, flags, env, left, p) {
-            Read::Fault(f) => {
-                return Read::Fault(f);
-            }
-            Read::Next(q) => {
-                p = q;
-                i -= 1;
-            }
-        }
-    }
-    Read::Next(p)
-}
-
-// Four bytes, or 0 for what is past the end.
-fn peek_four(s: &[u8], at: usize) -> usize
-    requires { ⌜ at < length (now s) + 14 ⌝ }
-    ensures { λ r. ⌜ r ≡ four (now (s .entry)) at ⌝ }
-{
-    peek_two(s, at) * 65536 + peek_two(s, at + 2)
-}
-
-// The head of the statement of the tag at a position, whatever follows it; Other past the end and for any other byte.
-pub fn stmt_at(s: &[u8], at: usize) -> StmtNode
-    ensures { λ r. ⌜ r ≡ stmtNodeAt (now (s .entry)) at ⌝ }
-{
-    let tag = peek(s, at);
-    if s.len() <= at {
-        return StmtNode::Other;
-    }
-    let span = peek_four(s, at + 1);
-    match tag {
-        1 => StmtNode::Block(at + 1),
-        2 => StmtNode::Return(span, at + 5),
-        3 => StmtNode::Expr(span, at + 5),
-        4 => StmtNode::Let(span, peek_two(s, at + 5), peek_two(s, at + 7), at + 9),
-        5 => StmtNode::Const(span, peek_two(s, at + 5), peek_two(s, at + 7), at + 9),
-        6 => StmtNode::Assign(span, at + 5),
-        7 => StmtNode::IfElse(span, at + 5),
-        8 => StmtNode::While(span, at + 5),
-        9 => StmtNode::Break(span),
-        10 => StmtNode::Continue(span),
-        _ => StmtNode::Other,
-    }
 }
 
 // The number of items at p, or 0 where the tag has no counted list.

@@ -63,7 +63,7 @@ fn head_fault(s: &[u8]) -> u8
 fn read_body(s: &[u8], flags: &[u8], env: body::Env, at: usize) -> fields::Read
     ensures { λ r. ⌜ r ≡ readOf (bodyAt version1 (scopeOf env (now (flags .entry))) (now (s .entry)) at) ⌝ }
 {
-    match body::read_block(s, flags, env, 12, at) {
+    match reading::read_block(s, flags, env, 12, at) {
         fields::Read::Fault(f) => fields::Read::Fault(f),
         fields::Read::Next(p) => {
             if p == s.len() {

@@ -16,11 +16,11 @@ use Rattle.fields.specs.declared.Number.the-variants.{Is}
 use Rattle.fields.proofs.Inverse.{ensure-ok, bound}
 use Rattle.fields.proofs.Answers.{number-ok, mapped}
 use Rattle.fields.proofs.Numbers.{field-ok}
 use Rattle.body.specs.Expr.{Exprs, Scope, exprsAt}
 use Rattle.body.specs.Stmt.{StmtHead, Front, Block, valueFlag, valueCount, typeWidth, blockCount, elseFlag, stmtHeadAt, valuesAt, frontAt, backAt, stmtAt, blockAt, stmtsAt}
-use Rattle.body.specs.Answer.{stmtStartOf, frontOf}
-use Rattle.body.specs.declared.Start.{Start}
-use Rattle.body.specs.declared.Start.the-variants.{Tag, Bad}
+use Rattle.reading.specs.Answer.{stmtStartOf, frontOf}
+use Rattle.reading.specs.declared.Start.{Start}
+use Rattle.reading.specs.declared.Start.the-variants.{Tag, Bad}
 
 pub head-ok : {x : Parsed StmtHead} {k p : ℕ} {r : Start} → r ≡ stmtStartOf x → r ≡ Tag k p → (h : StmtHead) × (x ≡ ok h p) × (h .tag ≡ k)
 unfolding stmtStartOf

@@ -2,12 +2,12 @@ use mathlib.Core.Path.{sym, ap, _∙_}
 use native.Mathlib.Omega.{arith}
 use lib.ListN.{getD}
 use Rattle.fields.proofs.Answers.{number-ok, number-wrong, read-ok, read-fault}
 use Rattle.body.specs.Stmt.{valueFlag, valueCount, typeWidth}
-use Rattle.body.specs.declared.Start.the-variants.{Tag}
-use Rattle.body.proofs.BodyReading.{flag-small, flag-stop, values-stop, last-stop, front-done}
+use Rattle.reading.specs.declared.Start.the-variants.{Tag}
+use Rattle.reading.proofs.BodyReading.{flag-small, flag-stop, values-stop, last-stop, front-done}
 use borrow.Author.Needs.{needs}
-use Rattle.body.proofs.read_values.Statement.{statement}
-use Rattle.body.proofs.read_values.Tie as tie
+use Rattle.reading.proofs.read_values.Statement.{statement}
+use Rattle.reading.proofs.read_values.Tie as tie
 
 array-read-wide : tie.Need-array-read-wide
 array-read-wide c = search needs

@@ -7,11 +7,11 @@ use borrow.Author.Tests.{lt-ltb, le-ltb, le-leb, lt-leb}
 use Rattle.fields.specs.Parsed.{ensure}
 use Rattle.fields.proofs.Tests.{less}
 use Rattle.fields.proofs.Numbers.{past-end}
 use Rattle.body.specs.Stmt.{headBytes, stmtHeadAt}
-use Rattle.body.specs.Answer.{stmtStartOf}
+use Rattle.reading.specs.Answer.{stmtStartOf}
 use borrow.Author.Needs.{needs}
-use Rattle.body.proofs.read_stmt_head.Statement.{statement}
-use Rattle.body.proofs.read_stmt_head.Tie as tie
+use Rattle.reading.proofs.read_stmt_head.Statement.{statement}
+use Rattle.reading.proofs.read_stmt_head.Tie as tie
 
 peek-requires : tie.Need-peek-requires
 peek-requires c κs = search needs

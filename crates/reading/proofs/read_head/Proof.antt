@@ -2,11 +2,11 @@ use native.Mathlib.Omega.{arith}
 use borrow.Author.Tests.{lt-ltb, le-ltb, le-leb, lt-leb, not-true, not-false}
 use Rattle.fields.specs.Parsed.{ensure, bind}
 use Rattle.fields.proofs.Answers.{number-ok, number-wrong}
 use Rattle.body.specs.Expr.{argWidth, headAt}
-use Rattle.body.specs.Answer.{startOf}
+use Rattle.reading.specs.Answer.{startOf}
 use borrow.Author.Needs.{needs}
-use Rattle.body.proofs.read_head.Statement.{statement}
-use Rattle.body.proofs.read_head.Tie as tie
+use Rattle.reading.proofs.read_head.Statement.{statement}
+use Rattle.reading.proofs.read_head.Tie as tie
 
 room-requires : tie.Need-room-requires
 room-requires c κs = search needs

@@ -1,6 +1,6 @@
 use borrow.Author.Tests.{eq-eqb, ne-eqb}
-use Rattle.body.proofs.arg_limit.Statement.{statement}
-use Rattle.body.proofs.arg_limit.Tie as tie
+use Rattle.reading.proofs.arg_limit.Statement.{statement}
+use Rattle.reading.proofs.arg_limit.Tie as tie
 
 returns : tie.Need-returns
 returns c = simp (eq-eqb _ _ (c .if1 .taken))

@@ -1,7 +1,7 @@
 use borrow.Author.Tests.{lt-ltb, le-ltb, eq-eqb, ne-eqb}
 use borrow.Author.Needs.{needs}
-use Rattle.body.proofs.binds_ok.Statement.{statement}
-use Rattle.body.proofs.binds_ok.Tie as tie
+use Rattle.reading.proofs.binds_ok.Statement.{statement}
+use Rattle.reading.proofs.binds_ok.Tie as tie
 
 add-peek-two : tie.Need-add-peek-two
 add-peek-two c = search needs

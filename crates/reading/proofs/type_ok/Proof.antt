@@ -1,6 +1,6 @@
 use borrow.Author.Tests.{lt-ltb, le-ltb, eq-eqb, ne-eqb}
-use Rattle.body.proofs.type_ok.Statement.{statement}
-use Rattle.body.proofs.type_ok.Tie as tie
+use Rattle.reading.proofs.type_ok.Statement.{statement}
+use Rattle.reading.proofs.type_ok.Tie as tie
 
 returns : tie.Need-returns
 returns c = simp (le-ltb _ _ (c .if1 .taken))

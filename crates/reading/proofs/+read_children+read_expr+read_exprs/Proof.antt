@@ -6,28 +6,28 @@ use lib.ListN.{getD}
 use Rattle.fields.specs.Answer.{readOf}
 use Rattle.fields.proofs.Answers.{read-ok, read-fault, number-ok, number-wrong}
 use Rattle.fields.proofs.Tables.{of-none, of-next, of-stop}
 use Rattle.body.specs.Expr.{fixedCount, countWidth, exprsAt}
 use Rattle.body.specs.Answer.{scopeOf}
-use Rattle.body.proofs.Reading.{start-ok, start-bad, deep, bad-head, good-head, tag-small, children-stop, count-stop, items-stop, to-end}
+use Rattle.reading.proofs.Reading.{start-ok, start-bad, deep, bad-head, good-head, tag-small, children-stop, count-stop, items-stop, to-end}
 use Rattle.body.proofs.Standing.{stand-all}
 use Prim.Native.Nat.{ℕ, _<_}
 use borrow.Fn.Kinds.{In}
 use borrow.Fn.PlainCycle.{Measures, is, falls, and}
-use Rattle.body.proofs.read_children.Reads as read-children
-use Rattle.body.proofs.read_children.Kinds as read-children-kinds
-use Rattle.body.proofs.+read_children+read_expr+read_exprs.Lts-read_children as read-children-lts
-use Rattle.body.proofs.read_expr.Reads as read-expr
-use Rattle.body.proofs.read_expr.Kinds as read-expr-kinds
-use Rattle.body.proofs.+read_children+read_expr+read_exprs.Lts-read_expr as read-expr-lts
-use Rattle.body.proofs.read_exprs.Reads as read-exprs
-use Rattle.body.proofs.read_exprs.Kinds as read-exprs-kinds
-use Rattle.body.proofs.+read_children+read_expr+read_exprs.Lts-read_exprs as read-exprs-lts
-use Rattle.body.proofs.read_end.Reads as read-end-reads
-use Rattle.body.proofs.read_head.Reads as read-head-reads
+use Rattle.reading.proofs.read_children.Reads as read-children
+use Rattle.reading.proofs.read_children.Kinds as read-children-kinds
+use Rattle.reading.proofs.+read_children+read_expr+read_exprs.Lts-read_children as read-children-lts
+use Rattle.reading.proofs.read_expr.Reads as read-expr
+use Rattle.reading.proofs.read_expr.Kinds as read-expr-kinds
+use Rattle.reading.proofs.+read_children+read_expr+read_exprs.Lts-read_expr as read-expr-lts
+use Rattle.reading.proofs.read_exprs.Reads as read-exprs
+use Rattle.reading.proofs.read_exprs.Kinds as read-exprs-kinds
+use Rattle.reading.proofs.+read_children+read_expr+read_exprs.Lts-read_exprs as read-exprs-lts
+use Rattle.reading.proofs.read_end.Reads as read-end-reads
+use Rattle.reading.proofs.read_head.Reads as read-head-reads
 use Rattle.fields.proofs.field.Reads as field-reads
 use Rattle.fields.proofs.wide.Reads as wide-reads
-use Rattle.body.proofs.+read_children+read_expr+read_exprs.{statement}
-use Rattle.body.proofs.+read_children+read_expr+read_exprs.Tie.{close}
+use Rattle.reading.proofs.+read_children+read_expr+read_exprs.{statement}
+use Rattle.reading.proofs.+read_children+read_expr+read_exprs.Tie.{close}
 
 abbrev μ-read-children : Measures 2 read-children-kinds.ps ℕ
 μ-read-children κs a = 3 * a .1 .1 .1 .0 + 2

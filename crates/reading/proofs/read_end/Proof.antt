@@ -2,12 +2,12 @@ use denote.Ref.{now}
 use lib.ListN.{getD}
 use mathlib.Core.Path.{sym, ap, _∙_}
 use Rattle.fields.proofs.Answers.{number-ok, number-wrong}
 use Rattle.body.specs.Expr.{fixedCount, lastWidth}
-use Rattle.body.proofs.Reading.{name-stop, generic-stop, call-ends, node-ends}
+use Rattle.reading.proofs.Reading.{name-stop, generic-stop, call-ends, node-ends}
 use Rattle.body.proofs.Walking.{callee}
 use borrow.Author.Needs.{needs}
-use Rattle.body.proofs.read_end.Statement.{statement}
-use Rattle.body.proofs.read_end.Tie as tie
+use Rattle.reading.proofs.read_end.Statement.{statement}
+use Rattle.reading.proofs.read_end.Tie as tie
 
 array-read-wide : tie.Need-array-read-wide
 array-read-wide c = search needs

@@ -1,9 +1,9 @@
 use mathlib.Core.Path.{sym, ap, _∙_}
-use Rattle.body.specs.Answer.{frontOf}
-use Rattle.body.proofs.BodyReading.{head-small, head-ok, head-bad, front-head-bad, front-values}
+use Rattle.reading.specs.Answer.{frontOf}
+use Rattle.reading.proofs.BodyReading.{head-small, head-ok, head-bad, front-head-bad, front-values}
 use borrow.Author.Needs.{needs}
-use Rattle.body.proofs.read_front.Statement.{statement}
-use Rattle.body.proofs.read_front.Tie as tie
+use Rattle.reading.proofs.read_front.Statement.{statement}
+use Rattle.reading.proofs.read_front.Tie as tie
 
 read-stmt-head-requires : tie.Need-read-stmt-head-requires
 read-stmt-head-requires c κs = search needs

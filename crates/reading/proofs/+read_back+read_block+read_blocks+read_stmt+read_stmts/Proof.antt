@@ -6,34 +6,34 @@ use lib.ListN.{getD}
 use Rattle.fields.specs.Answer.{readOf}
 use Rattle.fields.proofs.Answers.{read-ok, read-fault, number-ok, number-wrong}
 use Rattle.fields.proofs.Tables.{of-none, of-next, of-stop}
 use Rattle.body.specs.Stmt.{stmtsAt, blocksAt, blockCount, elseFlag}
 use Rattle.body.specs.Answer.{scopeOf}
-use Rattle.body.proofs.BodyReading.{front-ok, front-bad, front-small, blocks-stop, else-stop, back-done, stmt-stop, stmt-back, block-deep, block-short, block-stmts}
+use Rattle.reading.proofs.BodyReading.{front-ok, front-bad, front-small, blocks-stop, else-stop, back-done, stmt-stop, stmt-back, block-deep, block-short, block-stmts}
 use Prim.Native.Nat.{ℕ, _<_}
 use borrow.Fn.Kinds.{In}
 use borrow.Fn.PlainCycle.{Measures, is, falls, and}
-use Rattle.body.proofs.read_back.Reads as read-back
-use Rattle.body.proofs.read_back.Kinds as read-back-kinds
-use Rattle.body.proofs.+read_back+read_block+read_blocks+read_stmt+read_stmts.Lts-read_back as read-back-lts
-use Rattle.body.proofs.read_block.Reads as read-block
-use Rattle.body.proofs.read_block.Kinds as read-block-kinds
-use Rattle.body.proofs.+read_back+read_block+read_blocks+read_stmt+read_stmts.Lts-read_block as read-block-lts
-use Rattle.body.proofs.read_blocks.Reads as read-blocks
-use Rattle.body.proofs.read_blocks.Kinds as read-blocks-kinds
-use Rattle.body.proofs.+read_back+read_block+read_blocks+read_stmt+read_stmts.Lts-read_blocks as read-blocks-lts
-use Rattle.body.proofs.read_stmt.Reads as read-stmt
-use Rattle.body.proofs.read_stmt.Kinds as read-stmt-kinds
-use Rattle.body.proofs.+read_back+read_block+read_blocks+read_stmt+read_stmts.Lts-read_stmt as read-stmt-lts
-use Rattle.body.proofs.read_stmts.Reads as read-stmts
-use Rattle.body.proofs.read_stmts.Kinds as read-stmts-kinds
-use Rattle.body.proofs.+read_back+read_block+read_blocks+read_stmt+read_stmts.Lts-read_stmts as read-stmts-lts
-use Rattle.body.proofs.read_front.Reads as read-front-reads
+use Rattle.reading.proofs.read_back.Reads as read-back
+use Rattle.reading.proofs.read_back.Kinds as read-back-kinds
+use Rattle.reading.proofs.+read_back+read_block+read_blocks+read_stmt+read_stmts.Lts-read_back as read-back-lts
+use Rattle.reading.proofs.read_block.Reads as read-block
+use Rattle.reading.proofs.read_block.Kinds as read-block-kinds
+use Rattle.reading.proofs.+read_back+read_block+read_blocks+read_stmt+read_stmts.Lts-read_block as read-block-lts
+use Rattle.reading.proofs.read_blocks.Reads as read-blocks
+use Rattle.reading.proofs.read_blocks.Kinds as read-blocks-kinds
+use Rattle.reading.proofs.+read_back+read_block+read_blocks+read_stmt+read_stmts.Lts-read_blocks as read-blocks-lts
+use Rattle.reading.proofs.read_stmt.Reads as read-stmt
+use Rattle.reading.proofs.read_stmt.Kinds as read-stmt-kinds
+use Rattle.reading.proofs.+read_back+read_block+read_blocks+read_stmt+read_stmts.Lts-read_stmt as read-stmt-lts
+use Rattle.reading.proofs.read_stmts.Reads as read-stmts
+use Rattle.reading.proofs.read_stmts.Kinds as read-stmts-kinds
+use Rattle.reading.proofs.+read_back+read_block+read_blocks+read_stmt+read_stmts.Lts-read_stmts as read-stmts-lts
+use Rattle.reading.proofs.read_front.Reads as read-front-reads
 use Rattle.fields.proofs.field.Reads as field-reads
 use Rattle.fields.proofs.room.Reads as room-reads
 use Rattle.fields.proofs.two_at.Reads as two-at-reads
 use Rattle.fields.proofs.wide.Reads as wide-reads
-use Rattle.body.proofs.+read_back+read_block+read_blocks+read_stmt+read_stmts.{statement}
-use Rattle.body.proofs.+read_back+read_block+read_blocks+read_stmt+read_stmts.Tie.{close}
+use Rattle.reading.proofs.+read_back+read_block+read_blocks+read_stmt+read_stmts.{statement}
+use Rattle.reading.proofs.+read_back+read_block+read_blocks+read_stmt+read_stmts.Tie.{close}
 
 abbrev μ-read-back : Measures 2 read-back-kinds.ps ℕ
 μ-read-back κs a = 5 * a .1 .1 .1 .0 + 2

@@ -11,11 +11,11 @@ use Rattle.fields.specs.Parsed.{Parsed, ok, fault, bind, ensure}
 use Rattle.fields.specs.Number.{fieldAt}
 use Rattle.fields.specs.Answer.{readOf}
 use Rattle.fields.specs.declared.Read.the-variants.{Next, Fault}
 use Rattle.body.specs.Expr.{Head, Expr, Exprs, Scope, fixedCount, countWidth, lastWidth, exprsBy, genericCallee, headAt, endAt, restAt, exprAt}
-use Rattle.body.specs.Answer.{startOf}
-use Rattle.body.specs.declared.Start.{Start}
-use Rattle.body.specs.declared.Start.the-variants.{Tag, Bad}
+use Rattle.reading.specs.Answer.{startOf}
+use Rattle.reading.specs.declared.Start.{Start}
+use Rattle.reading.specs.declared.Start.the-variants.{Tag, Bad}
 use Rattle.body.proofs.Standing.{head-stands}
 
 -- a head was read: it has the tag, and what follows it stands at p
 pub start-ok : {x : Parsed Head} {k p : ℕ} {r : Start} → r ≡ startOf x → r ≡ Tag k p → (h : Head) × (x ≡ ok h p) × (h .tag ≡ k)
