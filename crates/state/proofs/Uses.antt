@@ -7,7 +7,7 @@ use mathlib.Core.List.{List, [], _∷_}
 use native.Mathlib.Omega.{arith}
 use lib.Dec.{eqb}
 use Rattle.rules.specs.Report.{error, first, badUse}
-use Rattle.scope.specs.Kinds.{baseOf, said}
+use Rattle.state.specs.Kinds.{baseOf, said}
 
 pub bad-use : (s k : ℕ) (ps : List ℕ) → k < 7 → badUse s (said k ps) ≡ cond (eqb k 0) [] (error k s 0 (cond (eqb (baseOf k) 3) ps (first ps)) ∷ [])
 bad-use s zero ps h = refl

@@ -1,20 +1,20 @@
 use borrow.Author.Tests.{ne-eqb}
-use Rattle.scope.specs.Kinds.{said}
+use Rattle.state.specs.Kinds.{said}
 use Prim.Native.Nat.{_-_}
 use mathlib.Core.Path.{_≡_, sym, _∙_, ap}
 use native.Mathlib.Omega.{arith}
 use borrow.Author.Needs.{needs}
-use Rattle.scope.proofs.State.at.Statement.{statement}
-use Rattle.scope.proofs.State.at.Tie as tie
-use Rattle.scope.proofs.State.at.Reads as reads
-use Rattle.scope.proofs.State.at.Lts as lts
-use Rattle.scope.proofs.Places.one.Reads as one-reads
+use Rattle.state.proofs.State.at.Statement.{statement}
+use Rattle.state.proofs.State.at.Tie as tie
+use Rattle.state.proofs.State.at.Reads as reads
+use Rattle.state.proofs.State.at.Lts as lts
+use Rattle.state.proofs.Places.one.Reads as one-reads
 
--- src/lib.rt:221:21
+-- src/lib.rt:203:21
 one-requires : tie.Need-one-requires
 one-requires c κs = search needs
 
--- src/lib.rt:215:5
+-- src/lib.rt:197:5
 returns : tie.Need-returns
 returns c = (
   ap (said (c .before .args .kind)) (c .one .ensures .0),

@@ -1,20 +1,20 @@
 use Prim.Native.Nat.{_-_}
 use borrow.Author.Tests.{lt-ltb, le-ltb}
 use borrow.Author.Needs.{needs}
-use Rattle.scope.proofs.base.Statement.{statement}
-use Rattle.scope.proofs.base.Tie as tie
-use Rattle.scope.proofs.base.Reads as reads
-use Rattle.scope.proofs.base.Lts as lts
+use Rattle.state.proofs.base.Statement.{statement}
+use Rattle.state.proofs.base.Tie as tie
+use Rattle.state.proofs.base.Reads as reads
+use Rattle.state.proofs.base.Lts as lts
 
--- src/lib.rt:174:16
+-- src/lib.rt:156:16
 sub-result : tie.Need-sub-result
 sub-result c = search needs
 
--- src/lib.rt:174:9
+-- src/lib.rt:156:9
 returns : tie.Need-returns
 returns c = rw (lt-ltb 3 _ (c .if1 .taken))
 
--- src/lib.rt:170:1
+-- src/lib.rt:152:1
 returns-2 : tie.Need-returns-2
 returns-2 c = rw (le-ltb 3 _ (c .if1 .left))
 

@@ -14,8 +14,8 @@ use lib.Seq.{drop-cons, getD-take, length-take-le, take-suc-set}
 use Rattle.fields.specs.Table.{member}
 use Rattle.fields.proofs.Tests.{false-true}
 use Rattle.rules.specs.State.{placesEq, combine}
-use Rattle.scope.specs.declared.Places.{Places}
-use Rattle.scope.specs.View.{listed, Roomy, Fits}
+use Rattle.state.specs.declared.Places.{Places}
+use Rattle.state.specs.View.{listed, Roomy, Fits}
 
 pub rest-cons : (a : List ℕ) (i n : ℕ) → i < n → n ≤ length a → drop i (take n a) ≡ getD a i 0 ∷ drop (i + 1) (take n a)
 rest-cons a i n h le =

@@ -11,7 +11,7 @@ use lib.Dec.{eqb, ltb, T as So}
 use Rattle.fields.proofs.Tests.{split}
 use Rattle.rules.proofs.Bools.{and-l, and-r, yes≡}
 use Rattle.rules.specs.State.{Kind, deleted, moved, consumed, State, alive, gone, kindEq, placesEq, combine, joinKind, joinState}
-use Rattle.scope.specs.Kinds.{kindOf, said, conditional, family}
+use Rattle.state.specs.Kinds.{kindOf, said, conditional, family}
 
 -- a test of every number below n
 abbrev allBelow : ℕ → (ℕ → Bool) → Bool
