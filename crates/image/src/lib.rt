@@ -95,15 +95,15 @@ fn read_rest(s: &[u8], names: &[usize], flags: &[u8], structs: &mut [usize], at:
     ensures { λ r. ⌜ ((ts : List Ty) → now (flags .entry) ≡ genericFlags [] ts
         → RestReads (map (nameOf (now (s .entry))) (now (names .entry))) ts (now (s .entry)) at (now (structs .exit)) r) ⌝ }
 {
-    let struct_table = tables::signature::read_structs(s, names, structs, at);
+    let struct_table = signatures::read_structs(s, names, structs, at);
     let fields::Number::Is(struct_count, p) = struct_table else {
         return no_rest(wrong(struct_table));
     };
-    let global_table = tables::signature::read_globals(s, names.len(), p);
+    let global_table = signatures::read_globals(s, names.len(), p);
     let fields::Number::Is(global_count, q) = global_table else {
         return no_rest(wrong(global_table));
     };
-    let entry = tables::signature::read_entry(s, names.len(), flags.len(), q);
+    let entry = signatures::read_entry(s, names.len(), flags.len(), q);
     let fields::Read::Next(r) = entry else {
         return no_rest(fault(entry));
     };

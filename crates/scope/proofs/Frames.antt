@@ -14,7 +14,7 @@ use Rattle.rules.specs.Rules.{states, register, joins}
 use Rattle.rules.proofs.Bools.{eqb-self}
 use Rattle.rules.proofs.Shapes.{popS, shape-frame, shape-mark, shape-pop, shape-joins}
 use Rattle.scope.specs.declared.Stack.{Stack}
-use Rattle.scope.specs.Kinds.{put}
+use Rattle.state.specs.Kinds.{put}
 use Rattle.scope.specs.View.{seen, Nested, depthOf}
 use Rattle.scope.proofs.Seen.{seen-pos, seen-none}
 

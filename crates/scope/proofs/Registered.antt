@@ -12,9 +12,10 @@ use Rattle.rules.specs.State.{State as Status, alive}
 use Rattle.rules.specs.Stack.{local, inFrame, mark, Stack as Scope}
 use Rattle.rules.specs.Rules.{states, register}
 use Rattle.rules.proofs.Bools.{eqb-self}
-use Rattle.scope.specs.declared.Places.{Places}
+use Rattle.state.specs.declared.Places.{Places}
 use Rattle.scope.specs.declared.Stack.{Stack}
-use Rattle.scope.specs.View.{view, Made, Sound, Registers}
+use Rattle.state.specs.View.{Made}
+use Rattle.scope.specs.View.{view, Sound, Registers}
 use Rattle.scope.proofs.Seen.{length-seen, pushed, pushed-view, pushed-sound}
 
 length-frame : (n d : ℕ) (f : Status → Status) (σ : Scope Status) → length (inFrame n d f σ) ≡ length σ

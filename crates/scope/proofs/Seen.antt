@@ -18,10 +18,11 @@ use Rattle.rules.specs.Questions.{auto}
 use Rattle.rules.specs.State.{Kind, State as Status, alive, gone, isAlive}
 use Rattle.rules.specs.Stack.{Static, Local, local, lookup, inFrame, Stack as Scope}
 use Rattle.rules.specs.Rules.{states, Drop, dropOf, collect}
-use Rattle.scope.specs.declared.Places.{Places}
+use Rattle.state.specs.declared.Places.{Places}
 use Rattle.scope.specs.declared.Stack.{Stack}
-use Rattle.scope.specs.Kinds.{said, put}
-use Rattle.scope.specs.View.{listed, staticAt, stateAt, localAt, nowhere, seen, view, Made, Sound, depthOf}
+use Rattle.state.specs.Kinds.{said, put}
+use Rattle.state.specs.View.{listed, Made}
+use Rattle.scope.specs.View.{staticAt, stateAt, localAt, nowhere, seen, view, Sound, depthOf}
 
 pub length-seen : (n : ℕ) (s : Stack) → length (seen n s) ≡ n
 unfolding seen

@@ -5,7 +5,7 @@ use mathlib.Core.Bool.{Bool, true, cond, not, _&&_}
 use mathlib.Core.List.{List, [], _∷_}
 use mathlib.Core.Option.{Option, none, some}
 use lib.Dec.{eqb, ltb}
-use lib.ListN.{length, getD, take}
+use lib.ListN.{length, getD}
 use Rattle.tables.specs.Limits.{version1}
 use Rattle.tables.specs.Tables.{Tables}
 use Rattle.lookup.specs.declared.Found.{Found}
@@ -14,20 +14,12 @@ use Rattle.rules.specs.Questions.{auto}
 use Rattle.rules.specs.State.{State as Status}
 use Rattle.rules.specs.Stack.{Static, Local, local, Shape, shape, lookup, Stack as Scope}
 use Rattle.rules.specs.Rules.{states, Drop, dropOf, collect}
-use Rattle.rules.specs.Walk.{placesOf, crowded}
-use Rattle.scope.specs.declared.Places.{Places}
-use Rattle.scope.specs.declared.State.{State}
+use Rattle.rules.specs.Walk.{crowded}
+use Rattle.state.specs.Kinds.{said}
+use Rattle.state.specs.View.{listed, Made}
+use Rattle.state.specs.declared.Places.{Places}
 use Rattle.scope.specs.declared.Stack.{Stack}
-use Rattle.scope.specs.declared.NextPlaces.{NextPlaces}
-use Rattle.scope.specs.declared.NextState.{NextState}
 use Rattle.scope.specs.declared.Next.{Next}
-use Rattle.scope.specs.Kinds.{said}
-
-abbrev pub listed : Places → List ℕ
-listed p = take (p .count) (p .list)
-
-abbrev pub stateOf : State → Status
-stateOf s = said (s .kind) (listed (s .places))
 
 -- what reading past an array's end would give
 abbrev pub nowhere : Places
@@ -49,17 +41,6 @@ seen (suc n) s = localAt s n ∷ seen n s
 
 abbrev pub view : Stack → Scope Status
 view s = seen (s .count) s
-
--- at most 8 places, in an array of 8
-pub record Roomy (p : Places) : Type 0 where
-  pub most : p .count ≤ 8
-  pub room : length (p .list) ≡ 8
-
--- a state as the pass makes it: Alive has no places, a given-up state 1 to 8
-pub record Made (k : ℕ) (p : Places) : Type 0 where
-  pub known : k < 7
-  pub roomy : Roomy p
-  pub given : eqb k 0 ≡ eqb (p .count) 0
 
 -- what every stack of the pass meets
 pub record Sound (s : Stack) : Type 0 where
@@ -117,16 +98,6 @@ dropsAt T q p s (At i) =
 pub record Lives (s : Stack) (n : ℕ) (r : Found) : Type 0 where
   pub is : (T : Tables) (q : Static → Bool) (p : ℕ) → collect states T q p (seen n s) ≡ dropsAt T q p s r
   pub below : Below r n
-
--- the places ps, refused where there is a 9th
-pub record Fits (r : NextPlaces) (ps : List ℕ) : Type 0 where
-  pub ok : r .ok ≡ not (ltb (version1 .places) (length ps))
-  pub is : r .ok ≡ true → (listed (r .places) ≡ ps) × Roomy (r .places)
-
--- the state a, refused where it has a 9th place
-pub record Joins (r : NextState) (a : Status) : Type 0 where
-  pub ok : r .ok ≡ not (ltb (version1 .places) (length (placesOf a)))
-  pub is : r .ok ≡ true → (stateOf (r .state) ≡ a) × Made (r .state .kind) (r .state .places)
 
 -- the locals σ, refused where a state has a 9th place
 pub record JoinsAll (r : Next) (σ : Scope Status) : Type 0 where

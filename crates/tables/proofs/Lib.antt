@@ -2,4 +2,3 @@
 pub mod Placing
 pub mod Names
 pub mod Types
-pub mod Signatures

@@ -1,16 +1,10 @@
 -- The code's answers for what the definitions say.
 use Prim.Native.Nat.{ℕ, _<_}
 use mathlib.Core.Path.{_≡_}
-use mathlib.Core.List.{List, [], map}
+use mathlib.Core.List.{List, map}
 use lib.ListN.{length, getD, take}
 use Rattle.fields.specs.Parsed.{Parsed, ok, fault}
-use Rattle.fields.specs.declared.Number.{Number}
-use Rattle.fields.specs.declared.Number.the-variants.{Is, Wrong}
 use Rattle.tables.specs.Ty.{Ty}
-use Rattle.tables.specs.Signature.{Struct, rises}
-use Rattle.tables.specs.Name.{belowBytes}
-use mathlib.Core.Bool.{true, cond}
-use lib.Dec.{eqb}
 use Rattle.tables.specs.declared.ty.TypeRead.{TypeRead}
 use Rattle.tables.specs.declared.ty.TypeRead.the-variants.{OneType, NoType}
 
@@ -18,11 +12,6 @@ use Rattle.tables.specs.declared.ty.TypeRead.the-variants.{OneType, NoTy
 unfoldable pub typeOf : Parsed Ty → TypeRead
 typeOf (ok t p) = OneType (t .kind) (t .of) p
 typeOf (fault n) = NoType n
-
--- a struct's name and the position after it, or the fault's number
-unfoldable pub structNameOf : Parsed Struct → Number
-structNameOf (ok x p) = Is (x .name) p
-structNameOf (fault n) = Wrong n
 
 -- the first i positions lie within the bytes
 abbrev pub Within : List ℕ → List ℕ → ℕ → Type 0
@@ -32,7 +21,3 @@ Within s starts i = (k : ℕ) → k < i → getD starts k 0 < length s
 pub record Listed {A : Type 0} (view : ℕ → A) (s starts : List ℕ) (xs : List A) : Type 0 where
   pub placed : map view (take (length xs) starts) ≡ xs
   pub within : Within s starts (length xs)
-
--- a name rises after the structs ss exactly if i is 0 or it is above the name `last`
-pub record Ends (ns : List (List ℕ)) (ss : List Struct) (i last : ℕ) : Type 0 where
-  pub is : (name : ℕ) → rises ns ss name ≡ cond (eqb i 0) true (belowBytes (getD ns last []) (getD ns name []))

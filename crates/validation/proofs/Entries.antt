@@ -17,11 +17,11 @@ use Rattle.rules.specs.Report.{Report, error, first, badUse}
 use Rattle.rules.specs.Verdict.{entryOf, entriesOf}
 use Rattle.writing.specs.Stored.{Stored}
 use Rattle.writing.proofs.Stores.{both-stored}
-use Rattle.scope.specs.Kinds.{baseOf, said}
-use Rattle.scope.specs.View.{listed, Roomy, Made}
-use Rattle.scope.specs.declared.Places.{Places}
-use Rattle.scope.proofs.Listed.{listed-length}
-use Rattle.scope.proofs.Uses.{bad-use}
+use Rattle.state.specs.Kinds.{baseOf, said}
+use Rattle.state.specs.View.{listed, Roomy, Made}
+use Rattle.state.specs.declared.Places.{Places}
+use Rattle.state.proofs.Listed.{listed-length}
+use Rattle.state.proofs.Uses.{bad-use}
 
 pub entries-append : (xs ys : List Report) → entriesOf version1 (xs ++ ys) ≡ entriesOf version1 xs ++ entriesOf version1 ys
 entries-append [] ys = refl

@@ -22,8 +22,9 @@ use Rattle.effects.specs.Scan.{emits}
 use Rattle.effects.specs.declared.Effect.{Effect}
 use Rattle.effects.specs.declared.Effect.the-variants.{Use, UseHand, Consume}
 use Rattle.effects.specs.declared.Effect.the-variants as effect
-use Rattle.scope.specs.Kinds.{said}
-use Rattle.scope.specs.View.{listed, nowhere, stateAt, foundIn, view, Below, Finds}
+use Rattle.state.specs.Kinds.{said}
+use Rattle.state.specs.View.{listed}
+use Rattle.scope.specs.View.{nowhere, stateAt, foundIn, view, Below, Finds}
 use Rattle.scope.specs.declared.Stack.{Stack}
 use Rattle.validation.specs.Quiet.{after, told, Still}
 

@@ -13,15 +13,16 @@ ghost use Rattle.rules.specs.Report.{error, useOf, badUse, first as firstOf};
 ghost use Rattle.rules.specs.Verdict.{entryOf, entriesOf};
 ghost use Rattle.effects.specs.Raw.{uses, hands, moves};
 ghost use Rattle.effects.specs.Scan.{emits, Lent, Says};
-ghost use Rattle.scope.specs.Kinds.{baseOf, said};
-ghost use Rattle.scope.specs.View.{listed, view, Roomy, Made, Sound};
+ghost use Rattle.state.specs.Kinds.{baseOf, said};
+ghost use Rattle.state.specs.View.{listed, Roomy, Made};
+ghost use Rattle.scope.specs.View.{view, Sound};
 ghost use Rattle.scope.specs.declared.Stack.{Stack as Locals};
 ghost use Rattle.writing.specs.Stored.{Stored};
 ghost use Rattle.validation.specs.Quiet.{Still, Applies, Calm, Evaluated, Bounded};
 use effects::Effect;
 use lookup::Found;
-use scope::Places;
 use scope::Stack;
+use state::Places;
 
 // Whether expressions change nothing of the locals and report nothing; if so, where they end.
 pub struct Quiet {

@@ -20,31 +20,31 @@ Inv-loop kinds below i₀ i = (i ≤ below) × ((s : Stack) → s .kinds ≡ kin
 abbrev μ-loop : tie.MeasureT-loop
 μ-loop kinds below i₀ i = i
 
--- src/lib.rt:314:5
+-- src/lib.rt:71:5
 loop-holds : tie.Need-loop-holds Inv-loop μ-loop
 loop-holds c = (search needs, λ s e T q p. refl)
 
--- src/lib.rt:315:17
+-- src/lib.rt:72:17
 sub-k : tie.Need-sub-k Inv-loop μ-loop
 sub-k c = search needs
 
--- src/lib.rt:316:12
+-- src/lib.rt:73:12
 element-copy-out-if1 : tie.Need-element-copy-out-if1 Inv-loop μ-loop
 element-copy-out-if1 c = search needs
 
--- src/lib.rt:317:13
+-- src/lib.rt:74:13
 returns : tie.Need-returns Inv-loop μ-loop
 returns c = λ s e. record { is = λ T q p. sym (c .before .before .before .loop .inv .1 s e T q p) ∙ drop-hit s _ T q p (c .before .before .loop-test .taken) (rw e (c .if1 .taken)); below = omega (arith, c .before .before .before .loop .inv .0, c .before .before .loop-test .taken) }
 
--- src/lib.rt:314:5
+-- src/lib.rt:71:5
 loop-less : tie.Need-loop-less Inv-loop μ-loop
 loop-less c = search needs
 
--- src/lib.rt:314:5
+-- src/lib.rt:71:5
 loop-again : tie.Need-loop-again Inv-loop μ-loop
 loop-again c = (search needs, λ s e T q p. sym (drop-miss s _ T q p (c .before .before .loop-test .taken) (rw e (c .if1 .left))) ∙ c .before .before .before .loop .inv .1 s e T q p)
 
--- src/lib.rt:309:1
+-- src/lib.rt:66:1
 returns-2 : tie.Need-returns-2 Inv-loop μ-loop
 returns-2 c = λ s e. record { is = λ T q p. sym (c .before .loop .inv .1 s e T q p) ∙ drop-end s _ T q p (c .loop-test .left); below = tt }
 

@@ -1,5 +1,5 @@
 use native.Mathlib.Omega.{arith}
-use Rattle.scope.specs.View.{listed}
+use Rattle.state.specs.View.{listed}
 use Rattle.writing.proofs.Stores.{none-stored, stored-length}
 use Rattle.validation.proofs.Entries.{stored-eq, use-nothing, use-entries, entry-most, listed-most}
 use Rattle.validation.proofs.put_use.Statement.{statement}

@@ -4,8 +4,9 @@ use borrow.Author.Needs.{needs}
 use native.Mathlib.Omega.{arith}
 use mathlib.Core.Logic.{⊎-elim}
 use Rattle.rules.specs.Stack.{inFrame}
-use Rattle.scope.specs.Kinds.{put, said}
-use Rattle.scope.specs.View.{listed, stateOf, seen, view}
+use Rattle.state.specs.Kinds.{put, said}
+use Rattle.state.specs.View.{listed, stateOf}
+use Rattle.scope.specs.View.{seen, view}
 use Rattle.scope.proofs.Seen.{Marking, done-none, marking-skip, marking-put}
 use Rattle.scope.proofs.Frames.{mark-frame}
 use Rattle.scope.proofs.Stack.mark.Statement.{statement}
@@ -21,55 +22,55 @@ Inv-loop name only-alive self₀ n depth k ps at₀ self at = (at ≤ n) × Mark
 abbrev μ-loop : tie.MeasureT-loop
 μ-loop name only-alive self₀ n depth k ps at₀ self at = n - at
 
--- src/lib.rt:361:13
+-- src/lib.rt:118:13
 frame-of-requires : tie.Need-frame-of-requires Inv-loop μ-loop
 frame-of-requires c κs = c .before .before .before .pre .0 .small
 
--- src/lib.rt:365:9
+-- src/lib.rt:122:9
 loop-holds : tie.Need-loop-holds Inv-loop μ-loop
 loop-holds c = (search needs, record { same = refl; sound = c .before .before .before .before .before .pre .0; done = done-none _ _ _ _ })
 
--- src/lib.rt:366:26
+-- src/lib.rt:123:26
 mul-is-marked : tie.Need-mul-is-marked Inv-loop μ-loop
 mul-is-marked c = search needs
 
--- src/lib.rt:366:26
+-- src/lib.rt:123:26
 element-copy-out-is-marked : tie.Need-element-copy-out-is-marked Inv-loop μ-loop
 element-copy-out-is-marked c = search needs
 
--- src/lib.rt:366:48
+-- src/lib.rt:123:48
 element-copy-out-is-marked-2 : tie.Need-element-copy-out-is-marked-2 Inv-loop μ-loop
 element-copy-out-is-marked-2 c = search needs
 
--- src/lib.rt:366:84
+-- src/lib.rt:123:84
 element-copy-out-is-marked-3 : tie.Need-element-copy-out-is-marked-3 Inv-loop μ-loop
 element-copy-out-is-marked-3 c = search needs
 
--- src/lib.rt:366:16
+-- src/lib.rt:123:16
 is-marked-requires : tie.Need-is-marked-requires Inv-loop μ-loop
 is-marked-requires c κs = search needs
 
--- src/lib.rt:367:17
+-- src/lib.rt:124:17
 element-write-self : tie.Need-element-write-self Inv-loop μ-loop
 element-write-self c = search needs
 
--- src/lib.rt:368:17
+-- src/lib.rt:125:17
 mul-ps : tie.Need-mul-ps Inv-loop μ-loop
 mul-ps c = search needs
 
--- src/lib.rt:368:17
+-- src/lib.rt:125:17
 element-set-from-ps : tie.Need-element-set-from-ps Inv-loop μ-loop
 element-set-from-ps c = search needs
 
--- src/lib.rt:370:13
+-- src/lib.rt:127:13
 add-at : tie.Need-add-at Inv-loop μ-loop
 add-at c = search needs
 
--- src/lib.rt:365:9
+-- src/lib.rt:122:9
 loop-less : tie.Need-loop-less Inv-loop μ-loop
 loop-less c = search needs
 
--- src/lib.rt:365:9
+-- src/lib.rt:122:9
 loop-again : tie.Need-loop-again Inv-loop μ-loop
 loop-again c = (
   search needs,
@@ -79,7 +80,7 @@ loop-again c = (
       (c .if1 .came),
 )
 
--- src/lib.rt:356:5
+-- src/lib.rt:113:5
 returns : tie.Need-returns Inv-loop μ-loop
 returns c = let inv = c .before .loop .inv .1 in
     let f = put (c .before .before .before .before .before .before .before .args .only-alive) (stateOf (c .before .before .before .before .before .before .before .args .state)) in

@@ -4,7 +4,7 @@ use mathlib.Core.Bool.{true, false}
 use mathlib.Core.List.{[], _∷_}
 use Rattle.rules.specs.State.{State, gone, moved, handState}
 use Rattle.rules.specs.Stack.{mark}
-use Rattle.scope.specs.Kinds.{put}
+use Rattle.state.specs.Kinds.{put}
 use Rattle.scope.specs.View.{view}
 use Rattle.scope.proofs.Frames.{mark-same, hand-put}
 use borrow.Author.Needs.{needs}
@@ -13,17 +13,17 @@ use Rattle.scope.proofs.Stack.mark_compiler_temp_consumed.Tie as tie
 use Rattle.scope.proofs.Stack.mark_compiler_temp_consumed.Reads as reads
 use Rattle.scope.proofs.Stack.mark_compiler_temp_consumed.Lts as lts
 use Rattle.scope.proofs.Stack.mark.Reads as mark-reads
-use Rattle.scope.proofs.State.at.Reads as at-reads
+use Rattle.state.proofs.State.at.Reads as at-reads
 
--- src/lib.rt:417:25
+-- src/lib.rt:174:25
 at-requires : tie.Need-at-requires
 at-requires c κs = search needs
 
--- src/lib.rt:417:9
+-- src/lib.rt:174:9
 mark-requires : tie.Need-mark-requires
 mark-requires c κs = (c .before .pre, c .at .ensures .1)
 
--- src/lib.rt:413:5
+-- src/lib.rt:170:5
 returns : tie.Need-returns
 returns c = (
   c .mark .ensures .0,

@@ -7,13 +7,13 @@ use Rattle.scope.proofs.Stack.new.Statement.{statement}
 use Rattle.scope.proofs.Stack.new.Tie as tie
 use Rattle.scope.proofs.Stack.new.Reads as reads
 use Rattle.scope.proofs.Stack.new.Lts as lts
-use Rattle.scope.proofs.Places.none.Reads as none-reads
+use Rattle.state.proofs.Places.none.Reads as none-reads
 
--- src/lib.rt:344:13
+-- src/lib.rt:101:13
 none-requires : tie.Need-none-requires
 none-requires c κs = search needs
 
--- src/lib.rt:341:5
+-- src/lib.rt:98:5
 returns : tie.Need-returns
 returns c = (record { small = omega arith; nameRoom = refl; typeRoom = refl; depthRoom = refl; kindRoom = refl; placeRoom = refl; made = λ i l. absurd (omega arith) }, seen-none 0 _ (omega arith))
 
