@@ -6,11 +6,11 @@ use mathlib.Core.List.{List, [], _∷_}
 use lib.ListN.{length}
 use Rattle.writing.specs.Stored.{Stored}
 use Rattle.writing.proofs.Stores.{both-stored}
-use Rattle.walk.specs.Walks.{Memory}
-use Rattle.ownership_pass.specs.Entries.{Passes}
-use Rattle.ownership_pass.specs.declared.Totals.{Totals}
-use Rattle.ownership_pass.specs.declared.Outcome.{Outcome}
-use Rattle.ownership_pass.specs.declared.Outcome.the-variants.{Accepted, Refused}
+use Rattle.fronts.specs.Walks.{Memory}
+use Rattle.judge.specs.Passes.{Passes}
+use Rattle.judge.specs.declared.Totals.{Totals}
+use Rattle.judge.specs.declared.Outcome.{Outcome}
+use Rattle.judge.specs.declared.Outcome.the-variants.{Accepted, Refused}
 use Rattle.ownership.specs.Text.{acceptedWord, refusedWord, warningWord, leftWord, line, lines, errorLine, pairLine, Reports}
 
 -- what the program lends

@@ -10,7 +10,7 @@ use lib.ListN.{length, getD}
 use lib.Seq.{slice, slice-empty}
 use Rattle.writing.specs.Stored.{Stored}
 use Rattle.writing.proofs.Stores.{both-stored, none-stored, slice-step}
-use Rattle.walk.proofs.Wrotes.{stored-as}
+use Rattle.fronts.proofs.Wrotes.{stored-as}
 use Rattle.ownership.specs.Text.{spell, numbers, line, errorLine, lines}
 
 module _ {xs ys : List ℕ} {at r : ℕ} where

@@ -7,10 +7,10 @@ use lib.Dec.{ltb}
 use lib.ListN.{length, getD}
 use lib.Seq.{slice}
 use Rattle.writing.specs.Stored.{Stored}
-use Rattle.walk.specs.Walks.{Memory}
-use Rattle.ownership_pass.specs.Entries.{Passes}
-use Rattle.ownership_pass.specs.declared.Outcome.{Outcome}
-use Rattle.ownership_pass.specs.declared.Outcome.the-variants.{Accepted, Refused}
+use Rattle.fronts.specs.Walks.{Memory}
+use Rattle.judge.specs.Passes.{Passes}
+use Rattle.judge.specs.declared.Outcome.{Outcome}
+use Rattle.judge.specs.declared.Outcome.the-variants.{Accepted, Refused}
 
 -- the decimal digits of a number of at most k + 1 digits
 unfoldable pub spell : ℕ → ℕ → List ℕ

@@ -7,10 +7,10 @@ ghost use lib.ListN.{length};
 ghost use lib.Seq.{slice};
 ghost use Rattle.writing.specs.Stored.{Stored};
 ghost use Rattle.ownership.specs.Text.{acceptedWord, refusedWord, spell, numbers, line, errorLine, pairLine, lines, Reports};
+use judge::Outcome;
+use judge::Totals;
 use libc::STDIN_FILENO;
 use libc::STDOUT_FILENO;
-use ownership_pass::Outcome;
-use ownership_pass::Totals;
 
 fn wide(x: u32) -> u64
     ensures { λ r. ⌜ r ≡ x ⌝ }

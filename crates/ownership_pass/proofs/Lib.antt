@@ -1,5 +1,3 @@
-pub mod Whole
-pub mod Rooms
 pub mod Readings
 pub mod Promises
 pub mod Within

@@ -16,11 +16,11 @@ use Rattle.rules.specs.Walk.{imageFault}
 use Rattle.rules.specs.Verdict.{Lent, Answer, answerOf, Verdict, refuses, answers, listsFit, outputFits, fitted, walked, decided, passVerdict}
 use Rattle.rules.proofs.Project.{demand3}
 use Rattle.rules.proofs.Pieces.{struck}
-use Rattle.walk.specs.Walks.{Memory}
-use Rattle.ownership_pass.specs.declared.Totals.{Totals}
-use Rattle.ownership_pass.specs.declared.Outcome.{Outcome}
-use Rattle.ownership_pass.specs.declared.Outcome.the-variants.{Accepted, Refused}
-use Rattle.ownership_pass.specs.Entries.{Passes, outcomeOf, over, memoryAfter, verdictOn}
+use Rattle.fronts.specs.Walks.{Memory}
+use Rattle.judge.specs.declared.Totals.{Totals}
+use Rattle.judge.specs.declared.Outcome.{Outcome}
+use Rattle.judge.specs.declared.Outcome.the-variants.{Accepted, Refused}
+use Rattle.judge.specs.Passes.{Passes, outcomeOf, over, memoryAfter, verdictOn}
 use Rattle.ownership_pass.specs.Promise.{Promise, Kept}
 
 refuses-nothing : {C : Type 0} {n : ℕ} {a : Answer} → refuses n ≡ answers a → C

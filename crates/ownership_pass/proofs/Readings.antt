@@ -23,21 +23,19 @@ use Rattle.rules.specs.Verdict.{roomFault, roomFaultOf, RoomFor}
 use Rattle.rules.proofs.Longer.{room-met}
 use Rattle.steps.specs.Own.{numberOf}
 use Rattle.steps.proofs.Faults.{real-none}
-use Rattle.walk.specs.Walks.{Memory}
-use Rattle.walk.specs.declared.Env.{Env}
-use Rattle.walk.specs.declared.Walk.{Walk}
+use Rattle.fronts.specs.Walks.{Memory}
+use Rattle.fronts.specs.declared.Env.{Env}
+use Rattle.fronts.specs.declared.Walk.{Walk}
 use Rattle.ownership_pass.specs.declared.Answer.{Answer}
 use Rattle.ownership_pass.specs.declared.Answer.the-variants.{Needed, Denied}
-use Rattle.ownership_pass.specs.declared.Totals.{Totals}
-use Rattle.ownership_pass.specs.declared.Outcome.{Outcome}
-use Rattle.ownership_pass.specs.declared.Outcome.the-variants.{Accepted, Refused}
-use Rattle.ownership_pass.specs.Entries.{Passes, outcomeOf, memoryAfter, verdictOn, totalsAfter, RoomIs, RoomLeaves}
+use Rattle.judge.specs.declared.Totals.{Totals}
+use Rattle.judge.specs.declared.Outcome.{Outcome}
+use Rattle.judge.specs.declared.Outcome.the-variants.{Accepted, Refused}
+use Rattle.judge.specs.Passes.{Passes, outcomeOf, memoryAfter, verdictOn}
+use Rattle.ownership_pass.specs.Entries.{totalsAfter, RoomIs, RoomLeaves}
 use Rattle.ownership_pass.specs.Entries.{numberOf as outcomeNumber}
-use Rattle.ownership_pass.specs.Images.{Stands, ImageWalks, Measures}
-use Rattle.ownership_pass.proofs.Rooms.{fault-some, real-image}
-
-pub measured : (s : List ℕ) {m m′ : Memory} {r : Walk} → ImageWalks s m r m′ → Measures s r
-measured s g = record { walks = λ i e. (g .walks i e .0, λ z. g .walks i e .1 z .long) }
+use Rattle.whole_image.specs.Images.{Stands, Measures}
+use Rattle.judge.proofs.Rooms.{fault-some, real-image}
 
 abbrev pub envIn : Layout → Env
 envIn l = record { globals = l .rest .«global_count»; first = l .rest .globals; left = 12 }

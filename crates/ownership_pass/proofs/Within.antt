@@ -14,11 +14,11 @@ use Rattle.image.specs.Image.{Image, Decoded, accepted, refused, decode}
 use Rattle.rules.specs.Report.{returnedImage}
 use Rattle.rules.specs.Walk.{imageFault}
 use Rattle.rules.specs.Verdict.{Answer, answerOf, Verdict, refuses, answers, imageCountsFit, fitted, walked, decided, passVerdict}
-use Rattle.walk.specs.Walks.{Memory}
-use Rattle.ownership_pass.specs.declared.Totals.{Totals}
-use Rattle.ownership_pass.specs.declared.Outcome.{Outcome}
-use Rattle.ownership_pass.specs.declared.Outcome.the-variants.{Accepted, Refused}
-use Rattle.ownership_pass.specs.Entries.{lentOf, outcomeOf, verdictOn, Passes}
+use Rattle.fronts.specs.Walks.{Memory}
+use Rattle.judge.specs.declared.Totals.{Totals}
+use Rattle.judge.specs.declared.Outcome.{Outcome}
+use Rattle.judge.specs.declared.Outcome.the-variants.{Accepted, Refused}
+use Rattle.judge.specs.Passes.{lentOf, outcomeOf, verdictOn, Passes}
 
 pub record Within (m : Memory) (t : Totals) : Type 0 where
   pub written : t .written ≤ length (m .out)

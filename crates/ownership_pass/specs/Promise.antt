@@ -9,8 +9,8 @@ use Rattle.rules.specs.Rules.{localsOf, PlainBody, decideBody}
 use Rattle.rules.specs.Report.{returnedImage}
 use Rattle.rules.specs.Run.{Demand3}
 use Rattle.rules.specs.Pieces.{Struck}
-use Rattle.walk.specs.Walks.{Memory}
-use Rattle.ownership_pass.specs.Entries.{over}
+use Rattle.fronts.specs.Walks.{Memory}
+use Rattle.judge.specs.Passes.{over}
 
 -- the image that was read; the bytes written in front of the output are those of the tree that is given back, which for a plain body
 -- meets demand 3's first and second sentences, and always its third: striking the insertions out gives the image again

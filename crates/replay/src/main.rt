@@ -4,10 +4,10 @@ ghost use mathlib.Core.Path.{_≡_};
 ghost use Prim.Native.Nat.{_+_, _*_, _≤_, _<_};
 ghost use lib.ListN.{length};
 ghost use Rattle.replay.specs.Record.{Listed, Stands, Inside};
+use judge::Outcome;
+use judge::Totals;
 use libc::STDOUT_FILENO;
 use ownership_pass::Answer;
-use ownership_pass::Outcome;
-use ownership_pass::Totals;
 
 // Where a record's parts stand: the end of its label and of its image, the bytes given back, the lists, the record's end.
 struct Record {

@@ -3,7 +3,7 @@ use borrow.Author.Needs.{needs}
 use mathlib.Core.Path.{ap, sym}
 use lib.ListN.{length}
 use lib.Seq.{take-length}
-use Rattle.walk.proofs.Wrotes.{stored-as}
+use Rattle.fronts.proofs.Wrotes.{stored-as}
 use borrow.Author.Needs.{needs}
 use Rattle.ownership.proofs.put_text.Statement.{statement}
 use Rattle.ownership.proofs.put_text.Tie as tie

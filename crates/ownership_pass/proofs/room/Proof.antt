@@ -2,7 +2,7 @@ use native.Mathlib.Omega.{arith}
 use mathlib.Core.Path.{_≡_, sym, ap, _∙_}
 use borrow.Author.Needs.{needs}
 use lib.Seq.{length-take-le}
-use Rattle.ownership_pass.proofs.Rooms.{refused-read}
+use Rattle.judge.proofs.Rooms.{refused-read}
 use Rattle.ownership_pass.proofs.Readings.{names-few, types-few, structs-few, stands-of, room-denied, room-needed, room-unread}
 use Rattle.ownership_pass.proofs.room.Statement.{statement}
 use Rattle.ownership_pass.proofs.room.Tie as tie
@@ -10,53 +10,53 @@ use Rattle.ownership_pass.proofs.room.Reads as reads
 use Rattle.ownership_pass.proofs.room.Lts as lts
 use Rattle.image.proofs.read_image.Reads as read-image-reads
 use Rattle.ownership_pass.proofs.env_of.Reads as env-of-reads
-use Rattle.ownership_pass.proofs.measure.Reads as measure-reads
+use Rattle.whole_image.proofs.measure.Reads as measure-reads
 
--- src/lib.rt:327:9
+-- src/lib.rt:63:9
 read-image-requires : tie.Need-read-image-requires
 read-image-requires c κs = search needs
 
--- src/lib.rt:330:9
+-- src/lib.rt:66:9
 returns : tie.Need-returns
 returns c = room-unread (c .before .before .before .args .s .now) (c .before .read-image .result .fault) (c .before .read-image .ensures .fault) (c .if1 .taken)
 
--- src/lib.rt:337:14
+-- src/lib.rt:73:14
 array-share-prefix-names : tie.Need-array-share-prefix-names
 array-share-prefix-names c = names-few (c .before .before .before .before .before .before .before .before .args .s .now) (c .before .before .before .before .before .before .read-image .result) (c .before .before .before .before .before .before .read-image .ensures) (λ z. omega (arith, z, c .before .before .before .before .before .if1 .left))
 
--- src/lib.rt:337:9
+-- src/lib.rt:73:9
 slice-aggregate-ns : tie.Need-slice-aggregate-ns
 slice-aggregate-ns c = sym (length-take-le _ _ (names-few (c .before .before .before .before .before .before .before .before .before .args .s .now) (c .before .before .before .before .before .before .before .read-image .result) (c .before .before .before .before .before .before .before .read-image .ensures) (λ z. omega (arith, z, c .before .before .before .before .before .before .if1 .left))))
 
--- src/lib.rt:338:14
+-- src/lib.rt:74:14
 array-share-prefix-types : tie.Need-array-share-prefix-types
 array-share-prefix-types c = types-few (c .before .before .before .before .before .before .before .before .before .args .s .now) (c .before .before .before .before .before .before .before .read-image .result) (c .before .before .before .before .before .before .before .read-image .ensures) (λ z. omega (arith, z, c .before .before .before .before .before .before .if1 .left))
 
--- src/lib.rt:338:9
+-- src/lib.rt:74:9
 slice-aggregate-ts : tie.Need-slice-aggregate-ts
 slice-aggregate-ts c = sym (length-take-le _ _ (types-few (c .before .before .before .before .before .before .before .before .before .before .args .s .now) (c .before .before .before .before .before .before .before .before .read-image .result) (c .before .before .before .before .before .before .before .before .read-image .ensures) (λ z. omega (arith, z, c .before .before .before .before .before .before .before .if1 .left))))
 
--- src/lib.rt:339:14
+-- src/lib.rt:75:14
 array-share-prefix-structs : tie.Need-array-share-prefix-structs
 array-share-prefix-structs c = structs-few (c .before .before .before .before .before .before .before .before .before .before .args .s .now) (c .before .before .before .before .before .before .before .before .read-image .result) (c .before .before .before .before .before .before .before .before .read-image .ensures) (λ z. omega (arith, z, c .before .before .before .before .before .before .before .if1 .left))
 
--- src/lib.rt:339:9
+-- src/lib.rt:75:9
 slice-aggregate-xs : tie.Need-slice-aggregate-xs
 slice-aggregate-xs c = sym (length-take-le _ _ (structs-few (c .before .before .before .before .before .before .before .before .before .before .before .args .s .now) (c .before .before .before .before .before .before .before .before .before .read-image .result) (c .before .before .before .before .before .before .before .before .before .read-image .ensures) (λ z. omega (arith, z, c .before .before .before .before .before .before .before .before .if1 .left))))
 
--- src/lib.rt:340:36
+-- src/lib.rt:76:49
 env-of-requires : tie.Need-env-of-requires
 env-of-requires c κs = search needs
 
--- src/lib.rt:340:9
+-- src/lib.rt:76:9
 measure-requires : tie.Need-measure-requires
 measure-requires c κs = stands-of (c .before .before .before .before .before .before .before .before .before .before .before .before .args .s .now) (c .before .before .before .before .before .before .before .before .before .before .read-image .result) (c .before .before .before .before .before .before .before .before .before .before .read-image .ensures) (λ z. omega (arith, z, c .before .before .before .before .before .before .before .before .before .if1 .left)) (c .env-of .result) (c .env-of .ensures)
 
--- src/lib.rt:343:9
+-- src/lib.rt:79:9
 returns-2 : tie.Need-returns-2
 returns-2 c = room-denied (c .before .before .before .before .before .before .before .before .before .before .before .before .before .before .args .s .now) (c .before .before .before .before .before .before .before .before .before .before .before .before .read-image .result) (c .before .before .before .before .before .before .before .before .before .before .before .before .read-image .ensures) (λ z. omega (arith, z, c .before .before .before .before .before .before .before .before .before .before .before .if1 .left)) (c .before .measure .result) (c .before .measure .ensures) (c .if2 .taken)
 
--- src/lib.rt:324:1
+-- src/lib.rt:60:1
 returns-3 : tie.Need-returns-3
 returns-3 c = room-needed (c .before .before .before .before .before .before .before .before .before .before .before .before .before .before .before .args .s .now) (c .before .before .before .before .before .before .before .before .before .before .before .before .before .read-image .result) (c .before .before .before .before .before .before .before .before .before .before .before .before .before .read-image .ensures) (λ z. omega (arith, z, c .before .before .before .before .before .before .before .before .before .before .before .before .if1 .left)) (c .before .before .measure .result) (c .before .before .measure .ensures) (λ z. omega (arith, z, c .before .if2 .left))
 

@@ -8,10 +8,9 @@ use mathlib.Core.List.{List, [], _∷_, _++_}
 use mathlib.Core.Option.{Option, none, some}
 use borrow.Author.Tests.{lt-leb, le-leb, leb-true}
 use lib.Dec.{leb}
-use lib.ListN.{length, length-append, set, getD, take, drop, replicate}
-use lib.Seq.{sets, sets-eq, slice, slice-cons, slice-empty, take-append-seam, length-take-le}
+use lib.ListN.{length, length-append, take, drop, replicate}
+use lib.Seq.{sets, sets-eq, slice, take-append-seam, length-take-le}
 use mathlib.Core.Logic.{⊎-elim}
-use native.Mathlib.Numerals.{add-one}
 use Rattle.fields.proofs.Tests.{less}
 use Rattle.tables.specs.Limits.{version1}
 use Rattle.lookup.specs.First.{orElse}
@@ -25,44 +24,13 @@ use Rattle.writing.proofs.Stores.{stored-length}
 use Rattle.steps.specs.Own.{numberOf}
 use Rattle.steps.proofs.Faults.{Real, real-none, real-many, real-walk}
 use Rattle.statements.specs.declared.Place.{Place}
-use Rattle.walk.specs.Walks.{Memory, memory}
-use Rattle.ownership_pass.specs.declared.Outcome.{Outcome}
-use Rattle.ownership_pass.specs.declared.Outcome.the-variants.{Accepted, Refused}
-use Rattle.ownership_pass.specs.Entries.{lentOf, outcomeOf, over, memoryAfter, verdictOn, Passes}
-use Rattle.walk.specs.declared.Env.{Env}
-use Rattle.walk.specs.declared.Walk.{Walk}
-use Rattle.ownership_pass.specs.Images.{Stands, ImageDone, ImageWalks, lackOf}
-
-module _ (p : Place) (bytes errs warns lefts : ℕ) where
-  pub lack-errors : errs < p .errors → 14 ≡ lackOf p bytes errs warns lefts
-  lack-errors a = rw (lt-leb (p .errors) errs a)
-
-  module _ (a : p .errors ≤ errs) where
-    pub lack-warnings : warns < p .warnings → 14 ≡ lackOf p bytes errs warns lefts
-    lack-warnings b = rw (le-leb (p .errors) errs a, lt-leb (p .warnings) warns b)
-
-    module _ (b : p .warnings ≤ warns) where
-      pub lack-lefts : lefts < p .lefts → 14 ≡ lackOf p bytes errs warns lefts
-      lack-lefts c = rw (le-leb (p .errors) errs a, le-leb (p .warnings) warns b, lt-leb (p .lefts) lefts c)
-
-      module _ (c : p .lefts ≤ lefts) where
-        pub lack-bytes : bytes < p .written → 15 ≡ lackOf p bytes errs warns lefts
-        lack-bytes d = rw (le-leb (p .errors) errs a, le-leb (p .warnings) warns b, le-leb (p .lefts) lefts c, lt-leb (p .written) bytes d)
-
-        module _ (d : p .written ≤ bytes) where
-          pub lack-none : p .fits ≡ true → 0 ≡ lackOf p bytes errs warns lefts
-          lack-none f = rw (le-leb (p .errors) errs a, le-leb (p .warnings) warns b, le-leb (p .lefts) lefts c, le-leb (p .written) bytes d, f)
-
-          pub lack-count : p .fits ≡ false → 15 ≡ lackOf p bytes errs warns lefts
-          lack-count f = rw (le-leb (p .errors) errs a, le-leb (p .warnings) warns b, le-leb (p .lefts) lefts c, le-leb (p .written) bytes d, f)
-
--- one more number copied
-pub copied-next : (xs l : List ℕ) (i t : ℕ) → i < t → t ≤ length l → sets (set xs i (getD l i 0)) (i + 1) (slice (i + 1) t l) ≡ sets xs i (slice i t l)
-copied-next xs l i t h k =
-    ap (λ n. sets (set xs i (getD l i 0)) n (slice n t l)) (add-one i) ∙ ap (sets xs i) (sym (slice-cons i t l 0 h k))
-
-pub copied-end : (xs l : List ℕ) (i t : ℕ) → i ≡ t → sets xs i (slice i t l) ≡ xs
-copied-end xs l i t e = ap (λ n. sets xs n (slice n t l)) e ∙ ap (sets xs t) (slice-empty t l)
+use Rattle.fronts.specs.Walks.{Memory, memory}
+use Rattle.judge.specs.declared.Outcome.{Outcome}
+use Rattle.judge.specs.declared.Outcome.the-variants.{Accepted, Refused}
+use Rattle.judge.specs.Passes.{lentOf, outcomeOf, over, memoryAfter, verdictOn, Passes}
+use Rattle.fronts.specs.declared.Env.{Env}
+use Rattle.fronts.specs.declared.Walk.{Walk}
+use Rattle.whole_image.specs.Images.{Stands, ImageDone, ImageWalks, lackOf}
 
 -- numbers stored where there is room for them
 pub front-stored : (old vs : List ℕ) → length vs ≤ length old → sets old 0 vs ≡ over vs old

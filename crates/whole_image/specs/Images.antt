@@ -18,9 +18,9 @@ use Rattle.rules.specs.Verdict.{entriesOf, imageCountsFit}
 use Rattle.writing.specs.Stored.{Stored}
 use Rattle.steps.specs.Own.{numberOf}
 use Rattle.statements.specs.declared.Place.{Place}
-use Rattle.walk.specs.Walks.{Memory}
-use Rattle.walk.specs.declared.Env.{Env}
-use Rattle.walk.specs.declared.Walk.{Walk}
+use Rattle.fronts.specs.Walks.{Memory}
+use Rattle.fronts.specs.declared.Env.{Env}
+use Rattle.fronts.specs.declared.Walk.{Walk}
 
 -- an image was read, and its parts stand there
 pub record Stands (s ns ts xs : List ℕ) (env : Env) (entry body : ℕ) : Type 0 where

@@ -38,16 +38,16 @@ use Rattle.steps.proofs.Plain.{few-locals}
 use Rattle.statements.specs.declared.Place.{Place}
 use Rattle.statements.specs.Act.{Within, Grows}
 use Rattle.statements.proofs.Slices.{written-slice}
-use Rattle.walk.specs.declared.Walk.{Walk}
-use Rattle.walk.specs.Walks.{Memory, memory, Wrote, BlockDone, BlockWalks, Ready, Safe}
-use Rattle.walk.proofs.Branches.{block-end}
-use Rattle.walk.proofs.Changes.{few-seen}
-use Rattle.walk.proofs.Wrotes.{stored-as}
+use Rattle.fronts.specs.declared.Walk.{Walk}
+use Rattle.fronts.specs.Walks.{Memory, memory, Wrote, BlockDone, BlockWalks, Ready, Safe}
+use Rattle.fronts.proofs.Block.{block-end}
+use Rattle.fronts.proofs.Changes.{few-seen}
+use Rattle.fronts.proofs.Wrotes.{stored-as}
 use Rattle.returns.specs.Returns.{BlockThere}
 use Rattle.entering.specs.Enters.{EntryThere, Enters}
 use Rattle.effects.specs.Scan.{Says}
-use Rattle.walk.specs.declared.Env.{Env}
-use Rattle.ownership_pass.specs.Images.{Stands, ImageDone, ImageWalks}
+use Rattle.fronts.specs.declared.Env.{Env}
+use Rattle.whole_image.specs.Images.{Stands, ImageDone, ImageWalks, Measures}
 
 one-image : (s : List ℕ) {i j : Image} → decode version1 s ≡ accepted i → decode version1 s ≡ accepted j → i ≡ j
 one-image s {i} {j} a b = let e : accepted i ≡ accepted j = sym a ∙ b in cc
@@ -248,3 +248,6 @@ module _ (s ns ts xs : List ℕ) (small : Bytes s) (env : Env) (entry body : ℕ
           walks-as (memory out₃ errs₂ warns₂ lefts₂) (λ f.
           image-done s small (h .i) (h .read) body (h .walked) st (entered .framed .sound) locals-are written (memory out errs warns lefts) _ (memory out₂ errs₂ warns₂ lefts₂) (memory out₃ errs₂ warns₂ lefts₂) r
           (env .left) (h .left) front p ep walks-it f (end-low r d safe z) n last refl refl refl refl refl refl)
+
+pub measured : (s : List ℕ) {m m′ : Memory} {r : Walk} → ImageWalks s m r m′ → Measures s r
+measured s g = record { walks = λ i e. (g .walks i e .0, λ z. g .walks i e .1 z .long) }
