@@ -2,15 +2,10 @@
 // scope stack are lent, so that no stack is copied.
 ghost use mathlib.Core.Path.{_≡_};
 ghost use mathlib.Core.Bool.{_&&_};
-ghost use mathlib.Core.List.{map};
 ghost use Prim.Native.Nat.{ℕ, _+_, _≤_, _<_};
 ghost use lib.ListN.{length};
 ghost use Rattle.tables.specs.Limits.{version1};
 ghost use Rattle.tables.specs.Tables.{Tables};
-ghost use Rattle.tables.specs.Ty.{typeIn};
-ghost use Rattle.tables.specs.Signature.{structIn};
-ghost use Rattle.lookup.specs.First.{AllWithin};
-ghost use Rattle.lookup.specs.Ty.{Lower};
 ghost use Rattle.rules.specs.Expr.{called};
 ghost use Rattle.rules.specs.Questions.{auto};
 ghost use Rattle.rules.specs.Stack.{Static};

@@ -2,39 +2,32 @@
 use Prim.Native.Nat.{ℕ, suc, _+_, _-_, _%_, _≤_, _<_}
 use mathlib.Core.Path.{_≡_}
 use mathlib.Core.Bool.{Bool, true, false, cond, not, _&&_}
-use mathlib.Core.List.{List, [], _++_}
-use mathlib.Core.Option.{Option, none, some}
-use lib.ListN.{length, getD}
+use mathlib.Core.List.{List, []}
+use mathlib.Core.Option.{none, some}
+use lib.ListN.{length}
 use lib.Dec.{leb}
 use Rattle.fields.specs.Number.{two, four}
 use Rattle.fields.specs.Bytes.{twoBytes}
-use Rattle.fields.specs.Parsed.{Parsed, ok}
+use Rattle.fields.specs.Parsed.{ok}
 use Rattle.tables.specs.Limits.{version1}
 use Rattle.tables.specs.Tables.{Tables}
-use Rattle.body.specs.Expr.{Expr, Scope as Reading}
-use Rattle.body.specs.Stmt.{Tree, Block, Stmt, done, ifElse, ifThen, while, before, stmtAt, stmtIn, stmtsAt, blockAt}
-use Rattle.encoding.specs.Body.{size, encodeCode}
+use Rattle.body.specs.Expr.{Scope as Reading}
+use Rattle.body.specs.Stmt.{Stmt, done, before, stmtIn}
 use Rattle.rules.specs.State.{State as Status}
 use Rattle.rules.specs.Stack.{pop, Stack as Scope}
-use Rattle.rules.specs.Rules.{Drop, states, tailDrops, sureFrom, joins, merge, exit}
-use Rattle.rules.specs.Report.{Report, report, errors, warnings, lefts}
-use Rattle.rules.specs.Walk.{tooMany, tooWide, crowded, walkFault}
-use Rattle.rules.specs.Verdict.{entriesOf, countsFit}
+use Rattle.rules.specs.Rules.{Drop, states, tailDrops, sureFrom, joins, merge}
+use Rattle.rules.specs.Report.{errors, warnings, lefts}
+use Rattle.rules.specs.Walk.{tooWide, crowded}
 use Rattle.scope.specs.View.{view, Sound, Framed}
 use Rattle.scope.specs.declared.Stack.{Stack}
 use Rattle.scope.specs.declared.Next.{Next}
 use Rattle.drops.specs.Drops.{deleteBytes}
 use Rattle.writing.specs.Stored.{Stored}
-use Rattle.validation.specs.Quiet.{Calm}
-use Rattle.validation.specs.declared.Quiet.{Quiet}
-use Rattle.returns.specs.Front.{frontAt}
-use Rattle.returns.specs.Returns.{StmtThere, BlockThere, BranchesThere}
-use Rattle.steps.specs.Statement.{simple, frontDrops}
+use Rattle.returns.specs.Returns.{StmtThere}
 use Rattle.statements.specs.declared.Place.{Place}
-use Rattle.statements.specs.Act.{Within, Grows}
+use Rattle.statements.specs.Act.{Within}
 use Rattle.fronts.specs.declared.Walk.{Walk}
-use Rattle.fronts.specs.declared.Quietly.{Quietly}
-use Rattle.steps.specs.Own.{numberOf, Own, byte, both, returned, blocksOwn, blocksFault, blocksAfter, blockOwn, own, ownFault, ownAfter, valued}
+use Rattle.steps.specs.Own.{numberOf}
 
 -- the deletes at the end of a block of depth d and span sp, unless it surely returns
 abbrev pub tail : Tables → Bool → ℕ → ℕ → Scope Status → List Drop

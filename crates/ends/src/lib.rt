@@ -2,13 +2,11 @@
 // Throughout, ns, ts and xs are where the names, types and structs stand in the image s, and ln, lt, ld and lk the names, types,
 // depths and states of the n locals, all lent.
 ghost use mathlib.Core.Path.{_≡_};
-ghost use mathlib.Core.Bool.{false, _&&_, _||_};
-ghost use mathlib.Core.List.{List};
-ghost use Prim.Native.Nat.{ℕ, suc, _+_, _-_, _≤_, _<_};
-ghost use lib.Dec.{eqb, leb};
+ghost use mathlib.Core.Bool.{false, _&&_};
+ghost use Prim.Native.Nat.{suc, _+_, _-_, _≤_, _<_};
+ghost use lib.Dec.{leb};
 ghost use lib.ListN.{length};
 ghost use Rattle.tables.specs.Tables.{Tables};
-ghost use Rattle.effects.specs.Scan.{Lent, Says};
 ghost use Rattle.scope.specs.View.{view, Sound, Branches};
 ghost use Rattle.writing.specs.Stored.{Stored};
 ghost use Rattle.drops.specs.Drops.{deleteBytes, Askable, Tells};

@@ -1,11 +1,11 @@
 -- A statement: its values evaluated, its front walked, and then its change or its blocks.
 -- Assumes nothing.
-use Prim.Native.Nat.{ℕ, zero, suc, _+_, _-_, _*_, _≤_, _<_}
+use Prim.Native.Nat.{ℕ, zero, suc, _+_, _-_, _≤_}
 use native.Mathlib.Omega.{arith}
 use mathlib.Core.Path.{_≡_, refl, sym, ap, _∙_, subst}
 use mathlib.Core.Bool.{Bool, true, false, _||_}
 use mathlib.Core.List.{List}
-use mathlib.Core.Option.{Option, none}
+use mathlib.Core.Option.{none}
 use borrow.Author.Tests.{eqb-true, eqb-false}
 use lib.Dec.{eqb}
 use lib.ListN.{length, getD}
@@ -16,15 +16,14 @@ use Rattle.fields.specs.Bytes.{Bytes}
 use Rattle.tables.specs.Limits.{version1}
 use Rattle.tables.specs.Tables.{Tables}
 use Rattle.body.specs.Expr.{Expr, Scope as Reading, exprAt}
-use Rattle.body.specs.Stmt.{Tree, Block, Stmt, done, block, ifElse, ifThen, while, before, blockAt, stmtIn}
+use Rattle.body.specs.Stmt.{Tree, Block, Stmt, done, block, ifThen, while, before, blockAt, stmtIn}
 use Rattle.body.proofs.Statements.{Branched, stmt-block, stmt-if, stmt-while}
-use Rattle.encoding.specs.Body.{encodeExpr}
 use Rattle.encoding.proofs.ExprWritten.{expr-written}
 use Rattle.rules.specs.State.{State as Status}
 use Rattle.rules.specs.Stack.{shape, Stack as Scope}
 use Rattle.rules.specs.Report.{exprBytes}
 use Rattle.rules.specs.Walk.{tooMany}
-use Rattle.scope.specs.View.{view, Sound, Framed, Nested}
+use Rattle.scope.specs.View.{view, Nested}
 use Rattle.scope.specs.declared.Stack.{Stack}
 use Rattle.writing.specs.Stored.{Stored}
 use Rattle.rules.specs.Verdict.{entriesOf}
@@ -35,15 +34,15 @@ use Rattle.returns.specs.Returns.{StmtThere, BlockThere}
 use Rattle.returns.proofs.Fronts.{front-values}
 use Rattle.statements.specs.declared.Place.{Place}
 use Rattle.statements.specs.declared.Act.{Act}
-use Rattle.statements.specs.Act.{changeIn, takenIn, Within, Grows, Acts, ActsThere}
+use Rattle.statements.specs.Act.{changeIn, takenIn, Grows, Acts, ActsThere}
 use Rattle.steps.specs.Statement.{valuesOf, frontSize, settle}
-use Rattle.steps.specs.Own.{numberOf, valued, ownFault, ownAfter, blockless}
-use Rattle.steps.proofs.Plain.{few-locals, blockless-fault, blockless-before}
+use Rattle.steps.specs.Own.{numberOf, valued, ownFault, blockless}
+use Rattle.steps.proofs.Plain.{blockless-fault, blockless-before}
 use Rattle.steps.proofs.Faults.{real-none, real-own}
 use Rattle.steps.proofs.Shaped.{shape-values, nested-own}
 use Rattle.fronts.specs.declared.Walk.{Walk}
-use Rattle.fronts.specs.Walks.{Memory, memory, Ready, Safe, StmtDone, StmtWalks, BlocksWalk, BlockWalks, IfThere, TagThere, IfWalks, TagWalks, Settles, blocked, FrontWalks, FrontSafe}
-use Rattle.fronts.proofs.Wrotes.{grows-both, within-on}
+use Rattle.fronts.specs.Walks.{Memory, memory, Ready, Safe, StmtDone, BlocksWalk, TagThere, IfWalks, TagWalks, Settles, blocked, FrontWalks, FrontSafe}
+use Rattle.fronts.proofs.Wrotes.{within-on}
 use Rattle.fronts.proofs.Fronts.{plain-done, blocks-done}
 use Rattle.fronts.proofs.Block.{block-blocks}
 use Rattle.fronts.proofs.Changes.{few-seen}

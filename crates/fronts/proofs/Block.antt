@@ -1,34 +1,28 @@
 -- Where a block ends, and a Block statement.
 -- Assumes nothing.
-use Prim.Native.Nat.{ℕ, suc, _+_, _<_}
+use Prim.Native.Nat.{ℕ, suc, _+_}
 use native.Mathlib.Omega.{arith}
-use mathlib.Core.Path.{_≡_, refl, sym, ap, _∙_, subst}
-use mathlib.Core.Bool.{Bool, true, false, not, _&&_}
-use mathlib.Core.List.{List, [], _∷_, _++_}
-use mathlib.Core.Option.{Option, none, some}
-use lib.ListN.{length, length-append}
+use mathlib.Core.Path.{_≡_}
+use mathlib.Core.List.{List, _++_}
+use mathlib.Core.Option.{none}
+use lib.ListN.{length-append}
 use Rattle.fields.specs.Parsed.{ok}
 use Rattle.fields.specs.Bytes.{Bytes, twoBytes, fourBytes}
 use Rattle.tables.specs.Limits.{version1}
 use Rattle.tables.specs.Tables.{Tables}
-use Rattle.lookup.specs.First.{orElse}
-use Rattle.body.specs.Expr.{Expr, Scope as Reading}
-use Rattle.body.specs.Stmt.{Tree, Block, done, block, ifElse, ifThen, while, blockAt}
-use Rattle.encoding.specs.Body.{encodeBlock, encodeCode, size, withCount}
+use Rattle.body.specs.Expr.{Scope as Reading}
+use Rattle.body.specs.Stmt.{Tree, Block, done, block, blockAt}
+use Rattle.encoding.specs.Body.{encodeBlock, encodeCode, size}
 use Rattle.encoding.proofs.BodyWritten.{block-written}
 use Rattle.rules.specs.State.{State as Status}
 use Rattle.rules.specs.Stack.{Stack as Scope}
-use Rattle.rules.specs.Rules.{states, sureFrom, joins, merge, exit}
 use Rattle.rules.specs.Report.{codeBytes}
-use Rattle.rules.specs.Walk.{tooWide, walkFault}
+use Rattle.rules.specs.Walk.{walkFault}
 use Rattle.writing.proofs.Stores.{two-length, four-length}
-use Rattle.scope.specs.View.{view}
-use Rattle.steps.specs.Own.{numberOf, Own, byte, both, blockOwn, blocksOwn, blocksFault, blocksAfter}
-use Rattle.steps.proofs.Faults.{Real, real-none, real-walk, real-wide}
+use Rattle.steps.specs.Own.{numberOf}
 use Rattle.statements.specs.declared.Place.{Place}
 use Rattle.fronts.specs.declared.Walk.{Walk}
-use Rattle.fronts.specs.Walks.{Memory, Wrote, BlockDone, BlocksDone, BlocksWalk, ElseDone}
-use Rattle.fronts.proofs.Wrotes.{wrote-both}
+use Rattle.fronts.specs.Walks.{Memory, BlockDone, BlocksWalk}
 
 -- where a block ends
 pub block-end : (s : List ℕ) → Bytes s → (t : Reading) (left at : ℕ) (b : Block) (next : ℕ) → blockAt t s left at ≡ ok b next → next ≡ at + (6 + codeBytes (b .code))

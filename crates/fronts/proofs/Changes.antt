@@ -1,17 +1,16 @@
 -- Changes of the stack behind a statement, and fault 12.
 -- Assumes nothing.
-use Prim.Native.Nat.{ℕ, suc, _≤_}
+use Prim.Native.Nat.{ℕ, _≤_}
 use native.Mathlib.Omega.{arith}
 use mathlib.Core.Path.{_≡_, refl, sym, ap, _∙_, subst}
 use mathlib.Core.Bool.{Bool, true, false, cond, not}
-use mathlib.Core.List.{[], _∷_}
 use mathlib.Core.Option.{Option, none, some}
 use borrow.Author.Tests.{not-true, not-false, le-ltb}
 use lib.Dec.{ltb}
 use lib.ListN.{length}
 use Rattle.tables.specs.Limits.{version1}
 use Rattle.rules.specs.State.{State as Status, deleted}
-use Rattle.rules.specs.Stack.{local, shape, mark, Stack as Scope}
+use Rattle.rules.specs.Stack.{local, mark, Stack as Scope}
 use Rattle.rules.specs.Rules.{states}
 use Rattle.rules.specs.Walk.{tooMany}
 use Rattle.rules.proofs.Shapes.{shape-mark}

@@ -1,11 +1,11 @@
 -- A statement: its values, its front, and then its change or its blocks.
 -- Assumes nothing.
-use Prim.Native.Nat.{ℕ, suc, _+_, _≤_, _<_}
+use Prim.Native.Nat.{ℕ, _+_}
 use native.Mathlib.Omega.{arith}
 use mathlib.Core.Path.{_≡_, refl, sym, ap, _∙_, subst}
 use mathlib.Core.Bool.{Bool, true, false, _&&_}
-use mathlib.Core.List.{List, [], _∷_, _++_, append-nil}
-use mathlib.Core.Option.{Option, none}
+use mathlib.Core.List.{List, _++_, append-nil}
+use mathlib.Core.Option.{none}
 use lib.ListN.{length}
 use Rattle.fields.specs.Parsed.{ok}
 use Rattle.fields.specs.Bytes.{Bytes}
@@ -16,23 +16,22 @@ use Rattle.body.specs.Stmt.{Tree, Stmt, before, stmtIn}
 use Rattle.rules.specs.State.{State as Status}
 use Rattle.rules.specs.Stack.{shape, Stack as Scope}
 use Rattle.rules.specs.Effects.{group}
-use Rattle.rules.specs.Report.{Report, reportAll, errors, warnings, lefts}
-use Rattle.rules.specs.Walk.{tooMany}
+use Rattle.rules.specs.Report.{Report, errors, warnings, lefts}
 use Rattle.rules.specs.Verdict.{entriesOf}
 use Rattle.writing.specs.Stored.{Stored}
-use Rattle.validation.specs.Quiet.{afterAll, toldAll}
+use Rattle.validation.specs.Quiet.{toldAll}
 use Rattle.scope.specs.View.{view}
-use Rattle.steps.specs.Statement.{valuesOf, frontSize, frontDrops, frontReports, simple, settle}
-use Rattle.steps.specs.Own.{numberOf, Own, nothing, both, blocksSize, blocksOwn, blocksFault, blocksAfter, valued, frontOwn, own, ownFault, ownAfter, blockless}
+use Rattle.steps.specs.Statement.{valuesOf, frontSize, frontDrops, frontReports, settle}
+use Rattle.steps.specs.Own.{nothing, both, blocksSize, blocksOwn, valued, frontOwn, ownFault, blockless}
 use Rattle.steps.proofs.Lists.{Errors, errors-append, warnings-append, lefts-append, all-errors, front-errors}
 use Rattle.steps.proofs.Before.{stmt-end}
-use Rattle.steps.proofs.Plain.{few-locals, blockless-own, blockless-after, blockless-fault, blockless-size, simple-blockless, simple-settle}
+use Rattle.steps.proofs.Plain.{blockless-own, blockless-after, blockless-size}
 use Rattle.statements.specs.declared.Place.{Place}
 use Rattle.fronts.specs.declared.Walk.{Walk}
 use Rattle.statements.specs.declared.Act.{Act}
 use Rattle.statements.specs.Act.{Acts}
 use Rattle.fronts.specs.Walks.{Memory, Wrote, StmtDone, BlocksWalk}
-use Rattle.fronts.proofs.Wrotes.{stored-as, wrote-both, wrote-nothing, wrote-as, Alike}
+use Rattle.fronts.proofs.Wrotes.{stored-as, wrote-both, wrote-nothing, wrote-as}
 
 and-none : (a b : Bool) → a ≡ b → a ≡ (b && true)
 and-none true true e = refl

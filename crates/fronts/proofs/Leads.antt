@@ -1,14 +1,12 @@
 -- The loop over the statements of a block: one statement more, the first fault, the end.
 -- Assumes nothing.
-use Prim.Native.Nat.{ℕ, zero, suc, _+_, _-_, _≤_, _<_}
+use Prim.Native.Nat.{ℕ, _+_, _-_, _<_}
 use native.Mathlib.Omega.{arith}
 use mathlib.Core.Path.{_≡_, refl, sym, ap, _∙_, subst}
-use mathlib.Core.Bool.{Bool, true, false, not, _&&_}
-use mathlib.Core.List.{List, [], _∷_, _++_, append-assoc}
+use mathlib.Core.Bool.{Bool, true, false, _&&_}
+use mathlib.Core.List.{List, _++_, append-assoc}
 use mathlib.Core.Option.{Option, none, some}
-use lib.ListN.{length}
-use lib.Dec.{T as So}
-use Rattle.fields.specs.Parsed.{Parsed, ok}
+use Rattle.fields.specs.Parsed.{ok}
 use Rattle.fields.specs.Bytes.{Bytes}
 use Rattle.tables.specs.Limits.{version1}
 use Rattle.tables.specs.Tables.{Tables}
@@ -19,16 +17,16 @@ use Rattle.body.proofs.Statements.{stmts-none, stmts-more}
 use Rattle.encoding.specs.Body.{size, encodeCode}
 use Rattle.rules.specs.State.{State as Status}
 use Rattle.rules.specs.Stack.{Stack as Scope}
-use Rattle.rules.specs.Rules.{isDone, states, sureFrom, exit}
+use Rattle.rules.specs.Rules.{states, sureFrom, exit}
 use Rattle.rules.specs.Report.{Report, report}
 use Rattle.rules.specs.Walk.{walkFault}
 use Rattle.rules.specs.Verdict.{countsFit}
-use Rattle.steps.specs.Statement.{frontSize, frontDrops}
-use Rattle.steps.specs.Own.{Own, nothing, both, restOf, blocksSize, returned, valued, own, ownFault, ownAfter, sureOf}
+use Rattle.steps.specs.Statement.{frontSize}
+use Rattle.steps.specs.Own.{nothing, both, restOf, blocksSize, returned, own, ownFault, ownAfter, sureOf}
 use Rattle.steps.proofs.Steps.{exit-step, fault-step, sure-step, bytes-step, size-step, fits-step, report-step}
 use Rattle.steps.proofs.Before.{rest-before, going-before, sure-before, stmt-end}
 use Rattle.statements.specs.declared.Place.{Place}
-use Rattle.fronts.specs.Walks.{Memory, Wrote, StmtDone, Leads}
+use Rattle.fronts.specs.Walks.{Memory, StmtDone, Leads}
 use Rattle.fronts.proofs.Wrotes.{Alike, wrote-nothing, wrote-both}
 
 alike : (p : Place) → Alike p p

@@ -1,6 +1,6 @@
 -- The turns of the loop over statements.
 -- Assumes nothing.
-use Prim.Native.Nat.{ℕ, zero, suc, _+_, _-_, _≤_, _<_}
+use Prim.Native.Nat.{ℕ, zero, suc, _-_, _≤_, _<_}
 use native.Mathlib.Omega.{arith}
 use mathlib.Core.Path.{_≡_, refl, sym, ap, _∙_, subst}
 use mathlib.Core.Bool.{Bool, true, false, not}
@@ -8,13 +8,11 @@ use mathlib.Core.List.{List}
 use mathlib.Core.Option.{Option, none, some}
 use lib.ListN.{getD}
 use Rattle.fields.proofs.Tests.{false-true}
-use Rattle.fields.specs.Parsed.{ok}
 use Rattle.fields.specs.Bytes.{Bytes}
 use Rattle.tables.specs.Limits.{version1}
 use Rattle.tables.specs.Tables.{Tables}
 use Rattle.lookup.specs.First.{orElse}
-use Rattle.body.specs.Expr.{Scope as Reading}
-use Rattle.body.specs.Stmt.{Tree, Stmt, done, before, stmtsAt, stmtIn}
+use Rattle.body.specs.Stmt.{Tree, done, before}
 use Rattle.rules.specs.State.{State as Status}
 use Rattle.rules.specs.Stack.{Stack as Scope}
 use Rattle.rules.specs.Walk.{walkFault}
@@ -24,14 +22,15 @@ use Rattle.returns.specs.Returns.{StmtThere}
 use Rattle.statements.specs.declared.Place.{Place}
 use Rattle.statements.specs.Act.{Grows}
 use Rattle.steps.specs.Own.{numberOf, ownFault, restOf, ownAfter}
-use Rattle.steps.proofs.Faults.{Real, real-none, real-own}
+use Rattle.steps.proofs.Faults.{real-none, real-own}
 use Rattle.fronts.specs.declared.Walk.{Walk}
 use Rattle.fronts.specs.declared.Quietly.{Quietly}
 use Rattle.fronts.specs.declared.Reached.{Reached}
-use Rattle.fronts.specs.Walks.{Memory, Safe, Leads, LeadsAll, StmtsThere, StmtDone, StmtWalks, StmtsWalk, QuietWalks, blocked, FrontWalks, FrontSafe, Reaches, ReachSafe}
-use Rattle.fronts.proofs.Leads.{Next, next-of, leads-start, leads-next, leads-fault, leads-end}
+use Rattle.fronts.specs.Walks.{Memory, Safe, Leads, LeadsAll, StmtsThere, StmtWalks, StmtsWalk, QuietWalks, blocked, FrontWalks, FrontSafe, Reaches, ReachSafe}
+use Rattle.fronts.proofs.Leads.{next-of, leads-start, leads-next, leads-fault, leads-end}
 
-else-number : (x y : Option ℕ) (k : ℕ) → 0 < k → k ≡ numberOf x → k ≡ numberOf (orElse x y)
+-- the first fault is that of both
+pub else-number : (x y : Option ℕ) (k : ℕ) → 0 < k → k ≡ numberOf x → k ≡ numberOf (orElse x y)
 unfolding orElse
 else-number none y k h e = absurd (omega arith)
 else-number (some n) y k h e = e

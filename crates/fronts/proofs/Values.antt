@@ -25,10 +25,8 @@ use Rattle.encoding.proofs.BodyWritten.{stmt-written, block-written}
 use Rattle.rules.specs.State.{State as Status}
 use Rattle.rules.specs.Stack.{Stack as Scope}
 use Rattle.rules.specs.Verdict.{entriesOf}
-use Rattle.scope.specs.View.{view, Sound}
-use Rattle.scope.specs.declared.Stack.{Stack}
+use Rattle.scope.specs.View.{view}
 use Rattle.writing.specs.Stored.{Stored}
-use Rattle.writing.proofs.Stores.{none-stored}
 use Rattle.validation.specs.Quiet.{afterAll, toldAll, Standing, Calm, Evaluated, Bounded}
 use Rattle.validation.specs.declared.Quiet.{Quiet}
 use Rattle.validation.specs.declared.Validated.{Validated}

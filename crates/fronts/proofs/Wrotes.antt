@@ -1,13 +1,12 @@
 -- What was stored between two places, one part after another.
 -- Assumes nothing.
-use Prim.Native.Nat.{ℕ, _+_, _*_, _≤_}
+use Prim.Native.Nat.{ℕ, _+_, _≤_}
 use native.Mathlib.Omega.{arith}
 use mathlib.Core.Path.{_≡_, refl, sym, ap, _∙_, subst}
 use mathlib.Core.Bool.{Bool, true, false, _&&_}
-use mathlib.Core.List.{List, [], _∷_, _++_, append-nil}
+use mathlib.Core.List.{List, [], _++_}
 use lib.ListN.{length, length-append}
 use Rattle.tables.specs.Limits.{version1}
-use Rattle.fields.proofs.Tests.{and-true}
 use Rattle.rules.specs.Report.{Report, errors, warnings, lefts}
 use Rattle.rules.specs.Verdict.{entriesOf}
 use Rattle.writing.specs.Stored.{Stored}
@@ -27,7 +26,7 @@ stored-both : (f : List Report → List Report) → ((xs ys : List Report) → f
     → Stored xs i (entriesOf version1 (f a)) ys j → Stored ys j (entriesOf version1 (f b)) zs k → Stored xs i (entriesOf version1 (f (a ++ b))) zs k
 stored-both f over a b p q = stored-as (ap (entriesOf version1) (over a b) ∙ entries-append (f a) (f b)) (both-stored p q)
 
-and-left : (a b : Bool) → (a && b) ≡ true → a ≡ true
+pub and-left : (a b : Bool) → (a && b) ≡ true → a ≡ true
 and-left true b e = refl
 and-left false b e = e
 
@@ -35,7 +34,7 @@ and-assoc : (a b c : Bool) → ((a && b) && c) ≡ (a && (b && c))
 and-assoc true b c = refl
 and-assoc false b c = refl
 
-and-none : (a : Bool) → a ≡ (a && true)
+pub and-none : (a : Bool) → a ≡ (a && true)
 and-none true = refl
 and-none false = refl
 

@@ -1,13 +1,11 @@
 -- What the code of the walk does, whatever statement or block was read there.
-use Prim.Native.Nat.{ℕ, suc, _+_, _-_, _%_, _≤_, _<_}
+use Prim.Native.Nat.{ℕ, suc, _+_, _-_, _≤_, _<_}
 use mathlib.Core.Path.{_≡_}
-use mathlib.Core.Bool.{Bool, true, false, cond, not, _&&_, _||_}
-use mathlib.Core.List.{List, [], _++_}
-use mathlib.Core.Option.{Option, none, some}
+use mathlib.Core.Bool.{Bool, true, false, _&&_, _||_}
+use mathlib.Core.List.{List, _++_}
+use mathlib.Core.Option.{none}
 use lib.ListN.{length, getD}
-use lib.Dec.{eqb, leb}
-use Rattle.fields.specs.Number.{two, four}
-use Rattle.fields.specs.Bytes.{twoBytes}
+use lib.Dec.{eqb}
 use Rattle.fields.specs.Parsed.{Parsed, ok}
 use Rattle.tables.specs.Limits.{version1}
 use Rattle.tables.specs.Tables.{Tables}
@@ -15,27 +13,25 @@ use Rattle.body.specs.Expr.{Expr, Scope as Reading}
 use Rattle.body.specs.Stmt.{Tree, Block, Stmt, done, ifElse, ifThen, while, before, stmtAt, stmtIn, stmtsAt, blockAt}
 use Rattle.encoding.specs.Body.{size, encodeCode}
 use Rattle.rules.specs.State.{State as Status}
-use Rattle.rules.specs.Stack.{pop, Stack as Scope}
-use Rattle.rules.specs.Rules.{Drop, states, tailDrops, sureFrom, joins, merge, exit}
-use Rattle.rules.specs.Report.{Report, report, errors, warnings, lefts}
-use Rattle.rules.specs.Walk.{tooMany, tooWide, crowded, walkFault}
+use Rattle.rules.specs.Stack.{Stack as Scope}
+use Rattle.rules.specs.Rules.{states, sureFrom, exit}
+use Rattle.rules.specs.Report.{report, errors, warnings, lefts}
+use Rattle.rules.specs.Walk.{tooMany, walkFault}
 use Rattle.rules.specs.Verdict.{entriesOf, countsFit}
 use Rattle.scope.specs.View.{view, Sound, Framed}
 use Rattle.scope.specs.declared.Stack.{Stack}
-use Rattle.scope.specs.declared.Next.{Next}
-use Rattle.drops.specs.Drops.{deleteBytes}
 use Rattle.writing.specs.Stored.{Stored}
 use Rattle.validation.specs.Quiet.{Calm}
 use Rattle.validation.specs.declared.Quiet.{Quiet}
 use Rattle.returns.specs.Front.{frontAt}
-use Rattle.returns.specs.Returns.{StmtThere, BlockThere, BranchesThere}
+use Rattle.returns.specs.Returns.{BlockThere, BranchesThere}
 use Rattle.steps.specs.Statement.{simple, frontDrops}
 use Rattle.statements.specs.declared.Place.{Place}
 use Rattle.statements.specs.Act.{Within, Grows}
 use Rattle.fronts.specs.declared.Walk.{Walk}
 use Rattle.fronts.specs.declared.Quietly.{Quietly}
 use Rattle.fronts.specs.declared.Reached.{Reached}
-use Rattle.steps.specs.Own.{numberOf, Own, byte, both, returned, blocksOwn, blocksFault, blocksAfter, blockOwn, own, ownFault, ownAfter, valued}
+use Rattle.steps.specs.Own.{numberOf, Own, returned, blocksOwn, blocksFault, blocksAfter, blockOwn, own, ownFault, ownAfter, valued}
 
 -- the memory lent
 pub record Memory : Type 0 where
@@ -134,40 +130,19 @@ pub record BlocksWalk (T : Tables) (c : Tree) (d : ℕ) (σ : Scope Status) (p :
   pub fault : r .fault ≡ numberOf (blocksFault T c d σ)
   pub done : blocksFault T c d σ ≡ none → BlocksDone T c d σ p m r m′ next
 
--- the flag at a place, and the second block of an IfElse if there is one, from a stack
-pub record ElseDone (o : Own) (p : Place) (m : Memory) (r : Walk) (m′ : Memory) (next : ℕ) (σ : Scope Status) (b : Bool) : Type 0 where
-  pub wrote : Wrote o p m (r .place) m′
-  pub inserted : r .place .inserted ≡ p .inserted
-  pub last : r .place .last ≡ p .last
-  pub at : r .place .at ≡ next
-  pub locals : view (r .stack) ≡ σ
-  pub sure : r .sure ≡ b
-
-pub record ElseWalks (T : Tables) (s : List ℕ) (left d : ℕ) (σ : Scope Status) (p : Place) (m : Memory) (r : Walk) (m′ : Memory) : Type 0 where
-  pub without : getD s (p .at) 0 ≡ 0 → (r .fault ≡ 0) × ElseDone (byte 0) p m r m′ (p .at + 1) σ false
-  pub with : getD s (p .at) 0 ≡ 1 → (t : Reading) → t .exprDepth ≡ 24 → (b : Block) (next : ℕ) → blockAt t s left (p .at + 1) ≡ ok b next
-      → (r .fault ≡ numberOf (walkFault version1 T (b .code) d σ))
-      × (walkFault version1 T (b .code) d σ ≡ none
-      → ElseDone (both (byte 1) (blockOwn T (b .span) (b .code) d (p .at + 1) σ)) p m r m′ next (exit states T (b .code) d σ) (sureFrom (b .code) false))
-
 -- the locals σ, at the same place; 12 where there is a 65th
 pub record Settles (p : Place) (σ : Scope Status) (r : Walk) : Type 0 where
   pub fault : r .fault ≡ numberOf (tooMany version1 σ)
   pub place : r .place ≡ p
   pub locals : r .fault ≡ 0 → (view (r .stack) ≡ σ) × Sound (r .stack)
 
--- statements, the flag and second block of an IfElse, the blocks of a statement of a tag were read there
+-- statements, the blocks of a statement of a tag were read there
 pub record StmtsThere (s : List ℕ) (left total at : ℕ) : Type 0 where
   pub t : Reading
   pub deep : t .exprDepth ≡ 24
   pub c : Tree
   pub end : ℕ
   pub read : stmtsAt t s left total at ≡ ok c end
-
-pub record ElseThere (s : List ℕ) (left at : ℕ) : Type 0 where
-  pub inside : at < length s
-  pub flag : getD s at 0 < 2
-  pub with : 0 < getD s at 0 → BlockThere s left (at + 1)
 
 pub record IfThere (s : List ℕ) (left at : ℕ) : Type 0 where
   pub there : BranchesThere s left at

@@ -1,8 +1,8 @@
 // Reads a whole image: head, tables, entry and body, up to the end of its bytes.
 ghost use mathlib.Core.Path.{_≡_};
-ghost use Prim.Native.Nat.{ℕ, _+_, _≤_, _<_};
+ghost use Prim.Native.Nat.{_+_, _≤_, _<_};
 ghost use mathlib.Core.List.{List, [], map};
-ghost use lib.ListN.{length, take};
+ghost use lib.ListN.{length};
 ghost use Rattle.fields.specs.Answer.{readOf};
 ghost use Rattle.tables.specs.Limits.{version1};
 ghost use Rattle.tables.specs.Name.{nameOf};

@@ -6,7 +6,7 @@ ghost use Rattle.fronts.specs.Walks.{memory};
 ghost use Rattle.whole_image.specs.Images.{Stands};
 ghost use Rattle.judge.specs.Passes.{Passes};
 use statements::Place;
-use walk::Env;
+use fronts::Env;
 
 // Bytes written and entries of each list.
 pub struct Totals {

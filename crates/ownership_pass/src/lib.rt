@@ -5,7 +5,7 @@ ghost use Rattle.judge.specs.Passes.{Passes, outcomeOf, memoryAfter, verdictOn}
 ghost use Rattle.ownership_pass.specs.Entries.{numberOf, totalsAfter, RoomIs, RoomLeaves};
 use image::Rest;
 use judge::Outcome;
-use walk::Env;
+use fronts::Env;
 
 // What the entry that answers the room answers; of a denial, the fault.
 pub enum Answer {

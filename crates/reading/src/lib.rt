@@ -1,6 +1,6 @@
 // Reads expressions, statements and blocks: every answer equals what the definitions of specs/ say of the bytes.
 ghost use mathlib.Core.Path.{_≡_};
-ghost use Prim.Native.Nat.{ℕ, _+_, _-_, _≤_, _<_};
+ghost use Prim.Native.Nat.{ℕ, _+_, _-_, _<_};
 ghost use lib.ListN.{length, getD};
 ghost use Rattle.fields.specs.Answer.{readOf};
 ghost use Rattle.body.specs.Expr.{Head, Exprs, fixedCount, argLimit, typeOk, headAt, endAt, exprAt, exprsAt, childrenAt};

@@ -1,41 +1,38 @@
 -- A block: its head, its statements, its end.
 -- Assumes nothing.
-use Prim.Native.Nat.{ℕ, zero, suc, _+_, _-_, _%_, _≤_, _<_}
+use Prim.Native.Nat.{ℕ, zero, suc, _+_, _-_, _%_, _≤_}
 use native.Mathlib.Omega.{arith}
 use mathlib.Core.Path.{_≡_, refl, sym, ap, _∙_, subst}
-use mathlib.Core.Bool.{Bool, true, false, cond, not, _&&_}
-use mathlib.Core.List.{List, [], _∷_, _++_, append-assoc, append-nil}
-use mathlib.Core.Option.{Option, none, some}
+use mathlib.Core.Bool.{Bool, true, false, _&&_}
+use mathlib.Core.List.{List, _++_, append-nil}
 use borrow.Author.Tests.{leb-true}
 use lib.ListN.{length, length-append}
 use Rattle.fields.proofs.Tests.{false-true}
 use lib.Dec.{leb}
 use lib.Seq.{sets}
-use Rattle.fields.specs.Parsed.{Parsed, ok}
 use Rattle.fields.specs.Number.{two, four}
-use Rattle.fields.specs.Bytes.{Bytes, twoBytes, fourBytes}
+use Rattle.fields.specs.Bytes.{twoBytes, fourBytes}
 use Rattle.tables.specs.Limits.{version1}
 use Rattle.tables.specs.Tables.{Tables}
 use Rattle.body.specs.Expr.{Scope as Reading}
-use Rattle.body.specs.Stmt.{Tree, Block, Stmt, done, before, blockAt, stmtIn, stmtsAt}
-use Rattle.body.proofs.Statements.{BlockParts, block-parts}
+use Rattle.body.specs.Stmt.{Tree, Block, done}
+use Rattle.body.proofs.Statements.{BlockParts}
 use Rattle.encoding.specs.Body.{size, encodeCode, withCount}
 use Rattle.rules.specs.State.{State as Status}
-use Rattle.rules.specs.Stack.{pop, Stack as Scope}
-use Rattle.rules.specs.Rules.{Drop, states, sureFrom, exit, tailDrops}
+use Rattle.rules.specs.Stack.{Stack as Scope}
+use Rattle.rules.specs.Rules.{Drop, states, sureFrom, exit}
 use Rattle.rules.specs.Report.{Report, report, inserts, errors, warnings, lefts}
-use Rattle.rules.specs.Walk.{walkFault}
 use Rattle.rules.specs.Verdict.{entriesOf, countsFit}
 use Rattle.drops.specs.Drops.{deleteBytes}
 use Rattle.writing.specs.Stored.{Stored}
-use Rattle.writing.proofs.Stores.{none-stored, both-stored, patched, two-length}
-use Rattle.steps.specs.Own.{Own, returned, blockOwn}
+use Rattle.writing.proofs.Stores.{both-stored, patched, two-length}
+use Rattle.steps.specs.Own.{returned}
 use Rattle.steps.proofs.Steps.{inserts-bytes, inserts-size, inserts-fit}
 use Rattle.statements.specs.declared.Place.{Place}
 use Rattle.fronts.specs.declared.Walk.{Walk}
-use Rattle.fronts.specs.Walks.{Memory, Wrote, Leads, BlockDone}
+use Rattle.fronts.specs.Walks.{Memory, Leads, BlockDone}
 use Rattle.ends.specs.Ends.{tail, Ends}
-use Rattle.fronts.proofs.Wrotes.{stored-as}
+use Rattle.fronts.proofs.Wrotes.{and-left, stored-as}
 use Rattle.fronts.proofs.Leads.{leads-end}
 
 fits-order : (a b c : Bool) → ((a && b) && c) ≡ (a && (c && (b && true)))
@@ -44,10 +41,6 @@ fits-order true true false = refl
 fits-order true false true = refl
 fits-order true false false = refl
 fits-order false b c = refl
-
-and-left : (a b : Bool) → (a && b) ≡ true → a ≡ true
-and-left true b e = refl
-and-left false b e = e
 
 and-right : (a b : Bool) → (a && b) ≡ true → b ≡ true
 and-right true b e = e

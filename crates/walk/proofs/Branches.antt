@@ -4,41 +4,54 @@ use Prim.Native.Nat.{ℕ, suc, _+_, _<_}
 use native.Mathlib.Omega.{arith}
 use mathlib.Core.Path.{_≡_, refl, sym, ap, _∙_, subst}
 use mathlib.Core.Bool.{Bool, true, false, not, _&&_}
-use mathlib.Core.List.{List, [], _∷_, _++_}
+use mathlib.Core.List.{List}
 use mathlib.Core.Option.{Option, none, some}
-use lib.ListN.{length, length-append}
+use lib.ListN.{length}
 use Rattle.fields.specs.Parsed.{ok}
-use Rattle.fields.specs.Bytes.{Bytes, twoBytes, fourBytes}
+use Rattle.fields.specs.Bytes.{Bytes}
 use Rattle.tables.specs.Limits.{version1}
 use Rattle.tables.specs.Tables.{Tables}
 use Rattle.lookup.specs.First.{orElse}
 use Rattle.body.specs.Expr.{Expr, Scope as Reading}
 use Rattle.body.specs.Stmt.{Tree, Block, done, block, ifElse, ifThen, while, blockAt}
-use Rattle.encoding.specs.Body.{encodeBlock, encodeCode, size, withCount}
-use Rattle.encoding.proofs.BodyWritten.{block-written}
 use Rattle.rules.specs.State.{State as Status}
 use Rattle.rules.specs.Stack.{Stack as Scope}
 use Rattle.rules.specs.Rules.{states, sureFrom, joins, merge, exit}
 use Rattle.rules.specs.Report.{codeBytes}
 use Rattle.rules.specs.Walk.{tooWide, walkFault}
-use Rattle.writing.proofs.Stores.{two-length, four-length}
 use Rattle.scope.specs.View.{view}
-use Rattle.steps.specs.Own.{numberOf, Own, byte, both, blockOwn, blocksOwn, blocksFault, blocksAfter}
-use Rattle.steps.proofs.Faults.{Real, real-none, real-walk, real-wide}
+use Rattle.steps.specs.Own.{numberOf, Own, byte, both, blockOwn, blocksFault}
 use Rattle.statements.specs.declared.Place.{Place}
 use Rattle.fronts.specs.declared.Walk.{Walk}
-use Rattle.fronts.specs.Walks.{Memory, Wrote, BlockDone, BlocksDone, BlocksWalk, ElseDone}
+use Rattle.fronts.specs.Walks.{Memory, Wrote, BlockDone, BlocksWalk}
 use Rattle.ends.specs.Ends.{Merges}
 use Rattle.fronts.proofs.Wrotes.{wrote-both}
+use Rattle.fronts.proofs.Turns.{else-number}
+
+-- the flag at a place, and the second block of an IfElse if there is one, from a stack
+pub record ElseDone (o : Own) (p : Place) (m : Memory) (r : Walk) (m′ : Memory) (next : ℕ) (σ : Scope Status) (b : Bool) : Type 0 where
+  pub wrote : Wrote o p m (r .place) m′
+  pub inserted : r .place .inserted ≡ p .inserted
+  pub last : r .place .last ≡ p .last
+  pub at : r .place .at ≡ next
+  pub locals : view (r .stack) ≡ σ
+  pub sure : r .sure ≡ b
+
+pub record ElseWalks (T : Tables) (s : List ℕ) (left d : ℕ) (σ : Scope Status) (p : Place) (m : Memory) (r : Walk) (m′ : Memory) : Type 0 where
+  pub without : getD s (p .at) 0 ≡ 0 → (r .fault ≡ 0) × ElseDone (byte 0) p m r m′ (p .at + 1) σ false
+  pub with : getD s (p .at) 0 ≡ 1 → (t : Reading) → t .exprDepth ≡ 24 → (b : Block) (next : ℕ) → blockAt t s left (p .at + 1) ≡ ok b next
+      → (r .fault ≡ numberOf (walkFault version1 T (b .code) d σ))
+      × (walkFault version1 T (b .code) d σ ≡ none
+      → ElseDone (both (byte 1) (blockOwn T (b .span) (b .code) d (p .at + 1) σ)) p m r m′ next (exit states T (b .code) d σ) (sureFrom (b .code) false))
+
+pub record ElseThere (s : List ℕ) (left at : ℕ) : Type 0 where
+  pub inside : at < length s
+  pub flag : getD s at 0 < 2
+  pub with : 0 < getD s at 0 → BlockThere s left (at + 1)
 
 and-true : (a : Bool) → (a && true) ≡ a
 and-true true = refl
 and-true false = refl
-
-else-first : (x y : Option ℕ) (k : ℕ) → 0 < k → k ≡ numberOf x → k ≡ numberOf (orElse x y)
-unfolding orElse
-else-first none y k h e = absurd (omega arith)
-else-first (some n) y k h e = e
 
 else-next : (x y : Option ℕ) → x ≡ none → orElse x y ≡ y
 unfolding orElse
@@ -54,7 +67,7 @@ module _ (T : Tables) (s : List ℕ) (small : Bytes s) (t : Reading) (left d : �
   pub first-fault : (c : Tree) (b : Block) (y : Option ℕ) → blocksFault T c d σ ≡ orElse (walkFault version1 T (b .code) (suc d) σ) y
       → (r : Walk) (m′ : Memory) (next : ℕ) → r .fault ≡ numberOf (walkFault version1 T (b .code) (suc d) σ) → 0 < r .fault → BlocksWalk T c d σ p m r m′ next
   first-fault c b y is r m′ next e lt = record {
-    fault = else-first (walkFault version1 T (b .code) (suc d) σ) y (r .fault) lt e ∙ ap numberOf (sym is);
+    fault = else-number (walkFault version1 T (b .code) (suc d) σ) y (r .fault) lt e ∙ ap numberOf (sym is);
     done = λ z.
         let x = else-left (walkFault version1 T (b .code) (suc d) σ) y (sym is ∙ z) in
         let h = e ∙ ap numberOf x in
@@ -139,7 +152,7 @@ module _ (T : Tables) (s : List ℕ) (small : Bytes s) (t : Reading) (left d : �
         let wide = tooWide version1 (not (sureFrom (b .code) false) && not (sureFrom (u .code) false)) joined in
         let both-faults = else-next (walkFault version1 T (b .code) (suc d) σ) (orElse (walkFault version1 T (u .code) (suc d) σ) wide) clear in
         record {
-          fault = else-first (walkFault version1 T (u .code) (suc d) σ) wide (r .fault) lt e ∙ ap numberOf (sym both-faults);
+          fault = else-number (walkFault version1 T (u .code) (suc d) σ) wide (r .fault) lt e ∙ ap numberOf (sym both-faults);
           done = λ z.
               let y = else-left (walkFault version1 T (u .code) (suc d) σ) wide (sym both-faults ∙ z) in
               let h = e ∙ ap numberOf y in

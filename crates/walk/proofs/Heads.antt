@@ -1,11 +1,10 @@
 -- A block's head, and what is known behind it and at its end.
 -- Assumes nothing.
-use Prim.Native.Nat.{ℕ, suc, _+_, _-_, _*_, _≤_, _<_}
+use Prim.Native.Nat.{ℕ, suc, _+_, _-_, _≤_, _<_}
 use native.Mathlib.Omega.{arith}
 use mathlib.Core.Path.{_≡_, refl, sym, ap, _∙_, subst}
-use mathlib.Core.Bool.{Bool, true, false}
 use mathlib.Core.List.{List}
-use mathlib.Core.Option.{Option, none, some}
+use mathlib.Core.Option.{none}
 use lib.ListN.{length}
 use lib.Seq.{slice}
 use Rattle.fields.specs.Parsed.{ok}
@@ -14,21 +13,20 @@ use Rattle.fields.specs.Bytes.{Bytes, fourBytes}
 use Rattle.tables.specs.Limits.{version1}
 use Rattle.tables.specs.Tables.{Tables}
 use Rattle.body.specs.Expr.{Scope as Reading}
-use Rattle.body.specs.Stmt.{Tree, Block, blockAt, stmtsAt}
-use Rattle.body.proofs.Statements.{BlockParts, block-parts}
+use Rattle.body.specs.Stmt.{Block, blockAt, stmtsAt}
+use Rattle.body.proofs.Statements.{block-parts}
 use Rattle.encoding.proofs.Parts.{four-at}
 use Rattle.rules.specs.State.{State as Status}
 use Rattle.rules.specs.Stack.{shape, Stack as Scope}
 use Rattle.rules.specs.Walk.{walkFault}
 use Rattle.effects.specs.Scan.{Lent, Says}
-use Rattle.scope.specs.View.{view, Sound, Framed}
+use Rattle.scope.specs.View.{view, Framed}
 use Rattle.scope.specs.declared.Stack.{Stack}
 use Rattle.scope.proofs.Frames.{nested-deeper}
 use Rattle.writing.specs.Stored.{Stored}
 use Rattle.writing.proofs.Stores.{four-length}
 use Rattle.drops.specs.Drops.{Askable, Tells}
 use Rattle.returns.specs.Returns.{StmtThere, BlockThere}
-use Rattle.returns.proofs.Surely.{block-there}
 use Rattle.statements.specs.declared.Place.{Place}
 use Rattle.statements.specs.Act.{Within, Grows}
 use Rattle.statements.proofs.Slices.{written-slice}
@@ -37,8 +35,8 @@ use Rattle.steps.proofs.Faults.{real-none, real-walk}
 use Rattle.fronts.specs.declared.Env.{Env}
 use Rattle.fronts.specs.declared.Walk.{Walk}
 use Rattle.fronts.specs.Walks.{Memory, memory, Ready, Safe, Leads, StmtsThere, StmtsWalk, BlockWalks}
-use Rattle.ends.specs.Ends.{EndThere, EndSafe, Ends}
-use Rattle.fronts.proofs.Wrotes.{grows-both, within-on}
+use Rattle.ends.specs.Ends.{EndSafe, Ends}
+use Rattle.fronts.proofs.Wrotes.{within-on}
 use Rattle.walk.proofs.Blocks.{Inside, block-done}
 
 -- the span that a block's head copies

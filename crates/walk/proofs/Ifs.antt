@@ -3,58 +3,52 @@
 use Prim.Native.Nat.{ℕ, zero, suc, _+_, _-_, _≤_, _<_}
 use native.Mathlib.Omega.{arith}
 use mathlib.Core.Path.{_≡_, refl, sym, ap, _∙_, subst}
-use mathlib.Core.Bool.{Bool, true, false, _&&_}
+use mathlib.Core.Bool.{Bool, false}
 use mathlib.Core.List.{List, [], _∷_}
-use mathlib.Core.Option.{Option, none, some}
+use mathlib.Core.Option.{none}
 use lib.ListN.{length, getD}
 use Rattle.fields.specs.Parsed.{ok}
 use Rattle.fields.specs.Bytes.{Bytes}
 use Rattle.tables.specs.Limits.{version1}
 use Rattle.tables.specs.Tables.{Tables}
-use Rattle.body.specs.Expr.{Expr, Scope as Reading}
-use Rattle.body.specs.Stmt.{Tree, Block, ifElse, ifThen, while, blockAt}
+use Rattle.body.specs.Expr.{Scope as Reading}
+use Rattle.body.specs.Stmt.{Block, ifElse, ifThen, while, blockAt}
 use Rattle.rules.specs.State.{State as Status}
-use Rattle.rules.specs.Stack.{Shape, shape, Stack as Scope}
-use Rattle.rules.specs.Rules.{states, sureFrom, joins, merge, exit}
-use Rattle.rules.specs.Walk.{tooWide, walkFault}
+use Rattle.rules.specs.Stack.{shape, Stack as Scope}
+use Rattle.rules.specs.Rules.{states}
+use Rattle.rules.specs.Walk.{walkFault}
 use Rattle.rules.proofs.Shapes.{shape-merge}
-use Rattle.scope.specs.View.{view, Sound, Framed, Branches, Nested}
+use Rattle.scope.specs.View.{view, Sound, Branches, Nested}
 use Rattle.scope.specs.declared.Stack.{Stack}
 use Rattle.scope.proofs.Seen.{length-seen}
 use Rattle.writing.specs.Stored.{Stored}
-use Rattle.returns.specs.Returns.{BlockThere, BranchesThere}
+use Rattle.returns.specs.Returns.{BlockThere}
 use Rattle.statements.specs.declared.Place.{Place}
-use Rattle.statements.specs.Act.{Within, Grows}
-use Rattle.steps.specs.Own.{numberOf, Own, byte, both, blockOwn}
+use Rattle.statements.specs.Act.{Grows}
+use Rattle.steps.specs.Own.{byte, both, blockOwn}
 use Rattle.steps.proofs.Faults.{real-none, real-walk}
 use Rattle.steps.proofs.Shaped.{shape-block}
 use Rattle.steps.proofs.Plain.{length-shape}
 use Rattle.fronts.specs.declared.Walk.{Walk}
-use Rattle.fronts.specs.Walks.{Memory, memory, Wrote, Ready, Safe, BlockDone, BlockWalks, BlocksWalk, ElseDone, ElseWalks, ElseThere, IfThere, IfWalks, LoopWalks}
+use Rattle.fronts.specs.Walks.{Memory, memory, Wrote, Ready, Safe, BlockDone, BlockWalks, IfThere, IfWalks, LoopWalks}
 use Rattle.ends.specs.Ends.{Merges}
-use Rattle.fronts.proofs.Wrotes.{wrote-both, grows-both, within-on}
+use Rattle.writing.proofs.Stores.{none-stored}
+use Rattle.fronts.proofs.Wrotes.{and-none, wrote-both, within-on}
 use Rattle.fronts.proofs.Block.{block-end}
-use Rattle.walk.proofs.Branches.{first-fault, if-then, if-else, second-fault, loop-blocks}
+use Rattle.walk.proofs.Branches.{ElseWalks, ElseThere, first-fault, if-then, if-else, second-fault, loop-blocks}
 
 -- the place behind a flag
 abbrev pub flagged : Place → ℕ → Place
 flagged p written = record { at = p .at + 1; last = p .last; written = written; errors = p .errors; warnings = p .warnings; lefts = p .lefts; inserted = p .inserted; fits = p .fits }
-
-and-none : (a : Bool) → a ≡ (a && true)
-and-none true = refl
-and-none false = refl
-
-none-at : (xs : List ℕ) (i : ℕ) → Stored xs i [] xs i
-none-at xs i = record { cells = refl; place = omega arith }
 
 module _ (s : List ℕ) (p q : Place) (written b : ℕ) (out out₁ errs warns lefts : List ℕ) (eq : q ≡ flagged p written) (x : Stored out (p .written) (b ∷ []) out₁ written) where
   pub flag-wrote : Wrote (byte b) p (memory out errs warns lefts) q (memory out₁ errs warns lefts)
   flag-wrote = subst (λ (y : Place). Wrote (byte b) p (memory out errs warns lefts) y (memory out₁ errs warns lefts)) (sym eq) (record {
     bytes = λ h. x;
     long = x .place;
-    errors = none-at errs (p .errors);
-    warnings = none-at warns (p .warnings);
-    lefts = none-at lefts (p .lefts);
+    errors = none-stored errs (p .errors);
+    warnings = none-stored warns (p .warnings);
+    lefts = none-stored lefts (p .lefts);
     fits = and-none (p .fits);
   })
 

@@ -1,11 +1,8 @@
 // The ownership pass over the bytes of an image: blocks and branches.
 // Throughout, ns, ts and xs are where the names, types and structs stand in the image s, all lent.
 ghost use mathlib.Core.Path.{_≡_};
-ghost use mathlib.Core.Bool.{false, _&&_, _||_};
-ghost use mathlib.Core.List.{List};
-ghost use Prim.Native.Nat.{ℕ, suc, _+_, _-_, _≤_, _<_};
-ghost use lib.Dec.{eqb, leb};
-ghost use lib.ListN.{length};
+ghost use mathlib.Core.Bool.{false};
+ghost use Prim.Native.Nat.{suc, _+_, _-_, _<_};
 ghost use Rattle.tables.specs.Tables.{Tables};
 ghost use Rattle.effects.specs.Scan.{Lent, Says};
 ghost use Rattle.scope.specs.View.{view};

@@ -7,8 +7,8 @@ ghost use lib.Seq.{sets, slice};
 ghost use Rattle.fronts.specs.Walks.{memory};
 ghost use Rattle.whole_image.specs.Images.{Stands, ImageWalks, Measures, lackOf};
 use statements::Place;
-use walk::Env;
-use walk::Walk;
+use fronts::Env;
+use fronts::Walk;
 
 // The place where the walk of a body begins.
 fn begun(at: usize, written: usize) -> Place
