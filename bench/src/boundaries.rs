@@ -102,12 +102,16 @@ pub fn own_memory() -> Vec<(String, Image)> {
 }
 
 /// The deepest that is accepted: 12 blocks, in each an expression 24 deep, and 64 locals, by each way to nest; short of 2,048 bytes and
-/// over.
+/// over, and with a local whose type is inline arrays as deep as they go.
 pub fn deepest() -> Vec<(String, Image)> {
     let mut list: Vec<(String, Image)> = vec![];
     for (label, way) in [("blocks", 0), ("then", 1), ("else", 2), ("loops", 3), ("each in turn", 4)] {
-        for (size, lets) in [("short", 4), ("long", 64)] {
-            let mut inner = block(20, [locals(lets - 2), vec![run(20, deep_call(24)), give(21, deep(24, ident(22, V)))]].concat());
+        for (size, lets, arrays) in [("short", 4, 0), ("long", 64, 0), ("deep type", 64, 253)] {
+            let tables = body(&[V, W], vec![]);
+            let mut types = tables.types.clone();
+            (0..arrays).for_each(|_| types.push(Ty::Array(if types.len() == 3 { T } else { types.len() as TyNo - 1 })));
+            let last = set(29, W, if arrays == 0 { T } else { types.len() as TyNo - 1 }, literal());
+            let mut inner = block(20, [locals(lets - 3), vec![last, run(20, deep_call(24)), give(21, deep(24, ident(22, V)))]].concat());
             for depth in (1..12).rev() {
                 let statement = match if way == 4 { depth % 4 } else { way } {
                     0 => Stmt::Block(inner),
@@ -117,7 +121,7 @@ pub fn deepest() -> Vec<(String, Image)> {
                 };
                 inner = block(26, vec![statement]);
             }
-            list.push((format!("deepest, {label}, {size}"), Image { body: inner, ..body(&[V, W], vec![]) }));
+            list.push((format!("deepest, {label}, {size}"), Image { types, body: inner, ..tables }));
         }
     }
     list

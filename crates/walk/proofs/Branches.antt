@@ -6,7 +6,7 @@ use mathlib.Core.Path.{_≡_, refl, sym, ap, _∙_, subst}
 use mathlib.Core.Bool.{Bool, true, false, not, _&&_}
 use mathlib.Core.List.{List}
 use mathlib.Core.Option.{Option, none, some}
-use lib.ListN.{length}
+use lib.ListN.{length, getD}
 use Rattle.fields.specs.Parsed.{ok}
 use Rattle.fields.specs.Bytes.{Bytes}
 use Rattle.tables.specs.Limits.{version1}
@@ -21,6 +21,7 @@ use Rattle.rules.specs.Report.{codeBytes}
 use Rattle.rules.specs.Walk.{tooWide, walkFault}
 use Rattle.scope.specs.View.{view}
 use Rattle.steps.specs.Own.{numberOf, Own, byte, both, blockOwn, blocksFault}
+use Rattle.returns.specs.Returns.{BlockThere}
 use Rattle.statements.specs.declared.Place.{Place}
 use Rattle.fronts.specs.declared.Walk.{Walk}
 use Rattle.fronts.specs.Walks.{Memory, Wrote, BlockDone, BlocksWalk}
