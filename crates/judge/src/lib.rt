@@ -5,8 +5,8 @@ ghost use lib.ListN.{length};
 ghost use Rattle.fronts.specs.Walks.{memory};
 ghost use Rattle.whole_image.specs.Images.{Stands};
 ghost use Rattle.judge.specs.Passes.{Passes};
-use statements::Place;
 use fronts::Env;
+use statements::Place;
 
 // Bytes written and entries of each list.
 pub struct Totals {

@@ -3,9 +3,9 @@ ghost use mathlib.Core.Path.{_≡_};
 ghost use Rattle.fronts.specs.Walks.{memory};
 ghost use Rattle.judge.specs.Passes.{Passes, outcomeOf, memoryAfter, verdictOn};
 ghost use Rattle.ownership_pass.specs.Entries.{numberOf, totalsAfter, RoomIs, RoomLeaves};
+use fronts::Env;
 use image::Rest;
 use judge::Outcome;
-use fronts::Env;
 
 // What the entry that answers the room answers; of a denial, the fault.
 pub enum Answer {

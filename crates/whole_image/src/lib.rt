@@ -6,9 +6,9 @@ ghost use lib.ListN.{length};
 ghost use lib.Seq.{sets, slice};
 ghost use Rattle.fronts.specs.Walks.{memory};
 ghost use Rattle.whole_image.specs.Images.{Stands, ImageWalks, Measures, lackOf};
-use statements::Place;
 use fronts::Env;
 use fronts::Walk;
+use statements::Place;
 
 // The place where the walk of a body begins.
 fn begun(at: usize, written: usize) -> Place
