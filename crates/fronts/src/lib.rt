@@ -206,7 +206,7 @@ fn transform_front(
     let d = &l.kinds;
     let n = l.count;
     let end = e.at;
-    let x = statements::statement(s, ns, ts, xs, a, b, c, d, n, p, end, out, warns, lefts);
+    let x = acts::statement(s, ns, ts, xs, a, b, c, d, n, p, end, out, warns, lefts);
     let y = x.place;
     let z = told(y, e.errors);
     if has_blocks(tag) {
@@ -276,7 +276,7 @@ fn quiet_statement<'a>(
         };
     }
     let end = q.at;
-    let a = statements::statement(s, ns, ts, xs, ln, lt, ld, lk, n, p, end, out, warns, lefts);
+    let a = acts::statement(s, ns, ts, xs, ln, lt, ld, lk, n, p, end, out, warns, lefts);
     let place = a.place;
     Quietly {
         done: true,
