@@ -175,7 +175,7 @@ fn evaluated(
     let p = f.first;
     let g = env.globals;
     let n = env.first;
-    validation::validate_exprs(s, ns, ts, xs, g, n, st, k, p, errs, told)
+    evaluation::validate_exprs(s, ns, ts, xs, g, n, st, k, p, errs, told)
 }
 
 // A statement of a block up to its blocks, if it has any.
@@ -241,7 +241,7 @@ fn quiet_values<'a>(
     let p = f.first;
     let g = env.globals;
     let first = env.first;
-    validation::are_quiet(s, ns, ts, xs, g, first, ln, lk, n, k, p)
+    evaluation::are_quiet(s, ns, ts, xs, g, first, ln, lk, n, k, p)
 }
 
 // A statement that changes nothing of the locals, walked without the stack.
