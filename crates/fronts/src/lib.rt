@@ -175,7 +175,7 @@ fn evaluated(
     let p = f.first;
     let g = env.globals;
     let n = env.first;
-    validation::validate_exprs(s, ns, ts, xs, g, n, st, k, p, errs, told)
+    evaluation::validate_exprs(s, ns, ts, xs, g, n, st, k, p, errs, told)
 }
 
 // A statement of a block up to its blocks, if it has any.
@@ -206,7 +206,7 @@ fn transform_front(
     let d = &l.kinds;
     let n = l.count;
     let end = e.at;
-    let x = statements::statement(s, ns, ts, xs, a, b, c, d, n, p, end, out, warns, lefts);
+    let x = acts::statement(s, ns, ts, xs, a, b, c, d, n, p, end, out, warns, lefts);
     let y = x.place;
     let z = told(y, e.errors);
     if has_blocks(tag) {
@@ -241,7 +241,7 @@ fn quiet_values<'a>(
     let p = f.first;
     let g = env.globals;
     let first = env.first;
-    validation::are_quiet(s, ns, ts, xs, g, first, ln, lk, n, k, p)
+    evaluation::are_quiet(s, ns, ts, xs, g, first, ln, lk, n, k, p)
 }
 
 // A statement that changes nothing of the locals, walked without the stack.
@@ -276,7 +276,7 @@ fn quiet_statement<'a>(
         };
     }
     let end = q.at;
-    let a = statements::statement(s, ns, ts, xs, ln, lt, ld, lk, n, p, end, out, warns, lefts);
+    let a = acts::statement(s, ns, ts, xs, ln, lt, ld, lk, n, p, end, out, warns, lefts);
     let place = a.place;
     Quietly {
         done: true,

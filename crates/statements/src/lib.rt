@@ -1,11 +1,10 @@
-// What each kind of statement writes before its blocks, and how it changes the scope stack: the arms of transform_block.
+// Parts of the arms of transform_block: what they delete, revive and take over, and the arms that put in no deletes.
 // Throughout, ns, ts and xs are where the names, types and structs stand in the image s, and ln, lt, ld and lk the names, types,
 // depths and states of the n locals, all lent.
 ghost use mathlib.Core.Path.{_≡_};
-ghost use mathlib.Core.Bool.{cond, _&&_, _||_};
+ghost use mathlib.Core.Bool.{cond, _&&_};
 ghost use mathlib.Core.List.{List, map};
 ghost use Prim.Native.Nat.{ℕ, _+_, _≤_, _<_};
-ghost use lib.Dec.{eqb};
 ghost use lib.ListN.{length, getD};
 ghost use Rattle.fields.specs.Number.{four};
 ghost use Rattle.tables.specs.Tables.{Tables};
@@ -24,10 +23,9 @@ ghost use Rattle.scope.specs.View.{view};
 ghost use Rattle.scope.specs.declared.Stack.{Stack};
 ghost use Rattle.writing.specs.Stored.{Stored};
 ghost use Rattle.drops.specs.Drops.{deleteBytes, Askable, Tells};
-ghost use Rattle.statements.specs.Act.{namedOf, takenIn, Positions, Tabled, Lends, FrontThere, Within, Grows, ActsThere, SimpleThere};
-ghost use Rattle.statements.specs.Parts.{deletedName, deleteOf, reviveOf, sparing, takesOver, Typed, Kinded, noPut, relisted, Copied, WarnsAt, Untouched};
+ghost use Rattle.statements.specs.Act.{namedOf, takenIn, FrontThere, Within, Grows, ActsThere, SimpleThere};
+ghost use Rattle.statements.specs.Parts.{deletedName, deleteOf, reviveOf, takesOver, Typed, Kinded, noPut, Copied, WarnsAt, Untouched};
 use body::Node;
-use drops::Which;
 use effects::name_at;
 use effects::span_at;
 use fields::peek;
@@ -70,7 +68,7 @@ pub struct Act {
 }
 
 // The name of an Ident or a ThisLiteral, looked through.
-fn name_in(s: &[u8], at: usize) -> Named
+pub fn name_in(s: &[u8], at: usize) -> Named
     ensures { λ r. ⌜ ((e : Expr) (next : ℕ) → Stands e (now (s .entry)) at next → namedOf r ≡ nameIn (viewed e)) ⌝ }
 {
     let p = body::strip_noop_unary(s, at);
@@ -194,7 +192,7 @@ fn consumed_compiler_temp_from_assign<'a>(
 }
 
 // The place behind a statement that began there, its bytes copied up to a position after so many deletes.
-fn behind(s: &[u8], p: Place, put: drops::Put, to: usize, out: &mut [u8]) -> Place
+pub fn behind(s: &[u8], p: Place, put: drops::Put, to: usize, out: &mut [u8]) -> Place
     requires { ⌜ (p .at ≤ to) × (to ≤ length (now s)) × (length (now s) ≤ 65536) × (put .at < 4294967296) × (p .inserted + put .count < 4294967296) ⌝ }
     ensures { λ r. ⌜ Copied (now (s .entry)) p put to (now (out .entry)) r (now (out .exit)) ⌝ }
 {
@@ -212,7 +210,7 @@ fn behind(s: &[u8], p: Place, put: drops::Put, to: usize, out: &mut [u8]) -> Pla
 }
 
 // Nothing put in.
-fn nothing_put(p: Place) -> drops::Put
+pub fn nothing_put(p: Place) -> drops::Put
     ensures { λ r. ⌜ r ≡ noPut p ⌝ }
 {
     drops::Put {
@@ -222,7 +220,7 @@ fn nothing_put(p: Place) -> drops::Put
 }
 
 // A statement that changes nothing and puts nothing in, up to a position.
-fn plain_statement(s: &[u8], p: Place, to: usize, out: &mut [u8]) -> Act
+pub fn plain_statement(s: &[u8], p: Place, to: usize, out: &mut [u8]) -> Act
     requires { ⌜ Within (now s) p × FrontThere (now s) (p .at) to × Untouched (getD (now s) (p .at) 0) ⌝ }
     ensures { λ a. ⌜ ((T : Tables) (σ : Scope Status) (warns left : List ℕ)
         → ActsThere T (now (s .entry)) σ p (now (out .entry)) warns left a (now (out .exit)) warns left) ⌝ }
@@ -237,7 +235,7 @@ fn plain_statement(s: &[u8], p: Place, to: usize, out: &mut [u8]) -> Act
 }
 
 // An expression statement: an unused result is deleted, with a warning.
-fn expr_statement(
+pub fn expr_statement(
     s: &[u8],
     ts: &[usize],
     xs: &[usize],
@@ -309,7 +307,7 @@ fn put_unused(
 }
 
 // A Let or Const.
-fn variable_statement<'a>(
+pub fn variable_statement<'a>(
     s: &[u8],
     ns: &[usize],
     ln: &'a [u16; 64],
@@ -338,96 +336,8 @@ fn variable_statement<'a>(
     }
 }
 
-// The locals that a return of the value at a position deletes.
-fn returned_identifier_name(s: &[u8], value: usize) -> Which
-    ensures { λ r. ⌜ ((e : Expr) (next : ℕ) → Stands e (now (s .entry)) value next → r ≡ sparing (nameIn (viewed e))) ⌝ }
-{
-    match name_in(s, value) {
-        Named::Called(name, _) => Which::But(name),
-        Named::Nobody => Which::All,
-    }
-}
-
-// A Return with a value: deletes, with span 0, then the statement.
-fn return_statement<'a>(
-    s: &[u8],
-    ts: &[usize],
-    xs: &[usize],
-    ln: &'a [u16; 64],
-    lt: &'a [u16; 64],
-    ld: &'a [u8; 64],
-    lk: &'a [u8; 64],
-    n: usize,
-    p: Place,
-    end: usize,
-    out: &mut [u8],
-) -> Act
-    requires { ⌜ Askable (now s) (now ts) (now xs) × (n ≤ 64) × Within (now s) p × FrontThere (now s) (p .at) end
-        × (getD (now s) (p .at) 0 ≡ 2) × (getD (now s) (p .at + 5) 0 ≡ 1) ⌝ }
-    ensures { λ a. ⌜ ((T : Tables) → Tells (now (s .entry)) (now (ts .entry)) (now (xs .entry)) T
-        → (st : Stack) → Lends st (now (ln .entry)) (now (lt .entry)) (now (ld .entry)) (now (lk .entry)) n → (warns left : List ℕ)
-        → ActsThere T (now (s .entry)) (view st) p (now (out .entry)) warns left a (now (out .exit)) warns left) ⌝ }
-    ensures { λ a. ⌜ Grows (now (s .entry)) p (a .place) ⌝ }
-{
-    let which = returned_identifier_name(s, p.at + 6);
-    let put = drops::put_drops(s, ts, xs, ln, lt, ld, lk, n, which, 0, out, p.written);
-    let place = behind(s, p, put, end + 2, out);
-    Act {
-        place: place,
-        change: Change::Nothing,
-        taken: Named::Nobody,
-    }
-}
-
-// The place after so many numbers of left-behind entries.
-fn listed(p: Place, lefts: usize) -> Place
-    ensures { λ r. ⌜ r ≡ relisted p lefts ⌝ }
-{
-    Place {
-        at: p.at,
-        last: p.last,
-        written: p.written,
-        errors: p.errors,
-        warnings: p.warnings,
-        lefts: lefts,
-        inserted: p.inserted,
-        fits: p.fits,
-    }
-}
-
-// A Return without a value: what is left behind is listed.
-fn bare_return<'a>(
-    s: &[u8],
-    ts: &[usize],
-    xs: &[usize],
-    ln: &'a [u16; 64],
-    lt: &'a [u16; 64],
-    ld: &'a [u8; 64],
-    lk: &'a [u8; 64],
-    n: usize,
-    p: Place,
-    out: &mut [u8],
-    lefts: &mut [u32],
-) -> Act
-    requires { ⌜ Askable (now s) (now ts) (now xs) × (n ≤ 64) × Within (now s) p × FrontThere (now s) (p .at) (p .at + 6)
-        × (getD (now s) (p .at) 0 ≡ 2) × (getD (now s) (p .at + 5) 0 ≡ 0) ⌝ }
-    ensures { λ a. ⌜ ((T : Tables) → Tells (now (s .entry)) (now (ts .entry)) (now (xs .entry)) T
-        → (st : Stack) → Lends st (now (ln .entry)) (now (lt .entry)) (now (ld .entry)) (now (lk .entry)) n → (warns : List ℕ)
-        → ActsThere T (now (s .entry)) (view st) p (now (out .entry)) warns (now (lefts .entry)) a (now (out .exit)) warns (now (lefts .exit))) ⌝ }
-    ensures { λ a. ⌜ Grows (now (s .entry)) p (a .place) ⌝ }
-{
-    let span = span_at(s, p.at + 1);
-    let left = drops::list_left(s, ts, xs, ln, lt, ld, lk, n, span, lefts, p.lefts);
-    let place = behind(s, listed(p, left), nothing_put(p), p.at + 8, out);
-    Act {
-        place: place,
-        change: Change::Nothing,
-        taken: Named::Nobody,
-    }
-}
-
 // The destination at a position is alive again.
-fn revived(s: &[u8], destination: usize) -> Change
+pub fn revived(s: &[u8], destination: usize) -> Change
     ensures { λ r. ⌜ ((e : Expr) (next : ℕ) → Stands e (now (s .entry)) destination next → r ≡ reviveOf (nameIn (viewed e))) ⌝ }
 {
     match name_in(s, destination) {
@@ -437,7 +347,7 @@ fn revived(s: &[u8], destination: usize) -> Change
 }
 
 // The temporary that an assignment to the destination at a position takes over.
-fn taken_by<'a>(
+pub fn taken_by<'a>(
     s: &[u8],
     ns: &[usize],
     ln: &'a [u16; 64],
@@ -459,7 +369,7 @@ fn taken_by<'a>(
 }
 
 // pre_delete_before_assign: the destination at a position is an Ident, not a ThisLiteral.
-fn pre_delete_before_assign<'a>(
+pub fn pre_delete_before_assign<'a>(
     s: &[u8],
     ts: &[usize],
     xs: &[usize],
@@ -484,116 +394,6 @@ fn pre_delete_before_assign<'a>(
     };
     let name = name_at(s, p + 7);
     drops::put_assign_drop(s, ts, xs, ln, lt, lk, n, name, span, out, at)
-}
-
-// An Assign: its delete, then the statement.
-fn assign_statement<'a>(
-    s: &[u8],
-    ns: &[usize],
-    ts: &[usize],
-    xs: &[usize],
-    ln: &'a [u16; 64],
-    lt: &'a [u16; 64],
-    lk: &'a [u8; 64],
-    n: usize,
-    p: Place,
-    end: usize,
-    out: &mut [u8],
-) -> Act
-    requires { ⌜ AllWithin (now s) (now ns) × Askable (now s) (now ts) (now xs) × (n ≤ 64) × Within (now s) p × FrontThere (now s) (p .at) end
-        × (getD (now s) (p .at) 0 ≡ 6) ⌝ }
-    ensures { λ a. ⌜ ((T : Tables) → map (nameOf (now (s .entry))) (now (ns .entry)) ≡ T .names → Tells (now (s .entry)) (now (ts .entry)) (now (xs .entry)) T
-        → (st : Stack) → Kinded st (now (ln .entry)) (now (lt .entry)) (now (lk .entry)) n → (warns left : List ℕ)
-        → ActsThere T (now (s .entry)) (view st) p (now (out .entry)) warns left a (now (out .exit)) warns left) ⌝ }
-    ensures { λ a. ⌜ Grows (now (s .entry)) p (a .place) ⌝ }
-{
-    let span = span_at(s, p.at + 1);
-    let dst = p.at + 5;
-    let put = pre_delete_before_assign(s, ts, xs, ln, lt, lk, n, dst, span, out, p.written);
-    let place = behind(s, p, put, end + 2, out);
-    let change = revived(s, dst);
-    let taken = taken_by(s, ns, ln, lt, n, dst);
-    Act {
-        place: place,
-        change: change,
-        taken: taken,
-    }
-}
-
-// A statement up to its blocks: its tag is at the place, its values, evaluated, end at `end`.
-pub fn statement<'a>(
-    s: &[u8],
-    ns: &[usize],
-    ts: &[usize],
-    xs: &[usize],
-    ln: &'a [u16; 64],
-    lt: &'a [u16; 64],
-    ld: &'a [u8; 64],
-    lk: &'a [u8; 64],
-    n: usize,
-    p: Place,
-    end: usize,
-    out: &mut [u8],
-    warns: &mut [u32],
-    lefts: &mut [u32],
-) -> Act
-    requires { ⌜ Positions (now s) (now ns) (now ts) (now xs) × (n ≤ 64) × Within (now s) p × FrontThere (now s) (p .at) end ⌝ }
-    ensures { λ a. ⌜ ((T : Tables) → Tabled (now (s .entry)) (now (ns .entry)) (now (ts .entry)) (now (xs .entry)) T
-        → (st : Stack) → Lends st (now (ln .entry)) (now (lt .entry)) (now (ld .entry)) (now (lk .entry)) n
-        → ActsThere T (now (s .entry)) (view st) p (now (out .entry)) (now (warns .entry)) (now (lefts .entry)) a (now (out .exit)) (now (warns .exit)) (now (lefts .exit))) ⌝ }
-    ensures { λ a. ⌜ Grows (now (s .entry)) p (a .place) ⌝ }
-{
-    let at = p.at;
-    let tag = s[at];
-    if tag == 2 {
-        return either_return(s, ts, xs, ln, lt, ld, lk, n, p, end, out, lefts);
-    }
-    if tag == 3 {
-        return expr_statement(s, ts, xs, p, end, out, warns);
-    }
-    if tag == 6 {
-        return assign_statement(s, ns, ts, xs, ln, lt, lk, n, p, end, out);
-    }
-    if is_variable(tag) {
-        return variable_statement(s, ns, ln, lt, n, p, end, out);
-    }
-    plain_statement(s, p, end, out)
-}
-
-fn is_variable(tag: u8) -> bool
-    ensures { λ r. ⌜ r ≡ (eqb tag 4 || eqb tag 5) ⌝ }
-{
-    if tag == 4 {
-        return true;
-    }
-    tag == 5
-}
-
-// A Return, by its flag.
-fn either_return<'a>(
-    s: &[u8],
-    ts: &[usize],
-    xs: &[usize],
-    ln: &'a [u16; 64],
-    lt: &'a [u16; 64],
-    ld: &'a [u8; 64],
-    lk: &'a [u8; 64],
-    n: usize,
-    p: Place,
-    end: usize,
-    out: &mut [u8],
-    lefts: &mut [u32],
-) -> Act
-    requires { ⌜ Askable (now s) (now ts) (now xs) × (n ≤ 64) × Within (now s) p × FrontThere (now s) (p .at) end × (getD (now s) (p .at) 0 ≡ 2) ⌝ }
-    ensures { λ a. ⌜ ((T : Tables) → Tells (now (s .entry)) (now (ts .entry)) (now (xs .entry)) T
-        → (st : Stack) → Lends st (now (ln .entry)) (now (lt .entry)) (now (ld .entry)) (now (lk .entry)) n → (warns : List ℕ)
-        → ActsThere T (now (s .entry)) (view st) p (now (out .entry)) warns (now (lefts .entry)) a (now (out .exit)) warns (now (lefts .exit))) ⌝ }
-    ensures { λ a. ⌜ Grows (now (s .entry)) p (a .place) ⌝ }
-{
-    if peek(s, p.at + 5) == 1 {
-        return return_statement(s, ts, xs, ln, lt, ld, lk, n, p, end, out);
-    }
-    bare_return(s, ts, xs, ln, lt, ld, lk, n, p, out, lefts)
 }
 
 // Whether a statement of a tag, whose head is at a position, has no blocks and changes no local by itself.

@@ -2,6 +2,5 @@
 pub mod Groups
 pub mod Entries
 pub mod Runs
-mod Single
+pub mod Single
 mod Steps
-mod Scans

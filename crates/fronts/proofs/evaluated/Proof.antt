@@ -7,7 +7,7 @@ use Rattle.fronts.proofs.evaluated.Tie as tie
 use Rattle.fronts.proofs.evaluated.Reads as reads
 use Rattle.fronts.proofs.evaluated.Lts as lts
 use Rattle.returns.proofs.front_at.Reads as front-at-reads
-use Rattle.validation.proofs.validate_exprs.Reads as validate-exprs-reads
+use Rattle.evaluation.proofs.validate_exprs.Reads as validate-exprs-reads
 
 -- src/lib.rt:348:9
 front-at-requires : tie.Need-front-at-requires

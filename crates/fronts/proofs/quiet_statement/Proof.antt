@@ -17,7 +17,7 @@ use Rattle.fronts.proofs.quiet_statement.Reads as reads
 use Rattle.fronts.proofs.quiet_statement.Lts as lts
 use Rattle.fronts.proofs.quiet_values.Reads as quiet-values-reads
 use Rattle.returns.proofs.front_at.Reads as front-at-reads
-use Rattle.statements.proofs.statement.Reads as statement-reads
+use Rattle.acts.proofs.statement.Reads as statement-reads
 
 -- src/lib.rt:464:9
 front-at-requires : tie.Need-front-at-requires

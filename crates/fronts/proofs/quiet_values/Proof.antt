@@ -10,7 +10,7 @@ use Rattle.fronts.proofs.quiet_values.Tie as tie
 use Rattle.fronts.proofs.quiet_values.Reads as reads
 use Rattle.fronts.proofs.quiet_values.Lts as lts
 use Rattle.statements.proofs.is_simple.Reads as is-simple-reads
-use Rattle.validation.proofs.are_quiet.Reads as are-quiet-reads
+use Rattle.evaluation.proofs.are_quiet.Reads as are-quiet-reads
 
 -- src/lib.rt:431:9
 is-simple-requires : tie.Need-is-simple-requires

@@ -15,7 +15,7 @@ use Rattle.fronts.proofs.has_blocks.Reads as has-blocks-reads
 use Rattle.fronts.proofs.settled.Reads as settled-reads
 use Rattle.fronts.proofs.told.Reads as told-reads
 use Rattle.fronts.proofs.walk_of.Reads as walk-of-reads
-use Rattle.statements.proofs.statement.Reads as statement-reads
+use Rattle.acts.proofs.statement.Reads as statement-reads
 
 -- src/lib.rt:201:15
 shared-slice-read-tag : tie.Need-shared-slice-read-tag

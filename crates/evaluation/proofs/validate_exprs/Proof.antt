@@ -8,16 +8,16 @@ use Rattle.effects.proofs.Asked.{tablesOf, said}
 use Rattle.effects.proofs.Start.{ready-start, ready-next, waits, few}
 use Rattle.scope.specs.View.{view, Sound}
 use Rattle.writing.proofs.Stores.{stored-length}
 use Rattle.validation.proofs.Single.{not-false}
-use Rattle.validation.proofs.Scans.{Written, written-start, written-still, written-next, evaluated, bounded}
-use Rattle.validation.proofs.validate_exprs.Statement.{statement}
-use Rattle.validation.proofs.validate_exprs.Tie as tie
-use Rattle.validation.proofs.validate_exprs.Reads as reads
-use Rattle.validation.proofs.validate_exprs.Lts as lts
+use Rattle.evaluation.proofs.Scans.{Written, written-start, written-still, written-next, evaluated, bounded}
+use Rattle.evaluation.proofs.validate_exprs.Statement.{statement}
+use Rattle.evaluation.proofs.validate_exprs.Tie as tie
+use Rattle.evaluation.proofs.validate_exprs.Reads as reads
+use Rattle.evaluation.proofs.validate_exprs.Lts as lts
 use Rattle.effects.proofs.advance.Reads as advance-reads
 use Rattle.effects.proofs.root.Reads as root-reads
 use Rattle.validation.proofs.apply_effect.Reads as apply-effect-reads
-use Rattle.validation.proofs.is_quiet.Reads as is-quiet-reads
+use Rattle.evaluation.proofs.is_quiet.Reads as is-quiet-reads
 
 abbrev Inv-loop : tie.InvT-loop
 Inv-loop s names types structs globals first k at₀ errors₀ n locals₀ told₀ nodes₀ depth₀ at errors locals told nodes depth = Ready s nodes depth at × Sound locals × (told + 12 * fuel s depth at ≤ n + 12 * fuel s 1 at₀) × Written s names types structs globals first k at₀ (view locals₀) errors₀ n nodes depth at (view locals) errors told

@@ -1,17 +1,17 @@
 use native.Mathlib.Omega.{arith}
 use denote.Ref.{now}
 use Rattle.scope.specs.View.{view}
 use Rattle.statements.proofs.Acts.{room-of, none-put-is, listed-is, bare-reach, bare-grows, bare-acts}
 use borrow.Author.Needs.{needs}
-use Rattle.statements.proofs.bare_return.Statement.{statement}
-use Rattle.statements.proofs.bare_return.Tie as tie
-use Rattle.statements.proofs.bare_return.Reads as reads
-use Rattle.statements.proofs.bare_return.Lts as lts
+use Rattle.acts.proofs.bare_return.Statement.{statement}
+use Rattle.acts.proofs.bare_return.Tie as tie
+use Rattle.acts.proofs.bare_return.Reads as reads
+use Rattle.acts.proofs.bare_return.Lts as lts
 use Rattle.drops.proofs.list_left.Reads as list-left-reads
 use Rattle.effects.proofs.span_at.Reads as span-at-reads
 use Rattle.statements.proofs.behind.Reads as behind-reads
-use Rattle.statements.proofs.listed.Reads as listed-reads
+use Rattle.acts.proofs.listed.Reads as listed-reads
 use Rattle.statements.proofs.nothing_put.Reads as nothing-put-reads
 
 -- src/lib.rt:418:27
 add-span-at : tie.Need-add-span-at

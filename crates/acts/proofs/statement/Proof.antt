@@ -1,18 +1,18 @@
 use mathlib.Core.Path.{sym, _∙_}
 use denote.Ref.{now}
 use Rattle.scope.specs.View.{view}
 use Rattle.statements.proofs.Acts.{tag-there, variable-tag, plain-tag}
 use borrow.Author.Needs.{needs}
-use Rattle.statements.proofs.statement.Statement.{statement}
-use Rattle.statements.proofs.statement.Tie as tie
-use Rattle.statements.proofs.statement.Reads as reads
-use Rattle.statements.proofs.statement.Lts as lts
-use Rattle.statements.proofs.assign_statement.Reads as assign-statement-reads
-use Rattle.statements.proofs.either_return.Reads as either-return-reads
+use Rattle.acts.proofs.statement.Statement.{statement}
+use Rattle.acts.proofs.statement.Tie as tie
+use Rattle.acts.proofs.statement.Reads as reads
+use Rattle.acts.proofs.statement.Lts as lts
+use Rattle.acts.proofs.assign_statement.Reads as assign-statement-reads
+use Rattle.acts.proofs.either_return.Reads as either-return-reads
 use Rattle.statements.proofs.expr_statement.Reads as expr-statement-reads
-use Rattle.statements.proofs.is_variable.Reads as is-variable-reads
+use Rattle.acts.proofs.is_variable.Reads as is-variable-reads
 use Rattle.statements.proofs.plain_statement.Reads as plain-statement-reads
 use Rattle.statements.proofs.variable_statement.Reads as variable-statement-reads
 
 -- src/lib.rt:546:15
 shared-slice-read-tag : tie.Need-shared-slice-read-tag

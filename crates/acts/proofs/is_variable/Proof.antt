@@ -1,9 +1,9 @@
 use mathlib.Core.Path.{refl}
 use borrow.Author.Tests.{eq-eqb, ne-eqb}
-use Rattle.statements.proofs.is_variable.Statement.{statement}
-use Rattle.statements.proofs.is_variable.Tie as tie
-use Rattle.statements.proofs.is_variable.Reads as reads
-use Rattle.statements.proofs.is_variable.Lts as lts
+use Rattle.acts.proofs.is_variable.Statement.{statement}
+use Rattle.acts.proofs.is_variable.Tie as tie
+use Rattle.acts.proofs.is_variable.Reads as reads
+use Rattle.acts.proofs.is_variable.Lts as lts
 
 -- src/lib.rt:402:9
 returns : tie.Need-returns

@@ -1,15 +1,15 @@
 use native.Mathlib.Omega.{arith}
 use denote.Ref.{now}
 use Rattle.scope.specs.View.{view}
 use Rattle.statements.proofs.Acts.{room-of, return-reach, return-grows, return-acts}
 use borrow.Author.Needs.{needs}
-use Rattle.statements.proofs.return_statement.Statement.{statement}
-use Rattle.statements.proofs.return_statement.Tie as tie
-use Rattle.statements.proofs.return_statement.Reads as reads
-use Rattle.statements.proofs.return_statement.Lts as lts
+use Rattle.acts.proofs.return_statement.Statement.{statement}
+use Rattle.acts.proofs.return_statement.Tie as tie
+use Rattle.acts.proofs.return_statement.Reads as reads
+use Rattle.acts.proofs.return_statement.Lts as lts
 use Rattle.drops.proofs.put_drops.Reads as put-drops-reads
 use Rattle.statements.proofs.behind.Reads as behind-reads
-use Rattle.statements.proofs.returned_identifier_name.Reads as returned-identifier-name-reads
+use Rattle.acts.proofs.returned_identifier_name.Reads as returned-identifier-name-reads
 
 -- src/lib.rt:371:45
 add-returned-identifier-name : tie.Need-add-returned-identifier-name

@@ -10,15 +10,15 @@ use Rattle.effects.proofs.Start.{ready-start, ready-next, waits, few}
 use Rattle.scope.specs.View.{view}
 use Rattle.scope.specs.declared.Stack.{Stack}
 use Rattle.fields.proofs.Tests.{false-true}
 use Rattle.validation.proofs.Single.{not-false}
-use Rattle.validation.proofs.Scans.{Leads, leads-start, leads-still, calm}
-use Rattle.validation.proofs.are_quiet.Statement.{statement}
-use Rattle.validation.proofs.are_quiet.Tie as tie
-use Rattle.validation.proofs.are_quiet.Reads as reads
-use Rattle.validation.proofs.are_quiet.Lts as lts
+use Rattle.evaluation.proofs.Scans.{Leads, leads-start, leads-still, calm}
+use Rattle.evaluation.proofs.are_quiet.Statement.{statement}
+use Rattle.evaluation.proofs.are_quiet.Tie as tie
+use Rattle.evaluation.proofs.are_quiet.Reads as reads
+use Rattle.evaluation.proofs.are_quiet.Lts as lts
 use Rattle.effects.proofs.advance.Reads as advance-reads
 use Rattle.effects.proofs.root.Reads as root-reads
-use Rattle.validation.proofs.is_quiet.Reads as is-quiet-reads
+use Rattle.evaluation.proofs.is_quiet.Reads as is-quiet-reads
 
 abbrev Inv-loop : tie.InvT-loop
 Inv-loop s names types structs globals first locals kinds count k at nodes₀ depth₀ p₀ nodes depth p = Ready s nodes depth p × ((T : Tables) → Says s names types structs globals first T → (st : Stack) → st .names ≡ locals → st .kinds ≡ kinds → st .count ≡ count → Leads T s k at (view st) nodes depth p (view st) [])

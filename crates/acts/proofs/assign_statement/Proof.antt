@@ -1,17 +1,17 @@
 use native.Mathlib.Omega.{arith}
 use denote.Ref.{now}
 use Rattle.scope.specs.View.{view}
 use Rattle.statements.proofs.Acts.{room-of, assign-reach, assign-grows, assign-acts}
 use borrow.Author.Needs.{needs}
-use Rattle.statements.proofs.assign_statement.Statement.{statement}
-use Rattle.statements.proofs.assign_statement.Tie as tie
-use Rattle.statements.proofs.assign_statement.Reads as reads
-use Rattle.statements.proofs.assign_statement.Lts as lts
+use Rattle.acts.proofs.assign_statement.Statement.{statement}
+use Rattle.acts.proofs.assign_statement.Tie as tie
+use Rattle.acts.proofs.assign_statement.Reads as reads
+use Rattle.acts.proofs.assign_statement.Lts as lts
 use Rattle.effects.proofs.span_at.Reads as span-at-reads
 use Rattle.statements.proofs.behind.Reads as behind-reads
 use Rattle.statements.proofs.pre_delete_before_assign.Reads as pre-delete-before-assign-reads
 use Rattle.statements.proofs.revived.Reads as revived-reads
 use Rattle.statements.proofs.taken_by.Reads as taken-by-reads
 
 -- src/lib.rt:509:27
 add-span-at : tie.Need-add-span-at

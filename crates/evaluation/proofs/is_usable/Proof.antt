@@ -1,11 +1,11 @@
 use native.Mathlib.Omega.{arith}
 use mathlib.Core.Path.{refl}
 use Rattle.validation.proofs.Single.{named, found-below, use-alive, use-none}
 use borrow.Author.Needs.{needs}
-use Rattle.validation.proofs.is_usable.Statement.{statement}
-use Rattle.validation.proofs.is_usable.Tie as tie
-use Rattle.validation.proofs.is_usable.Reads as reads
-use Rattle.validation.proofs.is_usable.Lts as lts
+use Rattle.evaluation.proofs.is_usable.Statement.{statement}
+use Rattle.evaluation.proofs.is_usable.Tie as tie
+use Rattle.evaluation.proofs.is_usable.Reads as reads
+use Rattle.evaluation.proofs.is_usable.Lts as lts
 use Rattle.scope.proofs.find_local.Reads as find-local-reads
 
 -- src/lib.rt:62:11

@@ -1,12 +1,12 @@
 use mathlib.Core.Path.{sym, ap, _∙_}
 use Rattle.statements.specs.Act.{namedOf}
 use Rattle.statements.specs.Parts.{sparing}
 use borrow.Author.Needs.{needs}
-use Rattle.statements.proofs.returned_identifier_name.Statement.{statement}
-use Rattle.statements.proofs.returned_identifier_name.Tie as tie
-use Rattle.statements.proofs.returned_identifier_name.Reads as reads
-use Rattle.statements.proofs.returned_identifier_name.Lts as lts
+use Rattle.acts.proofs.returned_identifier_name.Statement.{statement}
+use Rattle.acts.proofs.returned_identifier_name.Tie as tie
+use Rattle.acts.proofs.returned_identifier_name.Reads as reads
+use Rattle.acts.proofs.returned_identifier_name.Lts as lts
 use Rattle.statements.proofs.name_in.Reads as name-in-reads
 
 -- src/lib.rt:344:11
 name-in-requires : tie.Need-name-in-requires

@@ -1,14 +1,14 @@
 use mathlib.Core.Path.{_∙_}
 use denote.Ref.{now}
 use Rattle.statements.proofs.Acts.{bare-there}
 use borrow.Author.Needs.{needs}
-use Rattle.statements.proofs.either_return.Statement.{statement}
-use Rattle.statements.proofs.either_return.Tie as tie
-use Rattle.statements.proofs.either_return.Reads as reads
-use Rattle.statements.proofs.either_return.Lts as lts
+use Rattle.acts.proofs.either_return.Statement.{statement}
+use Rattle.acts.proofs.either_return.Tie as tie
+use Rattle.acts.proofs.either_return.Reads as reads
+use Rattle.acts.proofs.either_return.Lts as lts
 use Rattle.fields.proofs.peek.Reads as peek-reads
-use Rattle.statements.proofs.bare_return.Reads as bare-return-reads
-use Rattle.statements.proofs.return_statement.Reads as return-statement-reads
+use Rattle.acts.proofs.bare_return.Reads as bare-return-reads
+use Rattle.acts.proofs.return_statement.Reads as return-statement-reads
 
 -- src/lib.rt:592:16
 add-peek : tie.Need-add-peek

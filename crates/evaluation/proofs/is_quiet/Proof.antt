@@ -1,13 +1,13 @@
 use mathlib.Core.Path.{sym, _∙_}
 use Rattle.fields.proofs.Tests.{false-true}
 use Rattle.validation.proofs.Single.{not-true, still-nothing, still-use, still-hand, still-give}
 use borrow.Author.Needs.{needs}
-use Rattle.validation.proofs.is_quiet.Statement.{statement}
-use Rattle.validation.proofs.is_quiet.Tie as tie
-use Rattle.validation.proofs.is_quiet.Reads as reads
-use Rattle.validation.proofs.is_quiet.Lts as lts
+use Rattle.evaluation.proofs.is_quiet.Statement.{statement}
+use Rattle.evaluation.proofs.is_quiet.Tie as tie
+use Rattle.evaluation.proofs.is_quiet.Reads as reads
+use Rattle.evaluation.proofs.is_quiet.Lts as lts
 use Rattle.validation.proofs.is_local.Reads as is-local-reads
-use Rattle.validation.proofs.is_usable.Reads as is-usable-reads
+use Rattle.evaluation.proofs.is_usable.Reads as is-usable-reads
 
 -- src/lib.rt:75:28
 enum-told : tie.Need-enum-told
