@@ -12,7 +12,7 @@ ghost use Rattle.rules.specs.Stack.{lookup, has, shape};
 ghost use Rattle.rules.specs.Report.{error, useOf, badUse, first as firstOf};
 ghost use Rattle.rules.specs.Verdict.{entryOf, entriesOf};
 ghost use Rattle.effects.specs.Raw.{uses, hands, moves};
-ghost use Rattle.effects.specs.Scan.{emits, Lent, Says};
+ghost use Rattle.effects.specs.Asked.{emits, Lent, Says};
 ghost use Rattle.state.specs.Kinds.{baseOf, said};
 ghost use Rattle.state.specs.View.{listed, Roomy, Made};
 ghost use Rattle.scope.specs.View.{view, Sound};
@@ -298,14 +298,14 @@ pub fn are_quiet<'a>(
         → (st : Locals) → st .names ≡ now (locals .entry) → st .kinds ≡ now (kinds .entry) → st .count ≡ count
         → Calm T (now (s .entry)) k at (view st) r) ⌝ }
 {
-    let root = effects::root(k);
+    let root = scan::root(k);
     let mut nodes = [root; 26];
     let mut depth = 1;
     let mut p = at;
     while 0 < depth {
         let m = depth - 1;
         let top = nodes[m];
-        let r = effects::advance(s, names, types, structs, globals, first, top, p);
+        let r = scan::advance(s, names, types, structs, globals, first, top, p);
         let effect = r.effect;
         if !is_quiet(locals, kinds, count, effect) {
             return Quiet { ok: false, at: p };
@@ -340,12 +340,12 @@ pub fn validate_exprs(
         → Evaluated T (now (s .entry)) k at (view locals) (now (errors .entry)) n (now (errors .exit)) r) × Bounded at n r ⌝ }
 {
     let mut told = n;
-    let root = effects::root(k);
+    let root = scan::root(k);
     let mut nodes = [root; 26];
     let mut depth = 1;
     while 0 < depth {
         let m = depth - 1;
-        let r = effects::advance(s, names, types, structs, globals, first, nodes[m], at);
+        let r = scan::advance(s, names, types, structs, globals, first, nodes[m], at);
         let effect = r.effect;
         let outer = r.top;
         let inner = r.inner;
