@@ -32,7 +32,7 @@ fn is_move(s: &[u8], names: &[usize], n: u16) -> bool
 {
     let k = wide16(n);
     if k < names.len() {
-        return lookup::is_move(s, names, k);
+        return named::is_move(s, names, k);
     }
     false
 }
@@ -43,7 +43,7 @@ fn consumes(s: &[u8], types: &[usize], structs: &[usize], ty: usize, method: usi
     ensures { λ r. ⌜ ((T : Tables) → map (typeIn (now (s .entry))) (now (types .entry)) ≡ T .types
         → map (structIn (now (s .entry))) (now (structs .entry)) ≡ T .structs → r ≡ consuming T ty method) ⌝ }
 {
-    match lookup::method_modifier(s, types, structs, ty, method) {
+    match named::method_modifier(s, types, structs, ty, method) {
         lookup::Found::At(k) => k == 3,
         lookup::Found::Nothing => false,
     }
@@ -87,7 +87,7 @@ fn move_ident(s: &[u8], names: &[usize], count: usize, first: usize, n: u16, p: 
     ensures { λ r. ⌜ ((T : Tables) → map (nameOf (now (s .entry))) (now (names .entry)) ≡ T .names
         → entries (globalIn (now (s .entry))) 6 count first ≡ T .globals → emits r ≡ moveIdent T n p ∷ []) ⌝ }
 {
-    match lookup::global_span(s, count, first, wide16(n)) {
+    match named::global_span(s, count, first, wide16(n)) {
         lookup::Found::At(def) => Effect::GlobalMove(p, def as u32),
         lookup::Found::Nothing => move_local(s, names, n, p),
     }

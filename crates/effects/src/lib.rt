@@ -57,7 +57,7 @@ pub fn is_temp(s: &[u8], names: &[usize], n: u16) -> bool
 {
     let k = wide16(n);
     if k < names.len() {
-        return lookup::is_compiler_temp_name(s, names, k);
+        return named::is_compiler_temp_name(s, names, k);
     }
     false
 }

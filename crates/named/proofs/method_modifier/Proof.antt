@@ -2,12 +2,12 @@
 use denote.Ref.{now}
 use mathlib.Core.Path.{sym, ap, _∙_}
 use native.Mathlib.Omega.{arith}
 use Rattle.lookup.specs.Answer.{foundOf}
 use Rattle.lookup.proofs.First.{missing, was-found, was-missing}
-use Rattle.lookup.proofs.Signature.{no-class-method, no-struct-method, struct-method, named-in, methods-in}
+use Rattle.named.proofs.Signature.{no-class-method, no-struct-method, struct-method, named-in, methods-in}
 use borrow.Author.Needs.{needs}
-use Rattle.lookup.proofs.method_modifier.Statement.{statement}
-use Rattle.lookup.proofs.method_modifier.Tie as tie
+use Rattle.named.proofs.method_modifier.Statement.{statement}
+use Rattle.named.proofs.method_modifier.Tie as tie
 
 class-name-from-receiver-ty-requires : tie.Need-class-name-from-receiver-ty-requires
 class-name-from-receiver-ty-requires c κs = (c .before .before .before .pre .0, c .before .before .before .pre .2)

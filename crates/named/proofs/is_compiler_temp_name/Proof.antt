@@ -2,11 +2,11 @@
 use denote.Ref.{now}
 use mathlib.Core.Path.{ap, _∙_}
 use Rattle.tables.specs.Name.{nameOf}
 use Rattle.lookup.specs.Name.{isTemp}
 use Rattle.lookup.proofs.First.{within}
 use borrow.Author.Needs.{needs}
-use Rattle.lookup.proofs.is_compiler_temp_name.Statement.{statement}
-use Rattle.lookup.proofs.is_compiler_temp_name.Tie as tie
+use Rattle.named.proofs.is_compiler_temp_name.Statement.{statement}
+use Rattle.named.proofs.is_compiler_temp_name.Tie as tie
 
 start-of-requires : tie.Need-start-of-requires
 start-of-requires c κs = search needs

@@ -6,10 +6,10 @@ use native.Mathlib.Omega.{arith}
 use borrow.Author.Needs.{needs}
 use lib.ListN.{length, getD, drop}
 use Rattle.tables.specs.Name.{bytesAt, nameOf, startsWith}
 use Rattle.lookup.proofs.First.{rest-starts, no-starts}
-use Rattle.lookup.proofs.Name.{rest-bytes, starts-differ, starts-next, starts-none, name-short, name-start}
-use Rattle.lookup.proofs.begins_with.Statement.{statement}
-use Rattle.lookup.proofs.begins_with.Tie as tie
+use Rattle.named.proofs.Name.{rest-bytes, starts-differ, starts-next, starts-none, name-short, name-start}
+use Rattle.named.proofs.begins_with.Statement.{statement}
+use Rattle.named.proofs.begins_with.Tie as tie
 
 abbrev Inv-loop : tie.InvT-loop
 Inv-loop s at word i₀ i = (i ≤ length word) × (startsWith word (nameOf s at) ≡ startsWith (drop i word) (bytesAt s (at + 1 + i) (getD s at 0 - i)))

@@ -3,8 +3,8 @@ use mathlib.Core.Path.{sym}
 use Rattle.fields.proofs.Numbers.{past-end}
 use denote.Ref.{now}
 use borrow.Author.Needs.{needs}
-use Rattle.lookup.proofs.start_of.Statement.{statement}
-use Rattle.lookup.proofs.start_of.Tie as tie
+use Rattle.named.proofs.start_of.Statement.{statement}
+use Rattle.named.proofs.start_of.Tie as tie
 
 mul-result : tie.Need-mul-result
 mul-result c = search needs

@@ -6,19 +6,19 @@ use borrow.Author.Needs.{needs}
 use Prim.Native.Nat.{_<_}
 use lib.ListN.{length}
 use Rattle.tables.specs.Ty.{ofWidth}
 use Rattle.lookup.specs.Answer.{foundOf}
 use Rattle.lookup.proofs.First.{found, missing}
 use Rattle.lookup.proofs.Ty.{past-class, inner-lower, pointer-of, class-of, no-class-of}
 use Prim.Native.Nat.{ℕ, _<_}
 use borrow.Fn.Kinds.{In}
 use borrow.Fn.PlainCycle.{Measures, is, falls, and}
-use Rattle.lookup.proofs.class_name_from_receiver_ty.Reads as class-name-from-receiver-ty
-use Rattle.lookup.proofs.class_name_from_receiver_ty.Kinds as class-name-from-receiver-ty-kinds
-use Rattle.lookup.proofs.+class_name_from_receiver_ty.Lts-class_name_from_receiver_ty as class-name-from-receiver-ty-lts
+use Rattle.named.proofs.class_name_from_receiver_ty.Reads as class-name-from-receiver-ty
+use Rattle.named.proofs.class_name_from_receiver_ty.Kinds as class-name-from-receiver-ty-kinds
+use Rattle.named.proofs.+class_name_from_receiver_ty.Lts-class_name_from_receiver_ty as class-name-from-receiver-ty-lts
 use Rattle.fields.proofs.peek.Reads as peek-reads
 use Rattle.fields.proofs.peek_two.Reads as peek-two-reads
-use Rattle.lookup.proofs.+class_name_from_receiver_ty.{statement}
-use Rattle.lookup.proofs.+class_name_from_receiver_ty.Tie.{close}
+use Rattle.named.proofs.+class_name_from_receiver_ty.{statement}
+use Rattle.named.proofs.+class_name_from_receiver_ty.Tie.{close}
 
 abbrev μ-class-name-from-receiver-ty : Measures 2 class-name-from-receiver-ty-kinds.ps ℕ
 μ-class-name-from-receiver-ty κs a = a .1 .1 .0

@@ -1,17 +1,17 @@
 -- A method that was found stands in the run of the struct's methods.
 use Rattle.fields.specs.Table.{entries}
 use Rattle.tables.specs.Signature.{methodIn}
 use Rattle.lookup.specs.Signature.{modifierIn}
 use Rattle.lookup.specs.Answer.{foundOf}
 use denote.Ref.{now}
 use mathlib.Core.Path.{ap, _∙_}
 use native.Mathlib.Omega.{arith}
 use Prim.Native.Nat.{_+_, _<_}
 use Rattle.lookup.proofs.First.{found, missing, was-found, was-missing}
-use Rattle.lookup.proofs.Signature.{modifier-found, modifier-missing, found-below}
+use Rattle.named.proofs.Signature.{modifier-found, modifier-missing, found-below}
 use borrow.Author.Needs.{needs}
-use Rattle.lookup.proofs.modifier_in.Statement.{statement}
-use Rattle.lookup.proofs.modifier_in.Tie as tie
+use Rattle.named.proofs.modifier_in.Statement.{statement}
+use Rattle.named.proofs.modifier_in.Tie as tie
 
 add-peek-two : tie.Need-add-peek-two
 add-peek-two c = search needs

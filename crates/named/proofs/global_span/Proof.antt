@@ -2,11 +2,11 @@
 use Prim.Native.Nat.{_<_}
 use denote.Ref.{now}
 use native.Mathlib.Omega.{arith}
 use Rattle.lookup.proofs.First.{found, missing, was-found, was-missing}
-use Rattle.lookup.proofs.Signature.{span-found, span-missing, found-below}
+use Rattle.named.proofs.Signature.{span-found, span-missing, found-below}
 use borrow.Author.Needs.{needs}
-use Rattle.lookup.proofs.global_span.Statement.{statement}
-use Rattle.lookup.proofs.global_span.Tie as tie
+use Rattle.named.proofs.global_span.Statement.{statement}
+use Rattle.named.proofs.global_span.Tie as tie
 
 first-spaced-requires : tie.Need-first-spaced-requires
 first-spaced-requires c κs = search needs

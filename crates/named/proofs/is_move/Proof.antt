@@ -2,12 +2,12 @@
 use denote.Ref.{now}
 use mathlib.Core.Path.{ap, _∙_}
 use Rattle.tables.specs.Name.{nameOf, moveName}
 use Rattle.lookup.specs.Name.{isMove}
 use Rattle.lookup.proofs.First.{within}
-use Rattle.lookup.proofs.Name.{name-is, name-not}
+use Rattle.named.proofs.Name.{name-is, name-not}
 use borrow.Author.Needs.{needs}
-use Rattle.lookup.proofs.is_move.Statement.{statement}
-use Rattle.lookup.proofs.is_move.Tie as tie
+use Rattle.named.proofs.is_move.Statement.{statement}
+use Rattle.named.proofs.is_move.Tie as tie
 
 start-of-requires : tie.Need-start-of-requires
 start-of-requires c κs = search needs
