@@ -1,8 +1,4 @@
--- Laws for whoever scans: the effects are the raw ones resolved, what is lent says the tables, the scan's start, steps and end.
+-- Laws for whoever asks what a node does: the effects are the raw ones resolved, what is lent says the tables.
 pub mod Resolved
 pub mod Asked
-pub mod Start
-pub mod Follows
 pub mod Laws
-mod Ends
-mod Stages

@@ -15,11 +15,12 @@ use Rattle.rules.specs.State.{State as Status}
 use Rattle.rules.specs.Stack.{Stack as Scope}
 use Rattle.rules.specs.Report.{Report}
 use Rattle.rules.specs.Verdict.{entriesOf}
-use Rattle.effects.specs.Scan.{emits, rootOf, topOf, nodesAfter, openAfter, fuel, Says, Goes}
-use Rattle.effects.specs.declared.Open.{Open}
-use Rattle.effects.specs.declared.Step.{Step}
+use Rattle.effects.specs.Asked.{emits, Says}
+use Rattle.scan.specs.Scan.{rootOf, topOf, nodesAfter, openAfter, fuel, Goes}
+use Rattle.scan.specs.declared.Open.{Open}
+use Rattle.scan.specs.declared.Step.{Step}
 use Rattle.effects.proofs.Asked.{tablesOf, said}
-use Rattle.effects.proofs.Follows.{Follows, follows-start, follows-next, follows-end}
+use Rattle.scan.proofs.Follows.{Follows, follows-start, follows-next, follows-end}
 use Rattle.scope.specs.View.{view, Sound}
 use Rattle.scope.specs.declared.Stack.{Stack}
 use Rattle.writing.specs.Stored.{Stored}

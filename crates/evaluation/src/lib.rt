@@ -8,7 +8,7 @@ ghost use Rattle.tables.specs.Tables.{Tables};
 ghost use Rattle.body.specs.Depth.{WalkableAll};
 ghost use Rattle.rules.specs.Stack.{lookup};
 ghost use Rattle.rules.specs.Report.{useOf};
-ghost use Rattle.effects.specs.Scan.{emits, Lent, Says};
+ghost use Rattle.effects.specs.Asked.{emits, Lent, Says};
 ghost use Rattle.scope.specs.View.{view, Sound};
 ghost use Rattle.scope.specs.declared.Stack.{Stack as Locals};
 ghost use Rattle.validation.specs.Quiet.{Still, Calm, Evaluated, Bounded};
@@ -69,14 +69,14 @@ pub fn are_quiet<'a>(
         → (st : Locals) → st .names ≡ now (locals .entry) → st .kinds ≡ now (kinds .entry) → st .count ≡ count
         → Calm T (now (s .entry)) k at (view st) r) ⌝ }
 {
-    let root = effects::root(k);
+    let root = scan::root(k);
     let mut nodes = [root; 26];
     let mut depth = 1;
     let mut p = at;
     while 0 < depth {
         let m = depth - 1;
         let top = nodes[m];
-        let r = effects::advance(s, names, types, structs, globals, first, top, p);
+        let r = scan::advance(s, names, types, structs, globals, first, top, p);
         let effect = r.effect;
         if !is_quiet(locals, kinds, count, effect) {
             return Quiet { ok: false, at: p };
@@ -111,12 +111,12 @@ pub fn validate_exprs(
         → Evaluated T (now (s .entry)) k at (view locals) (now (errors .entry)) n (now (errors .exit)) r) × Bounded at n r ⌝ }
 {
     let mut told = n;
-    let root = effects::root(k);
+    let root = scan::root(k);
     let mut nodes = [root; 26];
     let mut depth = 1;
     while 0 < depth {
         let m = depth - 1;
-        let r = effects::advance(s, names, types, structs, globals, first, nodes[m], at);
+        let r = scan::advance(s, names, types, structs, globals, first, nodes[m], at);
         let effect = r.effect;
         let outer = r.top;
         let inner = r.inner;

@@ -12,7 +12,7 @@ use Rattle.fields.specs.Bytes.{Bytes}
 use Rattle.fields.proofs.Tests.{false-true}
 use Rattle.tables.specs.Limits.{version1}
 use Rattle.tables.specs.Tables.{Tables}
-use Rattle.effects.specs.Scan.{Lent, Says}
+use Rattle.effects.specs.Asked.{Lent, Says}
 use Rattle.body.specs.Expr.{Scope as Reading}
 use Rattle.body.specs.Stmt.{Tree, Stmt, before, blockAt, stmtIn}
 use Rattle.rules.specs.State.{State as Status}

@@ -7,7 +7,7 @@ ghost use mathlib.Core.List.{List};
 ghost use Prim.Native.Nat.{ℕ, _-_, _≤_, _<_};
 ghost use lib.ListN.{length};
 ghost use Rattle.tables.specs.Tables.{Tables};
-ghost use Rattle.effects.specs.Scan.{Lent, Says};
+ghost use Rattle.effects.specs.Asked.{Lent, Says};
 ghost use Rattle.rules.specs.State.{State as Status};
 ghost use Rattle.rules.specs.Stack.{Stack as Scope};
 ghost use Rattle.scope.specs.View.{view, Sound, Registers};

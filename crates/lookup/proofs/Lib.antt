@@ -1,6 +1,4 @@
 -- What the proofs of several functions use.
 pub mod First
 pub mod Ty
-pub mod Signature
-pub mod Name
 pub mod Lower

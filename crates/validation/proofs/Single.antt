@@ -18,7 +18,7 @@ use Rattle.rules.specs.Effects.{hand, kill, badMove}
 use Rattle.rules.specs.Rules.{states, applyAll}
 use Rattle.rules.specs.Report.{useOf, badUse, reportAll}
 use Rattle.effects.specs.Raw.{uses, hands, gives, moves, resolveAll}
-use Rattle.effects.specs.Scan.{emits}
+use Rattle.effects.specs.Asked.{emits}
 use Rattle.effects.specs.declared.Effect.{Effect}
 use Rattle.effects.specs.declared.Effect.the-variants.{Use, UseHand, Consume}
 use Rattle.effects.specs.declared.Effect.the-variants as effect

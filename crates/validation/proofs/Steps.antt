@@ -12,7 +12,7 @@ use Rattle.rules.specs.Rules.{states}
 use Rattle.rules.specs.Report.{error, useOf}
 use Rattle.rules.specs.Verdict.{entryOf, entriesOf}
 use Rattle.effects.specs.Raw.{uses, hands, moves, resolveAll}
-use Rattle.effects.specs.Scan.{emits}
+use Rattle.effects.specs.Asked.{emits}
 use Rattle.effects.specs.declared.Effect.{Effect}
 use Rattle.effects.specs.declared.Effect.the-variants.{Nothing, Use, Consume, BadMove, GlobalMove}
 use Rattle.scope.specs.View.{view, Sound}

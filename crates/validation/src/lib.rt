@@ -10,7 +10,7 @@ ghost use Rattle.rules.specs.Stack.{lookup, has, shape};
 ghost use Rattle.rules.specs.Report.{error, useOf, badUse, first as firstOf};
 ghost use Rattle.rules.specs.Verdict.{entryOf, entriesOf};
 ghost use Rattle.effects.specs.Raw.{uses, hands, moves};
-ghost use Rattle.effects.specs.Scan.{emits};
+ghost use Rattle.effects.specs.Asked.{emits};
 ghost use Rattle.state.specs.Kinds.{baseOf, said};
 ghost use Rattle.state.specs.View.{listed, Roomy, Made};
 ghost use Rattle.scope.specs.View.{view, Sound};

@@ -19,7 +19,7 @@ use Rattle.encoding.proofs.Parts.{four-at}
 use Rattle.rules.specs.State.{State as Status}
 use Rattle.rules.specs.Stack.{shape, Stack as Scope}
 use Rattle.rules.specs.Walk.{walkFault}
-use Rattle.effects.specs.Scan.{Lent, Says}
+use Rattle.effects.specs.Asked.{Lent, Says}
 use Rattle.scope.specs.View.{view, Framed}
 use Rattle.scope.specs.declared.Stack.{Stack}
 use Rattle.scope.proofs.Frames.{nested-deeper}

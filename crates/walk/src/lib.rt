@@ -4,7 +4,7 @@ ghost use mathlib.Core.Path.{_≡_};
 ghost use mathlib.Core.Bool.{false};
 ghost use Prim.Native.Nat.{suc, _+_, _-_, _<_};
 ghost use Rattle.tables.specs.Tables.{Tables};
-ghost use Rattle.effects.specs.Scan.{Lent, Says};
+ghost use Rattle.effects.specs.Asked.{Lent, Says};
 ghost use Rattle.scope.specs.View.{view};
 ghost use Rattle.returns.specs.Returns.{BlockThere};
 ghost use Rattle.fronts.specs.Walks.{memory, Ready, Safe, IfThere, TagThere, StmtsThere, IfWalks, LoopWalks, TagWalks, StmtsWalk, BlockWalks};

@@ -45,7 +45,7 @@ use Rattle.fronts.proofs.Changes.{few-seen}
 use Rattle.fronts.proofs.Wrotes.{stored-as}
 use Rattle.returns.specs.Returns.{BlockThere}
 use Rattle.entering.specs.Enters.{EntryThere, Enters}
-use Rattle.effects.specs.Scan.{Says}
+use Rattle.effects.specs.Asked.{Says}
 use Rattle.fronts.specs.declared.Env.{Env}
 use Rattle.whole_image.specs.Images.{Stands, ImageDone, ImageWalks, Measures}
 

@@ -11,7 +11,7 @@ use Rattle.tables.specs.Limits.{version1}
 use Rattle.tables.specs.Signature.{entryAt}
 use Rattle.body.specs.Stmt.{blockAt}
 use Rattle.image.specs.Image.{Image, accepted, decode, encode, scopeIn}
-use Rattle.effects.specs.Scan.{Lent, Says}
+use Rattle.effects.specs.Asked.{Lent, Says}
 use Rattle.rules.specs.Report.{errors, warnings, lefts, reports, returnedImage}
 use Rattle.rules.specs.Walk.{imageFault}
 use Rattle.rules.specs.Verdict.{entriesOf, imageCountsFit}

@@ -4,9 +4,10 @@ use mathlib.Core.List.{[]}
 use denote.Ref.{now}
 use borrow.Author.Needs.{needs}
 use Rattle.tables.specs.Tables.{Tables}
-use Rattle.effects.specs.Scan.{Ready, Says, fuel}
+use Rattle.effects.specs.Asked.{Says}
+use Rattle.scan.specs.Scan.{Ready, fuel}
 use Rattle.effects.proofs.Asked.{tablesOf, said}
-use Rattle.effects.proofs.Start.{ready-start, ready-next, waits, few}
+use Rattle.scan.proofs.Start.{ready-start, ready-next, waits, few}
 use Rattle.scope.specs.View.{view}
 use Rattle.scope.specs.declared.Stack.{Stack}
 use Rattle.fields.proofs.Tests.{false-true}
@@ -16,8 +17,8 @@ use Rattle.evaluation.proofs.are_quiet.Statement.{statement}
 use Rattle.evaluation.proofs.are_quiet.Tie as tie
 use Rattle.evaluation.proofs.are_quiet.Reads as reads
 use Rattle.evaluation.proofs.are_quiet.Lts as lts
-use Rattle.effects.proofs.advance.Reads as advance-reads
-use Rattle.effects.proofs.root.Reads as root-reads
+use Rattle.scan.proofs.advance.Reads as advance-reads
+use Rattle.scan.proofs.root.Reads as root-reads
 use Rattle.evaluation.proofs.is_quiet.Reads as is-quiet-reads
 
 abbrev Inv-loop : tie.InvT-loop

@@ -3,9 +3,9 @@ use native.Mathlib.Omega.{arith}
 use mathlib.Core.Path.{refl}
 use denote.Ref.{now}
 use borrow.Author.Needs.{needs}
-use Rattle.effects.specs.Scan.{Ready, fuel}
+use Rattle.scan.specs.Scan.{Ready, fuel}
 use Rattle.effects.proofs.Asked.{tablesOf, said}
-use Rattle.effects.proofs.Start.{ready-start, ready-next, waits, few}
+use Rattle.scan.proofs.Start.{ready-start, ready-next, waits, few}
 use Rattle.scope.specs.View.{view, Sound}
 use Rattle.writing.proofs.Stores.{stored-length}
 use Rattle.validation.proofs.Single.{not-false}
@@ -14,8 +14,8 @@ use Rattle.evaluation.proofs.validate_exprs.Statement.{statement}
 use Rattle.evaluation.proofs.validate_exprs.Tie as tie
 use Rattle.evaluation.proofs.validate_exprs.Reads as reads
 use Rattle.evaluation.proofs.validate_exprs.Lts as lts
-use Rattle.effects.proofs.advance.Reads as advance-reads
-use Rattle.effects.proofs.root.Reads as root-reads
+use Rattle.scan.proofs.advance.Reads as advance-reads
+use Rattle.scan.proofs.root.Reads as root-reads
 use Rattle.validation.proofs.apply_effect.Reads as apply-effect-reads
 use Rattle.evaluation.proofs.is_quiet.Reads as is-quiet-reads
 

@@ -4,7 +4,7 @@ use lib.ListN.{length}
 use Rattle.tables.specs.Tables.{Tables}
 use Rattle.rules.specs.State.{State as Status}
 use Rattle.rules.specs.Stack.{shape, Stack as Scope}
-use Rattle.effects.specs.Scan.{Says}
+use Rattle.effects.specs.Asked.{Says}
 use Rattle.effects.proofs.Asked.{tablesOf, said}
 use Rattle.scope.specs.View.{view}
 use Rattle.scope.specs.declared.Stack.{Stack}

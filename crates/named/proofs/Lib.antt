@@ -1,0 +1,2 @@
+mod Signature
+mod Name
