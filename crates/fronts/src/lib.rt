@@ -5,7 +5,7 @@ ghost use mathlib.Core.Path.{_≡_};
 ghost use mathlib.Core.Bool.{false};
 ghost use mathlib.Core.List.{List};
 ghost use Prim.Native.Nat.{ℕ, _-_, _≤_, _<_};
-ghost use lib.ListN.{length};
+ghost use lib.ListN.{length, getD};
 ghost use Rattle.tables.specs.Tables.{Tables};
 ghost use Rattle.effects.specs.Asked.{Lent, Says};
 ghost use Rattle.rules.specs.State.{State as Status};
@@ -284,6 +284,15 @@ fn quiet_statement<'a>(
     }
 }
 
+// The tag of the statement at a place.
+fn tag_at(s: &[u8], p: Place) -> u8
+    requires { ⌜ p .at < length (now s) ⌝ }
+    ensures { λ r. ⌜ r ≡ getD (now (s .entry)) (p .at) 0 ⌝ }
+{
+    let at = p.at;
+    s[at]
+}
+
 // The statements of a block, total before their end, up to the blocks of the next that has some.
 pub fn up_to_blocks(
     s: &[u8],
@@ -292,45 +301,40 @@ pub fn up_to_blocks(
     xs: &[usize],
     env: Env,
     total: usize,
-    p: Place,
-    st: Stack,
+    mut p: Place,
+    mut l: Stack,
     out: &mut [u8],
     errs: &mut [u32],
     warns: &mut [u32],
     lefts: &mut [u32],
 ) -> Reached
-    requires { ⌜ Lent (now s) (now ns) (now ts) (now xs) (env .globals) (env .first) × Ready (now s) (env .left) p st × StmtsThere (now s) (env .left) total (p .at) ⌝ }
+    requires { ⌜ Lent (now s) (now ns) (now ts) (now xs) (env .globals) (env .first) × Ready (now s) (env .left) p l × StmtsThere (now s) (env .left) total (p .at) ⌝ }
     ensures { λ r. ⌜ ((T : Tables) → Says (now (s .entry)) (now (ns .entry)) (now (ts .entry)) (now (xs .entry)) (env .globals) (env .first) T
-        → (all : ℕ) (σ₀ : Scope Status) (p₀ : Place) (m₀ : Memory) → LeadsAll T (now (s .entry)) (env .left) (12 - env .left) all σ₀ p₀ m₀ total (view st) p (memory (now (out .entry)) (now (errs .entry)) (now (warns .entry)) (now (lefts .entry)))
+        → (all : ℕ) (σ₀ : Scope Status) (p₀ : Place) (m₀ : Memory) → LeadsAll T (now (s .entry)) (env .left) (12 - env .left) all σ₀ p₀ m₀ total (view l) p (memory (now (out .entry)) (now (errs .entry)) (now (warns .entry)) (now (lefts .entry)))
         → Reaches T (now (s .entry)) (env .left) (12 - env .left) all σ₀ p₀ m₀ r (memory (now (out .exit)) (now (errs .exit)) (now (warns .exit)) (now (lefts .exit)))) × ReachSafe (now (s .entry)) (env .left) total p r ⌝ }
 {
-    let mut l = st;
-    let mut q = p;
     let mut n = total;
     while 0 < n {
-        let at = q.at;
-        let tag = s[at];
         n -= 1;
+        let tag = tag_at(s, p);
         let ln = &l.names;
         let lt = &l.types;
         let ld = &l.depths;
         let lk = &l.kinds;
         let m = l.count;
-        let r = quiet_statement(s, ns, ts, xs, env, ln, lt, ld, lk, m, q, out, warns, lefts);
-        q = r.place;
+        let r = quiet_statement(s, ns, ts, xs, env, ln, lt, ld, lk, m, p, out, warns, lefts);
+        p = r.place;
         if !r.done {
-            let w = transform_front(s, ns, ts, xs, env, q, l, out, errs, warns, lefts);
-            let z = w.place;
-            let k = w.stack;
+            let w = transform_front(s, ns, ts, xs, env, p, l, out, errs, warns, lefts);
             if 0 < w.fault {
-                return reached_at(w.fault, 0, n, z, k);
+                return reached_at(w.fault, 0, n, w.place, w.stack);
             }
             if has_blocks(tag) {
-                return reached_at(0, tag, n, z, k);
+                return reached_at(0, tag, n, w.place, w.stack);
             }
-            q = z;
-            l = k;
+            p = w.place;
+            l = w.stack;
         }
     }
-    reached_at(0, 0, 0, q, l)
+    reached_at(0, 0, 0, p, l)
 }
