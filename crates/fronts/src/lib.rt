@@ -34,7 +34,7 @@ pub struct Env {
     pub left: usize,
 }
 
-// A walk: a fault of 12 and 13, or 0; whether the block walked last surely returns; where it stands, and the stack.
+// A walk: a fault of 12 and 13, or 0; of a block, whether it surely returns; where it stands, and the stack.
 pub struct Walk {
     pub fault: u8,
     pub sure: bool,

@@ -33,8 +33,8 @@ fn accepted(p: Place) -> Outcome
     })
 }
 
-// The image that was read, walked into memory of our own first: what is lent changes only once no fault is left. What our own memory
-// holds is copied; of what it does not hold the walk is done again.
+// The image that was read, walked into memory of our own first: what is lent changes only once no fault is left. If our own memory
+// holds all of it, that is copied; else the walk is done again.
 fn judge(
     s: &[u8],
     ns: &[usize],

@@ -1,4 +1,4 @@
-// Parts of the arms of transform_block: what they delete, revive and take over, and the arms that put in no deletes.
+// Parts of the arms of transform_block: what they delete, revive and take over, and the arms of expressions, variables and jumps.
 // Throughout, ns, ts and xs are where the names, types and structs stand in the image s, and ln, lt, ld and lk the names, types,
 // depths and states of the n locals, all lent.
 ghost use mathlib.Core.Path.{_≡_};
