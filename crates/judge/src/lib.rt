@@ -134,9 +134,9 @@ pub fn judge_long(
     ensures { λ r. ⌜ Passes (now (s .entry)) (memory (now (out .entry)) (now (errs .entry)) (now (warns .entry)) (now (lefts .entry))) r (memory (now (out .exit)) (now (errs .exit)) (now (warns .exit)) (now (lefts .exit))) ⌝ }
 {
     let mut bytes = [0u8; 65536];
-    let mut told = [0u32; 1536];
-    let mut warned = [0u32; 256];
-    let mut left = [0u32; 256];
+    let mut told = [0u32; 6144];
+    let mut warned = [0u32; 1024];
+    let mut left = [0u32; 1024];
     judge(
         s,
         ns,
