@@ -14,7 +14,7 @@ pub const PLAIN: TyNo = 0;
 pub const T: TyNo = 1;
 pub const POINTER: TyNo = 2;
 
-/// The tables of crates/rules/specs/Nodes.antt. Names: `this`, `v`, `w`, `T`, `std::move`, `g`, `__tmp`, `take`. Types: plain, T, a
+/// The tables of crates/rules/proofs/Nodes.antt. Names: `this`, `v`, `w`, `T`, `std::move`, `g`, `__tmp`, `take`. Types: plain, T, a
 /// pointer to T. The struct T has a destructor and the consuming method `take`. `g` is a global defined at 99.
 pub fn tables() -> Image {
     Image {

@@ -6,7 +6,7 @@ use mathlib.Core.Bool.{Bool, true, false, cond}
 use mathlib.Core.List.{List, [], _∷_, _++_, append-nil}
 use Rattle.tables.specs.Tables.{Tables}
 use Rattle.body.specs.Expr.{Expr, Exprs, none, more, countWidth}
-use Rattle.rules.specs.Nodes.{nodeOf, one}
+use Rattle.rules.proofs.Nodes.{nodeOf, one}
 use Rattle.rules.specs.Questions.{isMoveOf}
 use Rattle.rules.specs.Stack.{Shape}
 use Rattle.rules.specs.Effects.{Effect, use′, takes, handed, handIf, receiver, moveFirst, finish, effects, group}

@@ -12,7 +12,8 @@ use Rattle.body.specs.Stmt.{Tree, done, exprStmt, variable, assign, return, bar
 use Rattle.rules.specs.Expr.{view, identIn, nameIn}
 use Rattle.rules.specs.Stack.{Static, Stack, Shape, shape, staticOf, has}
 use Rattle.rules.specs.Rules.{holding, Drop, dropOf, Decided, excludes, register, tailDrops, decide, entered, Fresh, PlainIn, decideIn}
-use Rattle.rules.specs.Run.{Path, Task, code, returning, assigning, deleting, closing, assigned, Config, at, arrived, start, Moment, momentCode, momentTask, moment, dropsAt, Reached, holds, dropped, concerns, admits, concerned, Lost, Demand3}
+use Rattle.rules.specs.Run.{Path, Task, code, returning, assigning, deleting, closing, assigned, Config, at, arrived, start, Moment, momentCode, momentTask, moment, Reached, holds, dropped, concerns, admits, concerned, Lost, Demand3}
+use Rattle.rules.proofs.Spots.{dropsAt}
 use Rattle.rules.proofs.Bools.{and-r, and-i, leb-refl}
 use Rattle.rules.proofs.Relate.{rel-shape}
 use Rattle.rules.proofs.Shapes.{shape-frame}

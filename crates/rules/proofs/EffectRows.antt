@@ -8,7 +8,7 @@ use Rattle.lookup.specs.First.{firstFrom, andThen, orElse}
 use Rattle.lookup.specs.Ty.{inside, structNamed, classOfTy, classOf}
 use Rattle.lookup.specs.Signature.{modifierIn, modifierOf, isConsuming, globalOf}
 use Rattle.body.specs.Expr.{Expr, countWidth, through, none, more}
-use Rattle.rules.specs.Nodes.{nodeOf, one, ident, this, unary, call, field, move, tables}
+use Rattle.rules.proofs.Nodes.{nodeOf, one, ident, this, unary, call, field, move, tables}
 use Rattle.rules.specs.Questions.{isTempOf, isMoveOf, consumes, globalIn}
 use Rattle.rules.specs.Stack.{Static, Shape}
 use Rattle.rules.specs.State.{moved, consumed}

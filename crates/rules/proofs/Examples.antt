@@ -12,7 +12,7 @@ use Rattle.lookup.specs.Ty.{inside, structNamed, structShaped, structOfGeneric,
 use Rattle.lookup.specs.Signature.{modifierIn, modifierOf, isConsuming, globalOf}
 use Rattle.body.specs.Expr.{Expr, countWidth, through, none}
 use Rattle.body.specs.Stmt.{Tree, Block, variable, assign, return, block, ifElse, ifThen, while, exprStmt}
-use Rattle.rules.specs.Nodes.{one, ident, literal, call, field, moving, deletion, end, tables}
+use Rattle.rules.proofs.Nodes.{one, ident, literal, call, field, moving, deletion, end, tables}
 use Rattle.rules.specs.Expr.{called}
 use Rattle.rules.specs.Questions.{auto, isTempOf, isMoveOf, consumes, globalIn}
 use Rattle.rules.specs.Stack.{Local, local}

@@ -21,7 +21,7 @@ use Rattle.rules.specs.State.{deleted, moved, consumed, State, alive, go
 use Rattle.rules.specs.Effects.{Effect, use′, kill, hand, badMove, globalMove, effects, exprStmtEffects, takeOver, assignEffects, assignTakes, handName}
 use Rattle.rules.specs.Rules.{Drop, dropOf, states, sureFrom, excludes, localsOf, apply, applyAll, doing, revived, register, merge, collect, tailDrops, returnDrops, dropNewest, dropNamed, assignDrops, evaluate, afterExpr, afterVariable, beforeAssign, afterAssign, exit, decide, entered, decideBody}
 use Rattle.rules.specs.Report.{useOf, reportOf, reportAll, unused, leftBehind, exprBytes, codeBytes, report, bodyStart, reports}
-use Rattle.rules.specs.Frames.{handLocal, useFrames, reportFrame, reportAllFrames, reportFrames, reportsFrames, Var, States, insert, isSome, isLive, Frame, frame, Frames, push, popFrame, registerLocal, enteredFrames, orElse, newest, findLocal, findState, markAs, markDeleted, markMoved, markConsumed, markAlive, moveIf, handTemp, mergeState, mergeName, frameAt, elseAt, getIn, mergeFrame, mergeFrames, numbered, shapeOf, applyFrames, applyAllFrames, doingFrames, frameDrops, scopeDrops, lastDrops, preDrop, preDeleteName, preDeleteNamed, preDelete, evaluateFrames, afterExprFrames, afterVariableFrames, beforeAssignFrames, afterAssignFrames, exitFrames, decideFrames, decideBodyFrames}
+use Rattle.rules.proofs.FrameRules.{handLocal, useFrames, reportFrame, reportAllFrames, reportFrames, reportsFrames, Var, States, insert, isSome, isLive, Frame, frame, Frames, push, popFrame, registerLocal, enteredFrames, orElse, newest, findLocal, findState, markAs, markDeleted, markMoved, markConsumed, markAlive, moveIf, handTemp, mergeState, mergeName, frameAt, elseAt, getIn, mergeFrame, mergeFrames, numbered, shapeOf, applyFrames, applyAllFrames, doingFrames, frameDrops, scopeDrops, lastDrops, preDrop, preDeleteName, preDeleteNamed, preDelete, evaluateFrames, afterExprFrames, afterVariableFrames, beforeAssignFrames, afterAssignFrames, exitFrames, decideFrames, decideBodyFrames}
 use Rattle.rules.proofs.Bools.{no≡, of≡, eqb-self}
 
 -- has one of a frame's locals the name

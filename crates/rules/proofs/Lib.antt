@@ -1,4 +1,5 @@
 -- Rows by computation, then the theorems and what they stand on.
+pub mod Nodes
 pub mod Rows
 pub mod EffectRows
 pub mod WalkRows
@@ -7,8 +8,10 @@ pub mod UnusedResult
 pub mod Needed
 pub mod Bools
 pub mod Relate
+pub mod FrameRules
 pub mod Frames
 pub mod Shapes
+pub mod Spots
 pub mod Order
 pub mod Through
 pub mod Names
@@ -17,6 +20,8 @@ pub mod Sound
 pub mod Demand
 pub mod Project
 pub mod Strike
+pub mod AsReturned
+pub mod Unreturned
 pub mod Returned
 pub mod RoomBound
 pub mod Count

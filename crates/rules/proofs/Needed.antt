@@ -13,7 +13,7 @@ use Rattle.lookup.specs.Ty.{inside, structNamed, structShaped, structOfGeneric,
 use Rattle.lookup.specs.Signature.{modifierIn, modifierOf, isConsuming, globalOf}
 use Rattle.body.specs.Expr.{Expr, countWidth, through}
 use Rattle.body.specs.Stmt.{Tree, Block, variable, assign, bareReturn, ifThen, while, jump}
-use Rattle.rules.specs.Nodes.{ident, literal, moving, end, tables}
+use Rattle.rules.proofs.Nodes.{ident, literal, moving, end, tables}
 use Rattle.rules.specs.Questions.{auto, isTempOf, isMoveOf, consumes, globalIn}
 use Rattle.rules.specs.Stack.{Stack, shape, has}
 use Rattle.rules.specs.State.{State}

@@ -12,7 +12,7 @@ use Rattle.lookup.specs.Ty.{inside, structNamed, structShaped, structOfGeneric,
 use Rattle.lookup.specs.Signature.{modifierIn, modifierOf, isConsuming, globalOf}
 use Rattle.body.specs.Expr.{Expr, none, more, countWidth, through}
 use Rattle.body.specs.Stmt.{Tree, exprStmt, variable, assign, return, bareReturn, block, ifElse, ifThen, while, jump}
-use Rattle.rules.specs.Nodes.{nodeOf, one, move, ident, this, literal, unary, call, field, delete, moving, deletion, end, tables, param}
+use Rattle.rules.proofs.Nodes.{nodeOf, one, move, ident, this, literal, unary, call, field, delete, moving, deletion, end, tables, param}
 use Rattle.rules.specs.Questions.{auto, isTempOf, isMoveOf, consumes, globalIn}
 use Rattle.rules.specs.Expr.{calleeAt}
 use Rattle.rules.specs.Stack.{local, Stack}

@@ -13,7 +13,8 @@ use Rattle.body.specs.Stmt.{Code, Tree, done, exprStmt, variable, assign, retur
 use Rattle.rules.specs.Expr.{view, Named, identIn, nameIn}
 use Rattle.rules.specs.Stack.{Stack, Shape, shape, pop, staticOf}
 use Rattle.rules.specs.Rules.{holding, Drop, dropOf, Decided, sureFrom, excludes, joins, merge, tailDrops, returnDrops, assignDrops, evaluate, afterExpr, afterVariable, beforeAssign, afterAssign, exit, decide, Plain}
-use Rattle.rules.specs.Run.{Dir, next, into, second, Path, Task, code, returning, assigning, deleting, closing, assigned, Config, at, givenUp, choose, stepCode, stepTask, step, Steps, arrived, onward, start, dropsAt, holds, admits}
+use Rattle.rules.specs.Run.{Dir, next, into, second, Path, Task, code, returning, assigning, deleting, closing, assigned, Config, at, givenUp, choose, stepCode, stepTask, step, Steps, arrived, onward, start, holds, admits}
+use Rattle.rules.proofs.Spots.{dropsAt}
 use Rattle.rules.proofs.Bools.{and-l, and-r}
 use Rattle.rules.proofs.Relate.{rel-shape, rel-mark, rel-pop, rel-evaluate, rel-expr, rel-before, rel-after, rel-variable}
 use Rattle.rules.proofs.Shapes.{Distinct, shape-joins, shape-merge, shape-inner}

@@ -14,9 +14,9 @@ use Rattle.body.specs.Expr.{Expr}
 use Rattle.body.specs.Stmt.{Tree, Block, done, exprStmt, variable, assign, return, bareReturn, block, ifElse, ifThen, while, jump}
 use Rattle.rules.specs.Stack.{Stack}
 use Rattle.rules.specs.Rules.{Alg, states, localsOf, decide, entered, decideBody}
-use Rattle.rules.specs.Report.{strike, withCode, struckImage}
+use Rattle.rules.specs.Report.{strike, withCode}
 
-if-else : (s : ℕ) (e : Expr) (ts us : ℕ) {t t′ u u′ r r′ : Tree} → t ≡ t′ → u ≡ u′ → r ≡ r′ → _≡_ {A = Tree} (ifElse s e ts t us u r) (ifElse s e ts t′ us u′ r′)
+pub if-else : (s : ℕ) (e : Expr) (ts us : ℕ) {t t′ u u′ r r′ : Tree} → t ≡ t′ → u ≡ u′ → r ≡ r′ → _≡_ {A = Tree} (ifElse s e ts t us u r) (ifElse s e ts t′ us u′ r′)
 if-else s e ts us p q o = λ i. ifElse s e ts (p i) us (q i) (o i)
 
 module _ {A : Type 0} (𝓐 : Alg A) (T : Tables) where
@@ -37,6 +37,10 @@ module _ {A : Type 0} (𝓐 : Alg A) (T : Tables) where
 -- Demand 3, third sentence, on trees: for every body, plain or not
 pub strike-body : (T : Tables) (x : Entry) (b : Block) → strike (decideBody T x b) ≡ b .code
 strike-body T x b = strike-decide states T (b .code) (b .span) 1 false (entered states T (localsOf x) [])
+
+-- the image with the insertions struck out of the one that the pass gives back
+abbrev pub struckImage : Image → Image
+struckImage i = withCode i (strike (decideBody (i .tables) (i .entry) (i .body)))
 
 -- and on bytes: with the insertions out, and so the counts and the length lowered, it is the image again
 pub strike-bytes : (L : Limits) (s : List ℕ) → Bytes s → (i : Image) → decode L s ≡ accepted i → encode L (struckImage i) ≡ s

@@ -16,7 +16,7 @@ use Rattle.encoding.specs.Tables.{encodeName, encodeType, encodeMethod, encodeS
 use Rattle.encoding.specs.Body.{encodeExpr, size, encodeCode, encodeBlock}
 use Rattle.image.specs.Image.{Image, accepted, decode, encode}
 use Rattle.image.proofs.Example.{bytes, tree, example-read, example-written}
-use Rattle.rules.specs.Nodes.{ident, unary, call, delete, end}
+use Rattle.rules.proofs.Nodes.{ident, unary, call, delete, end}
 use Rattle.rules.specs.Questions.{auto, isTempOf, isMoveOf, consumes, globalIn}
 use Rattle.rules.specs.Expr.{calleeAt}
 use Rattle.rules.specs.Effects.{takes, handed, finish, effects, exprStmtEffects, takeOver, assignEffects, assignTakes}

@@ -17,7 +17,7 @@ use Rattle.body.specs.Expr.{Expr, countWidth, through}
 use Rattle.body.specs.Stmt.{Tree, variable, assign, return, bareReturn, block, ifElse, ifThen, while}
 use Rattle.encoding.specs.Body.{size}
 use Rattle.image.specs.Image.{Image, accepted, refused}
-use Rattle.rules.specs.Nodes.{one, ident, literal, move, moving, end, tables, param}
+use Rattle.rules.proofs.Nodes.{one, ident, literal, move, moving, end, tables, param}
 use Rattle.rules.specs.Questions.{auto, isTempOf, isMoveOf, consumes, globalIn}
 use Rattle.rules.specs.Effects.{takes, handed, finish, effects, exprStmtEffects, takeOver, assignEffects, assignTakes}
 use Rattle.rules.specs.Walk.{crowded, walkFault, imageFault}

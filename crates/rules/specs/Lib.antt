@@ -5,10 +5,9 @@ pub mod State
 pub mod Effects
 pub mod Rules
 pub mod Report
-pub mod Frames
 pub mod Run
+pub mod AsReturned
 pub mod Room
-pub mod Nodes
 pub mod Walk
 pub mod Verdict
 pub mod Pieces

@@ -7,7 +7,7 @@ use lib.ListN.{length}
 use Rattle.tables.specs.Signature.{Entry}
 use Rattle.tables.specs.Tables.{Tables}
 use Rattle.body.specs.Expr.{Expr, node, none, more}
-use Rattle.body.specs.Stmt.{Tree, Block, done, exprStmt, variable, assign, return, bareReturn, block, ifElse, ifThen, while, jump}
+use Rattle.body.specs.Stmt.{Code, Tree, Block, done, exprStmt, variable, assign, return, bareReturn, block, ifElse, ifThen, while, jump}
 use Rattle.encoding.specs.Tables.{encodeTables, encodeEntry}
 use Rattle.encoding.specs.Body.{encodeExpr, encodeCode}
 use Rattle.image.specs.Image.{Image}
@@ -44,19 +44,23 @@ flatten (ifThen s e ts t r) = ifThen s e ts (flatten t) (flatten r)
 flatten (while s e ts t r) = while s e ts (flatten t) (flatten r)
 flatten (jump k s r) = jump k s (flatten r)
 
+-- the statements alone, without what decorates them
+abbrev pub forget : {X Y : Type 0} → Code X Y → Tree
+forget (done x) = done tt
+forget (exprStmt s e y r) = exprStmt s e tt (forget r)
+forget (variable k s n t e r) = variable k s n t e (forget r)
+forget (assign s e v t x r) = assign s e v t tt (forget r)
+forget (return s e t x r) = return s e t tt (forget r)
+forget (bareReturn s t r) = bareReturn s t (forget r)
+forget (block s c r) = block s (forget c) (forget r)
+forget (ifElse s e ts t us u r) = ifElse s e ts (forget t) us (forget u) (forget r)
+forget (ifThen s e ts t r) = ifThen s e ts (forget t) (forget r)
+forget (while s e ts t r) = while s e ts (forget t) (forget r)
+forget (jump k s r) = jump k s (forget r)
+
 -- the insertions struck out, the delete round an unused result among them
 abbrev pub strike : Decided → Tree
-strike (done x) = done tt
-strike (exprStmt s e y r) = exprStmt s e tt (strike r)
-strike (variable k s n t e r) = variable k s n t e (strike r)
-strike (assign s e v t x r) = assign s e v t tt (strike r)
-strike (return s e t x r) = return s e t tt (strike r)
-strike (bareReturn s t r) = bareReturn s t (strike r)
-strike (block s c r) = block s (strike c) (strike r)
-strike (ifElse s e ts t us u r) = ifElse s e ts (strike t) us (strike u) (strike r)
-strike (ifThen s e ts t r) = ifThen s e ts (strike t) (strike r)
-strike (while s e ts t r) = while s e ts (strike t) (strike r)
-strike (jump k s r) = jump k s (strike r)
+strike c = forget c
 
 -- the body that the pass gives back
 abbrev pub returnedBody : Tables → Entry → Block → Block
@@ -69,10 +73,6 @@ withCode i c = record { tables = i .tables; entry = i .entry; body = record { sp
 -- the image that the pass gives back
 abbrev pub returnedImage : Image → Image
 returnedImage i = withCode i (flatten (decideBody (i .tables) (i .entry) (i .body)))
-
--- and the one with the insertions struck out of it
-abbrev pub struckImage : Image → Image
-struckImage i = withCode i (strike (decideBody (i .tables) (i .entry) (i .body)))
 
 -- An error: kind, place, hint, other places. A warning: the statement's span, and where the callee's tag stands in the image. A
 -- left-behind entry: the return's span, and the name

@@ -13,7 +13,7 @@ use Rattle.lookup.specs.declared.Found.{Found}
 use Rattle.lookup.specs.declared.Found.the-variants.{At, Nothing}
 use Rattle.rules.specs.State.{State as Status, moved, consumed, handState}
 use Rattle.rules.specs.Stack.{Static, Local, local, shape, has, lookup, inFrame, mark, Stack as Scope}
-use Rattle.rules.specs.Frames.{isSome}
+use Rattle.rules.proofs.FrameRules.{isSome}
 use Rattle.rules.specs.Effects.{hand, kill, badMove}
 use Rattle.rules.specs.Rules.{states, applyAll}
 use Rattle.rules.specs.Report.{useOf, badUse, reportAll}
