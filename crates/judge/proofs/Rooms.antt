@@ -22,7 +22,8 @@ use Rattle.rules.specs.Verdict.{Answer, answerOf, entryOf, entriesOf, refuses, 
 use Rattle.writing.specs.Stored.{Stored}
 use Rattle.writing.proofs.Stores.{stored-length}
 use Rattle.steps.specs.Own.{numberOf}
-use Rattle.steps.proofs.Faults.{Real, real-none, real-many, real-walk}
+use Rattle.rules.proofs.Numbers.{real-image}
+use Rattle.steps.proofs.Faults.{real-none}
 use Rattle.statements.specs.declared.Place.{Place}
 use Rattle.fronts.specs.Walks.{Memory, memory}
 use Rattle.judge.specs.declared.Outcome.{Outcome}
@@ -89,16 +90,6 @@ pub fault-some : (x : Option ℕ) (n : ℕ) → n ≡ numberOf x → 0 < n → x
 fault-some none n e h = absurd (omega arith)
 fault-some (some m) n e h = ap some (sym e)
 
-pub real-image : (i : Image) → Real (imageFault version1 i)
-unfolding imageFault orElse
-real-image i =
-    let σ = entered states (i .tables) (localsOf (i .entry)) [] in
-    real-else (tooMany version1 σ) (walkFault version1 (i .tables) (i .body .code) 1 σ) (real-many σ) (real-walk (i .tables) (i .body .code) 1 σ)
-  where
-    real-else : (a b : Option ℕ) → Real a → Real b → Real (orElse a b)
-    real-else none b p q = q
-    real-else (some n) b p q = p
-
 -- a read fault
 pub refused-read : (s : List ℕ) (m : Memory) (n : ℕ) → n ≡ faultOf (decode version1 s) → 0 < n → Passes s m (Refused n) m
 unfolding passVerdict faultOf
@@ -122,7 +113,7 @@ module _ (s : List ℕ) (i : Image) (e : decode version1 s ≡ accepted i) (m : 
       record { outcome = sym (ap outcomeOf v); leaves = sym (ap (λ w. memoryAfter w m) v) }
 
   pub none-found : (n : ℕ) → n ≡ numberOf (imageFault version1 i) → (0 < n → ⊥) → imageFault version1 i ≡ none
-  none-found n f z = real-none (imageFault version1 i) (real-image i) (omega (arith, z, f))
+  none-found n f z = real-none (imageFault version1 i) (real-image version1 i) (omega (arith, z, f))
 
   module _ (z : imageFault version1 i ≡ none) {own own′ : Memory} {p : Place} (d : ImageDone i own p own′) where
     abbrev a : Answer

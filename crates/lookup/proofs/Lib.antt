@@ -2,3 +2,4 @@
 pub mod First
 pub mod Ty
 pub mod Lower
+pub mod Example

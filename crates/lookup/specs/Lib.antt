@@ -3,4 +3,3 @@ pub mod Ty
 pub mod Signature
 pub mod Name
 pub mod Answer
-pub mod Example

@@ -1,3 +1,4 @@
 pub mod Readings
+pub mod Numbers
 pub mod Promises
 pub mod Within

@@ -6,22 +6,26 @@ use mathlib.Core.Path.{_≡_, refl, sym, ap, _∙_, subst}
 use mathlib.Core.Bool.{Bool, true, false, cond}
 use mathlib.Core.List.{List}
 use mathlib.Core.Option.{Option, none, some}
-use lib.ListN.{length}
+use lib.ListN.{length, getD}
 use Rattle.fields.specs.Bytes.{Bytes}
 use Rattle.tables.specs.Limits.{version1}
 use Rattle.image.specs.Image.{Image, Decoded, accepted, refused, decode, encode}
 use Rattle.image.proofs.RoundTrip.{image-written}
+use Rattle.rules.specs.Rules.{decideBody}
 use Rattle.rules.specs.Report.{returnedImage}
 use Rattle.rules.specs.Walk.{imageFault}
 use Rattle.rules.specs.Verdict.{Lent, Answer, answerOf, Verdict, refuses, answers, listsFit, outputFits, fitted, walked, decided, passVerdict}
-use Rattle.rules.proofs.Project.{demand3}
+use Rattle.rules.proofs.AsReturned.{returned-body}
+use Rattle.rules.specs.Pieces.{Struck}
 use Rattle.rules.proofs.Pieces.{struck}
 use Rattle.fronts.specs.Walks.{Memory}
 use Rattle.judge.specs.declared.Totals.{Totals}
 use Rattle.judge.specs.declared.Outcome.{Outcome}
 use Rattle.judge.specs.declared.Outcome.the-variants.{Accepted, Refused}
 use Rattle.judge.specs.Passes.{Passes, outcomeOf, over, memoryAfter, verdictOn}
+use Rattle.ownership_pass.specs.Entries.{outcomeNumber, totalsAfter, PassLeaves}
 use Rattle.ownership_pass.specs.Promise.{Promise, Kept}
+use Rattle.ownership_pass.proofs.Numbers.{refused-numbers}
 
 refuses-nothing : {C : Type 0} {n : ℕ} {a : Answer} → refuses n ≡ answers a → C
 refuses-nothing e = let z : _≡_ {A = ℕ} 0 1 = cc in absurd (omega arith)
@@ -40,20 +44,24 @@ pub promised : (s : List ℕ) → Bytes s → (lent : Lent) (a : Answer) → pas
 unfolding passVerdict
 promised s small lent a e = go (decode version1 s) refl e
   where
+    output : (i : Image) → decided version1 lent (accepted i) ≡ answers a → a .output ≡ encode version1 (returnedImage i)
+    output i g = ap (λ (x : Answer). x .output) (answer-is lent i (imageFault version1 i) a g)
+
     go : (d : Decoded) → decode version1 s ≡ d → decided version1 lent d ≡ answers a → Promise s (a .output)
     go (refused n) z g = refuses-nothing g
     go (accepted i) z g = record {
       image = i;
       read = z;
       sent = image-written version1 s small i z;
-      given = ap (λ (x : Answer). x .output) (answer-is lent i (imageFault version1 i) a g);
-      plain = demand3 (i .tables) (i .entry) (i .body);
-      struck = struck version1 s small i z;
+      tree = returnedImage i .body .code;
+      given = output i g;
+      returned = returned-body (i .tables) (i .entry) (i .body);
+      struck = subst (λ (x : List ℕ). Struck version1 s x i (decideBody (i .tables) (i .entry) (i .body))) (sym (output i g)) (struck version1 s small i z);
     }
 
--- of every call that is accepted
-pub entry-promised : (s : List ℕ) → Bytes s → (m m′ : Memory) (r : Outcome) → Passes s m r m′ → (t : Totals) → r ≡ Accepted t → Kept s m m′ (t .written)
-entry-promised s small m m′ r g t e = go (verdictOn s m) refl
+-- of every call of `pass` that is accepted
+pub pass-promised : (s : List ℕ) → Bytes s → (m m′ : Memory) (r : Outcome) → Passes s m r m′ → (t : Totals) → r ≡ Accepted t → Kept s m m′ (t .written)
+pass-promised s small m m′ r g t e = go (verdictOn s m) refl
   where
     accepts-nothing : {n : ℕ} → Refused n ≡ Accepted t → Kept s m m′ (t .written)
     accepts-nothing z = let y : _≡_ {A = ℕ} 0 1 = cc in absurd (omega arith)
@@ -69,3 +77,13 @@ entry-promised s small m m′ r g t e = go (verdictOn s m) refl
           there = ap (λ (u : Memory). u .out) (g .leaves ∙ ap (λ v. memoryAfter v m) z);
           promise = promised s small _ a z;
         }
+
+-- of every call of `ownership_pass` that answers 0; the first total is the bytes written
+pub entry-promised : (s : List ℕ) → Bytes s → (m m′ : Memory) (old new : List ℕ) (r : ℕ) → PassLeaves s m old r m′ new → r ≡ 0 → Kept s m m′ (getD new 0 0)
+entry-promised s small m m′ old new r g e = go (g .outcome) refl
+  where
+    go : (o : Outcome) → g .outcome ≡ o → Kept s m m′ (getD new 0 0)
+    go (Accepted t) z =
+        subst (Kept s m m′) (sym (ap (λ (l : List ℕ). getD l 0 0) (g .leaves ∙ ap (λ (o : Outcome). totalsAfter o old) z)))
+        (pass-promised s small m m′ (g .outcome) (g .is) t z)
+    go (Refused n) z = let k = refused-numbers s m m′ (g .outcome) (g .is) n z .0 in let h = g .number ∙ ap outcomeNumber z in absurd (omega (arith, k, h, e))

@@ -6,6 +6,7 @@ use mathlib.Core.Path.{_≡_, refl, sym, ap, _∙_, subst}
 use mathlib.Core.List.{List, [], _∷_}
 use mathlib.Core.Option.{Option, none, some}
 use lib.ListN.{length, take, length-take, length-map}
+use Rattle.fields.specs.Bytes.{Bytes}
 use Rattle.tables.specs.Name.{nameOf}
 use Rattle.tables.specs.Ty.{typeIn}
 use Rattle.tables.specs.Signature.{structIn}
@@ -21,6 +22,7 @@ use Rattle.rules.specs.Report.{returnedImage}
 use Rattle.rules.specs.Walk.{imageFault}
 use Rattle.rules.specs.Verdict.{roomFault, roomFaultOf, RoomFor}
 use Rattle.rules.proofs.Longer.{room-met}
+use Rattle.rules.proofs.Numbers.{real-image}
 use Rattle.steps.specs.Own.{numberOf}
 use Rattle.steps.proofs.Faults.{real-none}
 use Rattle.fronts.specs.Walks.{Memory}
@@ -31,11 +33,10 @@ use Rattle.ownership_pass.specs.declared.Answer.the-variants.{Needed, De
 use Rattle.judge.specs.declared.Totals.{Totals}
 use Rattle.judge.specs.declared.Outcome.{Outcome}
 use Rattle.judge.specs.declared.Outcome.the-variants.{Accepted, Refused}
-use Rattle.judge.specs.Passes.{Passes, outcomeOf, memoryAfter, verdictOn}
-use Rattle.ownership_pass.specs.Entries.{totalsAfter, RoomIs, RoomLeaves}
-use Rattle.ownership_pass.specs.Entries.{numberOf as outcomeNumber}
+use Rattle.judge.specs.Passes.{Passes}
+use Rattle.ownership_pass.specs.Entries.{PassLeaves, RoomIs, RoomLeaves}
 use Rattle.whole_image.specs.Images.{Stands, Measures}
-use Rattle.judge.proofs.Rooms.{fault-some, real-image}
+use Rattle.judge.proofs.Rooms.{fault-some}
 
 abbrev pub envIn : Layout → Env
 envIn l = record { globals = l .rest .«global_count»; first = l .rest .globals; left = 12 }
@@ -87,10 +88,10 @@ module _ (s : List ℕ) (r : ImageRead) (g : Reads s r) (z : 0 < r .fault → �
     unfolding roomFault
     room-denied k = ap (roomFaultOf version1) (found .1) ∙ fault-some (imageFault version1 (found .0)) (w .fault) walk-fault k
 
-    pub room-needed : (0 < w .fault → ⊥) → RoomIs s (Needed (w .place .written))
-    room-needed k =
-        let n : imageFault version1 (found .0) ≡ none = real-none (imageFault version1 (found .0)) (real-image (found .0)) (sym walk-fault ∙ omega (arith, k)) in
-        (found .0, found .1, n, subst (RoomFor version1 (found .0)) (sym (h .walks (found .0) (found .1) .1 n)) (room-met version1 (found .0)))
+    pub room-needed : Bytes s → (0 < w .fault → ⊥) → RoomIs s (Needed (w .place .written))
+    room-needed small k =
+        let n : imageFault version1 (found .0) ≡ none = real-none (imageFault version1 (found .0)) (real-image version1 (found .0)) (sym walk-fault ∙ omega (arith, k)) in
+        (found .0, found .1, n, subst (RoomFor version1 s (found .0)) (sym (h .walks (found .0) (found .1) .1 n)) (room-met version1 s small (found .0) (found .1)))
 
 pub room-unread : (s : List ℕ) (n : ℕ) → n ≡ faultOf (decode version1 s) → 0 < n → RoomIs s (Denied n)
 unfolding roomFault faultOf
@@ -102,18 +103,11 @@ room-unread s n e h = go (decode version1 s) refl
 
 -- the entries for C, by the outcome
 module _ (s : List ℕ) (m m′ : Memory) (r : Outcome) (g : Passes s m r m′) where
-  abbrev Leaves : ℕ → List ℕ → List ℕ → Type 0
-  Leaves n old new = (n ≡ outcomeNumber (outcomeOf (verdictOn s m))) × (new ≡ totalsAfter (outcomeOf (verdictOn s m)) old) × (m′ ≡ memoryAfter (verdictOn s m) m)
+  pub leaves-refused : (n : ℕ) (old : List ℕ) → r ≡ Refused n → PassLeaves s m old n m′ old
+  leaves-refused n old e = record { outcome = Refused n; is = subst (λ (o : Outcome). Passes s m o m′) e g; number = refl; leaves = refl }
 
-  pub leaves-refused : (n : ℕ) (old : List ℕ) → r ≡ Refused n → Leaves n old old
-  leaves-refused n old e =
-      let o : outcomeOf (verdictOn s m) ≡ Refused n = sym (g .outcome) ∙ e in
-      (sym (ap outcomeNumber o), sym (ap (λ x. totalsAfter x old) o), g .leaves)
-
-  pub leaves-accepted : (t : Totals) (old : List ℕ) → r ≡ Accepted t → Leaves 0 old (t .written ∷ t .errors ∷ t .warnings ∷ t .lefts ∷ [])
-  leaves-accepted t old e =
-      let o : outcomeOf (verdictOn s m) ≡ Accepted t = sym (g .outcome) ∙ e in
-      (sym (ap outcomeNumber o), sym (ap (λ x. totalsAfter x old) o), g .leaves)
+  pub leaves-accepted : (t : Totals) (old : List ℕ) → r ≡ Accepted t → PassLeaves s m old 0 m′ (t .written ∷ t .errors ∷ t .warnings ∷ t .lefts ∷ [])
+  leaves-accepted t old e = record { outcome = Accepted t; is = subst (λ (o : Outcome). Passes s m o m′) e g; number = refl; leaves = refl }
 
 pub room-leaves-denied : (s : List ℕ) (old : ℕ) (a : Answer) → RoomIs s a → (n : ℕ) → a ≡ Denied n → RoomLeaves s old n old
 room-leaves-denied s old a h n e = record { answer = Denied n; is = subst (RoomIs s) e h; number = refl; leaves = refl }

@@ -7,24 +7,33 @@ use Rattle.tables.specs.Limits.{version1}
 use Rattle.image.specs.Image.{Image, accepted, decode}
 use Rattle.rules.specs.Walk.{imageFault}
 use Rattle.rules.specs.Verdict.{roomFault, RoomFor}
+use Rattle.fronts.specs.Walks.{Memory}
+use Rattle.judge.specs.Passes.{Passes}
 use Rattle.judge.specs.declared.Outcome.{Outcome}
 use Rattle.judge.specs.declared.Outcome.the-variants.{Accepted, Refused}
 use Rattle.ownership_pass.specs.declared.Answer.{Answer}
 use Rattle.ownership_pass.specs.declared.Answer.the-variants.{Needed, Denied}
 
 -- as a number, 0 for accepted, and the four totals, on a fault unchanged
-abbrev pub numberOf : Outcome → ℕ
-numberOf (Accepted t) = 0
-numberOf (Refused n) = n
+abbrev pub outcomeNumber : Outcome → ℕ
+outcomeNumber (Accepted t) = 0
+outcomeNumber (Refused n) = n
 
 abbrev pub totalsAfter : Outcome → List ℕ → List ℕ
 totalsAfter (Accepted t) old = t .written ∷ t .errors ∷ t .warnings ∷ t .lefts ∷ []
 totalsAfter (Refused n) old = old
 
+-- the entry that gives back the body, for C: its number, the totals and the memory after it
+pub record PassLeaves (s : List ℕ) (m : Memory) (old : List ℕ) (r : ℕ) (m′ : Memory) (new : List ℕ) : Type 0 where
+  pub outcome : Outcome
+  pub is : Passes s m outcome m′
+  pub number : r ≡ outcomeNumber outcome
+  pub leaves : new ≡ totalsAfter outcome old
+
 -- the entry that answers the room: the first fault of 1 to 13, or a number within document 01's bounds
 abbrev pub RoomIs : List ℕ → Answer → Type 0
 RoomIs s (Denied n) = roomFault version1 s ≡ some n
-RoomIs s (Needed n) = (i : Image) × (decode version1 s ≡ accepted i) × (imageFault version1 i ≡ none) × RoomFor version1 i n
+RoomIs s (Needed n) = (i : Image) × (decode version1 s ≡ accepted i) × (imageFault version1 i ≡ none) × RoomFor version1 s i n
 
 -- as a number, 0 for accepted, and the bytes, on a fault unchanged
 abbrev pub answerNumber : Answer → ℕ

@@ -1,8 +1,8 @@
 // The entries: one image in, the body with the deletes inserted and the reports out, into lent memory; or the room that needs.
 ghost use mathlib.Core.Path.{_≡_};
 ghost use Rattle.fronts.specs.Walks.{memory};
-ghost use Rattle.judge.specs.Passes.{Passes, outcomeOf, memoryAfter, verdictOn};
-ghost use Rattle.ownership_pass.specs.Entries.{numberOf, totalsAfter, RoomIs, RoomLeaves};
+ghost use Rattle.judge.specs.Passes.{Passes};
+ghost use Rattle.ownership_pass.specs.Entries.{PassLeaves, RoomIs, RoomLeaves};
 use fronts::Env;
 use image::Rest;
 use judge::Outcome;
@@ -92,10 +92,7 @@ pub extern "C" fn ownership_pass(
     left: &mut [u32],
     totals: &mut [u64; 4],
 ) -> u32
-    ensures { λ r. ⌜ (r ≡ numberOf (outcomeOf (verdictOn (now (image .entry)) (memory (now (output .entry)) (now (errors .entry)) (now (warnings .entry)) (now (left .entry))))))
-        × (now (totals .exit) ≡ totalsAfter (outcomeOf (verdictOn (now (image .entry)) (memory (now (output .entry)) (now (errors .entry)) (now (warnings .entry)) (now (left .entry))))) (now (totals .entry)))
-        × (memory (now (output .exit)) (now (errors .exit)) (now (warnings .exit)) (now (left .exit))
-        ≡ memoryAfter (verdictOn (now (image .entry)) (memory (now (output .entry)) (now (errors .entry)) (now (warnings .entry)) (now (left .entry)))) (memory (now (output .entry)) (now (errors .entry)) (now (warnings .entry)) (now (left .entry)))) ⌝ }
+    ensures { λ r. ⌜ PassLeaves (now (image .entry)) (memory (now (output .entry)) (now (errors .entry)) (now (warnings .entry)) (now (left .entry))) (now (totals .entry)) r (memory (now (output .exit)) (now (errors .exit)) (now (warnings .exit)) (now (left .exit))) (now (totals .exit)) ⌝ }
 {
     match pass(image, output, errors, warnings, left) {
         Outcome::Refused(fault) => fault as u32,

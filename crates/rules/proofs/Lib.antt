@@ -27,6 +27,7 @@ pub mod RoomBound
 pub mod Count
 pub mod Offsets
 pub mod Longer
+pub mod Numbers
 pub mod Examples
 pub mod ByTag
 pub mod Pieces

@@ -2,13 +2,14 @@
 -- Assumes nothing.
 use Prim.Native.Nat.{ℕ, _+_, _*_, _≤_}
 use native.Mathlib.Omega.{arith}
-use mathlib.Core.Path.{_≡_, refl, _∙_, ap}
+use mathlib.Core.Path.{_≡_, refl, _∙_, ap, subst}
 use mathlib.Core.Bool.{Bool, true, false, cond}
 use mathlib.Core.List.{List, [], _∷_, _++_}
 use lib.ListN.{length, length-append}
-use Rattle.fields.specs.Bytes.{twoBytes, fourBytes, numberBytes}
+use Rattle.fields.specs.Bytes.{Bytes, twoBytes, fourBytes, numberBytes}
 use Rattle.tables.specs.Limits.{Limits}
-use Rattle.image.specs.Image.{Image, encode}
+use Rattle.image.specs.Image.{Image, accepted, decode, encode}
+use Rattle.image.proofs.RoundTrip.{image-written}
 use Rattle.encoding.specs.Body.{encodeExpr, encodeExprs, encodeCode, encodeBlock, size, withCount}
 use Rattle.body.specs.Expr.{Expr, countWidth, argWidth, lastWidth}
 use Rattle.body.specs.Stmt.{Code, Tree, done, exprStmt, variable, assign, return, bareReturn, block, ifElse, ifThen, while, jump}
@@ -196,5 +197,6 @@ room-image L i =
     omega arith
 
 -- so the room entry can answer the bytes that are written
-pub room-met : (L : Limits) (i : Image) → RoomFor L i (length (encode L (returnedImage i)))
-room-met L i = record { enough = le-refl _; most = room-image L i }
+pub room-met : (L : Limits) (s : List ℕ) → Bytes s → (i : Image) → decode L s ≡ accepted i → RoomFor L s i (length (encode L (returnedImage i)))
+room-met L s g i e =
+    record { enough = le-refl _; most = subst (λ (z : List ℕ). length (encode L (returnedImage i)) ≤ length z + roomBound (i .entry) (i .body)) (image-written L s g i e) (room-image L i) }

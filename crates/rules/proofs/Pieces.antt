@@ -132,12 +132,13 @@ left-pieces (while s e ts t r) ps =
     (ap₂ (λ (n : ℕ) (z : List ℕ). fourBytes ts ++ (twoBytes n ++ z)) (sym (size-struck t)) (left-pieces t _ ∙ on (encodeCode (strike t)) (encodeCode (strike r)) (bytesOf false ps) (left-pieces r ps))))
 left-pieces (jump k s r) ps = ap (λ (z : List ℕ). cond k 10 9 ∷ (fourBytes s ++ z)) (left-pieces r ps)
 
-pub struck : (L : Limits) (s : List ℕ) → Bytes s → (i : Image) → decode L s ≡ accepted i → Struck L s i
+pub struck : (L : Limits) (s : List ℕ) → Bytes s → (i : Image) → decode L s ≡ accepted i
+    → Struck L s (encode L (returnedImage i)) i (decideBody (i .tables) (i .entry) (i .body))
 unfolding encode encodeBlock fourBytes twoBytes
 struck L s g i e =
     let D = decideBody (i .tables) (i .entry) (i .body) in
     let part : (b : Bool) (c : Tree) → size c ≡ size D + cond b (putIn D) 0 → bytesOf b (pieces D []) ≡ encodeCode c ++ []
-    → bytesOf b (imagePieces L i) ≡ L .version ∷ (encodeTables (i .tables) ++ (encodeEntry (i .entry) ++ encodeBlock (record { span = i .body .span; code = c }))) =
+    → bytesOf b (imagePieces L i D) ≡ L .version ∷ (encodeTables (i .tables) ++ (encodeEntry (i .entry) ++ encodeBlock (record { span = i .body .span; code = c }))) =
     λ b c h k. ap₂ (λ (n : ℕ) (z : List ℕ). L .version ∷ (encodeTables (i .tables) ++ (encodeEntry (i .entry) ++ (fourBytes (i .body .span) ++ (twoBytes n ++ z))))) (sym h) (k ∙ append-nil (encodeCode c)) in
     record {
       given = ap (λ (z : List ℕ). fourBytes (length z) ++ z) (sym (part true (flatten D) (size-flatten D) (all-pieces D [])));

@@ -10,6 +10,7 @@ use Rattle.tables.specs.Signature.{Entry}
 use Rattle.tables.specs.Tables.{Tables}
 use Rattle.body.specs.Expr.{Expr, Exprs, node, none, more}
 use Rattle.body.specs.Stmt.{Code, Tree, Block, done, exprStmt, variable, assign, return, bareReturn, block, ifElse, ifThen, while, jump}
+use Rattle.rules.specs.Expr.{view, isCall}
 use Rattle.rules.specs.Rules.{Drop, dropOf, Decided, localsOf, PlainBody}
 use Rattle.rules.specs.Report.{forget}
 use Rattle.rules.specs.Run.{Demand3}
@@ -29,6 +30,10 @@ firstOf (more e es) = some e
 abbrev pub inDelete : Expr → Option Expr
 inDelete (node h ks xs) = cond (eqb (h .tag) 10) (firstOf ks) Option.none
 
+-- the result of a call, with a Delete round it
+abbrev pub inResult : Expr → Option Expr
+inResult e = bind (inDelete e) (λ v. cond (isCall (view v)) (some v) Option.none)
+
 -- the delete of an Ident
 abbrev pub ofIdent : Expr → Option Drop
 ofIdent (node h ks xs) = cond (eqb (h .tag) 1) (some (dropOf (h .span) (h .arg) (h .ty))) Option.none
@@ -47,12 +52,12 @@ putBefore i (ifThen s e ts t r) = Option.none
 putBefore i (while s e ts t r) = Option.none
 putBefore i (jump k s r) = Option.none
 
--- the decisions that a marked tree shows; none if a mark is out of place, or is on what is no delete
+-- the decisions that a marked tree shows; none if a mark is out of place, or is on what is no delete of an Ident or of a call's result
 abbrev pub gathered : Marked → Option Decided
 gathered (done x) = some (done [])
 gathered (exprStmt s e original r) = Option·map (λ z. exprStmt s e false z) (gathered r)
 gathered (exprStmt s e inserted r) = bind (inDelete e) (λ v. bind (ofIdent v) (λ i. bind (gathered r) (λ z. putBefore i z)))
-gathered (exprStmt s e wrapped r) = bind (inDelete e) (λ v. Option·map (λ z. exprStmt s v true z) (gathered r))
+gathered (exprStmt s e wrapped r) = bind (inResult e) (λ v. Option·map (λ z. exprStmt s v true z) (gathered r))
 gathered (variable k s n t e r) = Option·map (λ z. variable k s n t e z) (gathered r)
 gathered (assign s e v t x r) = Option·map (λ z. assign s e v t [] z) (gathered r)
 gathered (return s e t x r) = Option·map (λ z. return s e t [] z) (gathered r)

@@ -9,9 +9,9 @@ use Rattle.tables.specs.Limits.{Limits}
 use Rattle.body.specs.Stmt.{done, exprStmt, variable, assign, return, bareReturn, block, ifElse, ifThen, while, jump}
 use Rattle.encoding.specs.Tables.{encodeTables, encodeEntry}
 use Rattle.encoding.specs.Body.{encodeExpr, size}
-use Rattle.image.specs.Image.{Image, encode}
-use Rattle.rules.specs.Rules.{Drop, dropOf, Decided, decideBody}
-use Rattle.rules.specs.Report.{deleteNode, identNode, returnedImage}
+use Rattle.image.specs.Image.{Image}
+use Rattle.rules.specs.Rules.{Drop, dropOf, Decided}
+use Rattle.rules.specs.Report.{deleteNode, identNode}
 
 -- bytes of the submitted image, bytes put in, and a block's count with the number of statements put into it
 pub data Piece : Type 0 where
@@ -69,18 +69,17 @@ pieces (while s e ts t r) ps =
     kept (8 ∷ fourBytes s) ∷ kept (encodeExpr e) ∷ kept (fourBytes ts) ∷ counted (size t) (putIn t) ∷ pieces t (pieces r ps)
 pieces (jump k s r) ps = kept (cond k 10 9 ∷ fourBytes s) ∷ pieces r ps
 
--- an image in pieces: what follows the length
-abbrev pub imagePieces : Limits → Image → List Piece
-imagePieces L i =
+-- an image whose body is so decided, in pieces: what follows the length
+abbrev pub imagePieces : Limits → Image → Decided → List Piece
+imagePieces L i c =
     kept (L .version ∷ encodeTables (i .tables)) ∷ kept (encodeEntry (i .entry)) ∷ kept (fourBytes (i .body .span))
-    ∷ counted (size (decideBody (i .tables) (i .entry) (i .body))) (putIn (decideBody (i .tables) (i .entry) (i .body)))
-    ∷ pieces (decideBody (i .tables) (i .entry) (i .body)) []
+    ∷ counted (size c) (putIn c) ∷ pieces c []
 
 -- the length, and what follows it
 abbrev pub imageOf : Bool → List Piece → List ℕ
 imageOf b ps = fourBytes (length (bytesOf b ps)) ++ bytesOf b ps
 
 -- Demand 3, third sentence: the bytes given back, without the pieces put in and with counts and length lowered, are the submitted ones
-pub record Struck (L : Limits) (s : List ℕ) (i : Image) : Type 0 where
-  pub given : encode L (returnedImage i) ≡ imageOf true (imagePieces L i)
-  pub again : imageOf false (imagePieces L i) ≡ s
+pub record Struck (L : Limits) (s output : List ℕ) (i : Image) (c : Decided) : Type 0 where
+  pub given : output ≡ imageOf true (imagePieces L i c)
+  pub again : imageOf false (imagePieces L i c) ≡ s

@@ -107,6 +107,6 @@ unfoldable pub roomFault : Limits → List ℕ → Option ℕ
 roomFault L s = roomFaultOf L (decode L s)
 
 -- Without a fault it answers a number that document 01 leaves free within these bounds
-pub record RoomFor (L : Limits) (i : Image) (n : ℕ) : Type 0 where
+pub record RoomFor (L : Limits) (s : List ℕ) (i : Image) (n : ℕ) : Type 0 where
   pub enough : length (encode L (returnedImage i)) ≤ n
-  pub most : n ≤ length (encode L i) + roomBound (i .entry) (i .body)
+  pub most : n ≤ length s + roomBound (i .entry) (i .body)

@@ -31,7 +31,8 @@ use Rattle.statements.specs.declared.Place.{Place}
 use Rattle.statements.specs.Act.{Within, Grows}
 use Rattle.statements.proofs.Slices.{written-slice}
 use Rattle.steps.specs.Own.{numberOf}
-use Rattle.steps.proofs.Faults.{real-none, real-walk}
+use Rattle.rules.proofs.Numbers.{real-walk}
+use Rattle.steps.proofs.Faults.{real-none}
 use Rattle.fronts.specs.declared.Env.{Env}
 use Rattle.fronts.specs.declared.Walk.{Walk}
 use Rattle.fronts.specs.Walks.{Memory, memory, Ready, Safe, Leads, StmtsThere, StmtsWalk, BlockWalks}
@@ -114,7 +115,7 @@ module _ (T : Tables) (s : List ℕ) (left left′ total : ℕ) (σ : Scope Stat
   last-there z h few =
       let i = inner (h .t) (h .deep) (h .b) (h .next) (h .read) in
       let f = i .0 in
-      let clear = real-none (walkFault version1 T (h .b .code) (suc (12 - left)) σ) (real-walk T (h .b .code) (suc (12 - left)) σ) (sym f ∙ omega arith) in
+      let clear = real-none (walkFault version1 T (h .b .code) (suc (12 - left)) σ) (real-walk version1 T (h .b .code) (suc (12 - left)) σ) (sym f ∙ omega arith) in
       let l = i .1 clear .last few in
       record { t = h .t; deep = h .deep; x = l .0; next = l .1; read = l .2 }
 
@@ -127,7 +128,7 @@ module _ (T : Tables) (s : List ℕ) (left left′ total : ℕ) (σ : Scope Stat
     walks = λ t deep b n e.
         let i = inner t deep b n e in
         let f = i .0 in
-        let clear = real-none (walkFault version1 T (b .code) (suc (12 - left)) σ) (real-walk T (b .code) (suc (12 - left)) σ) (sym f ∙ omega arith) in (
+        let clear = real-none (walkFault version1 T (b .code) (suc (12 - left)) σ) (real-walk version1 T (b .code) (suc (12 - left)) σ) (sym f ∙ omega arith) in (
           ends .fault ∙ ap numberOf (sym clear),
           λ nil. block-done T s t deep left (suc (12 - left)) b n σ (view (w .stack)) p (headed p gap) (w .place) m m₁ m₂ gap r out′
               (block-parts t s left (p .at) b n e) (head-inside s p gap room eg) head (i .1 clear) ends (memory out′ (m₂ .errs) (m₂ .warns) (m₂ .lefts)) a₁ a₂ a₃ refl refl refl refl,

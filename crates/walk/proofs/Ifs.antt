@@ -26,7 +26,8 @@ use Rattle.returns.specs.Returns.{BlockThere}
 use Rattle.statements.specs.declared.Place.{Place}
 use Rattle.statements.specs.Act.{Grows}
 use Rattle.steps.specs.Own.{byte, both, blockOwn}
-use Rattle.steps.proofs.Faults.{real-none, real-walk}
+use Rattle.rules.proofs.Numbers.{real-walk}
+use Rattle.steps.proofs.Faults.{real-none}
 use Rattle.steps.proofs.Shaped.{shape-block}
 use Rattle.steps.proofs.Plain.{length-shape}
 use Rattle.fronts.specs.declared.Walk.{Walk}
@@ -125,7 +126,7 @@ module _ (T : Tables) (s : List ℕ) (small : Bytes s) (left d : ℕ) (σ : Scop
     first-clear : (t : Reading) → t .exprDepth ≡ 24 → (b : Block) (q : ℕ) → blockAt t s left (p .at) ≡ ok b q → walkFault version1 T (b .code) (suc d) σ ≡ none
     first-clear t deep b q e =
         let f = bw .walks t deep b q e .0 in
-        real-none (walkFault version1 T (b .code) (suc d) σ) (real-walk T (b .code) (suc d) σ) (sym f ∙ omega arith)
+        real-none (walkFault version1 T (b .code) (suc d) σ) (real-walk version1 T (b .code) (suc d) σ) (sym f ∙ omega arith)
 
     first-done : (t : Reading) (deep : t .exprDepth ≡ 24) (b : Block) (q : ℕ) → blockAt t s left (p .at) ≡ ok b q → BlockDone T b (suc d) σ p m v m₁ q
     first-done t deep b q e = bw .walks t deep b q e .1 (first-clear t deep b q e)
@@ -173,7 +174,7 @@ module _ (T : Tables) (s : List ℕ) (small : Bytes s) (left d : ℕ) (σ : Scop
         with = λ t deep b q e h u next e′ sp x c.
             let k = ew .with (flag-at t deep b q e h) t deep u next (other-at t deep b q e u next e′) in
             let f = k .0 in
-            let free = real-none (walkFault version1 T (u .code) (suc d) σ) (real-walk T (u .code) (suc d) σ) (sym f ∙ omega arith) in
+            let free = real-none (walkFault version1 T (u .code) (suc d) σ) (real-walk version1 T (u .code) (suc d) σ) (sym f ∙ omega arith) in
             if-else T s small t left d σ p m b v m₁ q (first-clear t deep b q e) (first-done t deep b q e) w r m₂ g sp x u next c (block-end s small t left (p .at) b q e) free (k .1 free);
       }
 
@@ -193,7 +194,7 @@ module _ (T : Tables) (s : List ℕ) (left d : ℕ) (σ : Scope Status) (nested 
   block-shape h =
       let g = bw .walks (h .t) (h .deep) (h .b) (h .next) (h .read) in
       let f = g .0 in
-      let clear = real-none (walkFault version1 T (h .b .code) (suc d) σ) (real-walk T (h .b .code) (suc d) σ) (sym f ∙ omega arith) in
+      let clear = real-none (walkFault version1 T (h .b .code) (suc d) σ) (real-walk version1 T (h .b .code) (suc d) σ) (sym f ∙ omega arith) in
       ap shape (g .1 clear .locals) ∙ shape-block T (h .b .code) d σ nested
 
 module _ (T : Tables) (s : List ℕ) (left d : ℕ) (σ : Scope Status) (nested : Nested d (shape σ)) (p : Place) (m : Memory) (w : Walk) (m₁ : Memory)
@@ -208,7 +209,7 @@ module _ (T : Tables) (s : List ℕ) (left d : ℕ) (σ : Scope Status) (nested 
           let one : getD s (p .at) 0 ≡ 1 = let l = h .flag in omega arith in
           let g = ew .with one (b .t) (b .deep) (b .b) (b .next) (b .read) in
           let f = g .0 in
-          let clear = real-none (walkFault version1 T (b .b .code) (suc d) σ) (real-walk T (b .b .code) (suc d) σ) (sym f ∙ omega arith) in
+          let clear = real-none (walkFault version1 T (b .b .code) (suc d) σ) (real-walk version1 T (b .b .code) (suc d) σ) (sym f ∙ omega arith) in
           ap shape (g .1 clear .locals) ∙ shape-block T (b .b .code) d σ nested
 
 -- behind two branches

@@ -58,7 +58,7 @@ returns-2 c = room-denied (c .before .before .before .before .before .before .be
 
 -- src/lib.rt:60:1
 returns-3 : tie.Need-returns-3
-returns-3 c = room-needed (c .before .before .before .before .before .before .before .before .before .before .before .before .before .before .before .args .s .now) (c .before .before .before .before .before .before .before .before .before .before .before .before .before .read-image .result) (c .before .before .before .before .before .before .before .before .before .before .before .before .before .read-image .ensures) (λ z. omega (arith, z, c .before .before .before .before .before .before .before .before .before .before .before .before .if1 .left)) (c .before .before .measure .result) (c .before .before .measure .ensures) (λ z. omega (arith, z, c .before .if2 .left))
+returns-3 c = room-needed (c .before .before .before .before .before .before .before .before .before .before .before .before .before .before .before .args .s .now) (c .before .before .before .before .before .before .before .before .before .before .before .before .before .read-image .result) (c .before .before .before .before .before .before .before .before .before .before .before .before .before .read-image .ensures) (λ z. omega (arith, z, c .before .before .before .before .before .before .before .before .before .before .before .before .if1 .left)) (c .before .before .measure .result) (c .before .before .measure .ensures) (λ k. omega (arith, c .before .before .before .before .before .before .before .before .before .before .before .before .before .before .shared-slice-known .given k)) (λ z. omega (arith, z, c .before .if2 .left))
 
 pub room-spec : {M : Type 1} → statement M
 room-spec =
