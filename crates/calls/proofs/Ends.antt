@@ -21,7 +21,7 @@ use Rattle.body.specs.declared.Node.the-variants.{Ident, FieldAccess}
 use Rattle.body.proofs.Node.{the-type}
 use Rattle.body.proofs.Walking.{head-at, Looked, tag-of, others, not-kind, field, first-child}
 use Rattle.rules.specs.Questions.{isMoveOf, consumes}
-use Rattle.effects.specs.Raw.{Raw, gives, movesNone, consume, fieldCall, moveHead, moveIdent, moveLocal, moveFirst, finish}
+use Rattle.rules.specs.Effects.{Raw, gives, movesNone, consume, fieldCall, moveHead, moveIdent, moveLocal, moveFirst, finish}
 use Rattle.effects.proofs.Laws.{name-at}
 
 module _ (s : List ℕ) (p n : ℕ) (h : Head) where

@@ -14,7 +14,7 @@ ghost use Rattle.lookup.specs.Ty.{Lower};
 ghost use Rattle.body.specs.Expr.{Expr, headOf, through};
 ghost use Rattle.body.specs.Stands.{Stands, Placed};
 ghost use Rattle.rules.specs.Questions.{isMoveOf, consumes as consuming};
-ghost use Rattle.effects.specs.Raw.{fieldCall, moveLocal, moveIdent, moveHead, finish as finished};
+ghost use Rattle.rules.specs.Effects.{fieldCall, moveLocal, moveIdent, moveHead, finish as finished};
 ghost use Rattle.effects.specs.Asked.{emits, Lent, Says};
 use body::Node;
 use effects::Effect;

@@ -28,7 +28,7 @@ use Rattle.image.specs.declared.Layout.{Layout}
 use Rattle.image.proofs.Asking.{Asking}
 use Rattle.rules.specs.Questions.{isTempOf, isMoveOf, consumes}
 use Rattle.rules.specs.Questions as questions
-use Rattle.effects.specs.Raw.{movesGlobal, moveLocal, moveGlobal, moveIdent}
+use Rattle.rules.specs.Effects.{movesGlobal, moveLocal, moveGlobal, moveIdent}
 use Rattle.effects.specs.Asked.{Lent, Says}
 
 past : {A : Type 0} (f : ℕ → List A) (ns : List ℕ) (n : ℕ) → length ns ≤ n → getD (map f ns) n [] ≡ []

@@ -19,8 +19,8 @@ use Rattle.body.specs.Stands.{Stands, StandAll, HeadStands, count}
 use Rattle.body.specs.Depth.{depth}
 use Rattle.body.proofs.Walking.{head-at}
 use Rattle.rules.specs.Questions.{isTempOf}
-use Rattle.rules.specs.Effects.{handed, takes}
-use Rattle.effects.specs.Raw.{Raw, uses, hands, handHead, handIf, finish, raws, group, leaf, leafOf}
+use Rattle.rules.specs.Effects.{handed, takes, Raw, uses, hands, handHead, handIf, finish, raws, group}
+use Rattle.effects.specs.Asked.{leaf, leafOf}
 
 -- a byte that is not 0 stands within
 pub within : (s : List ℕ) (p k : ℕ) → getD s p 0 ≡ k → 0 < k → p < length s

@@ -1,4 +1,3 @@
--- Laws for whoever asks what a node does: the effects are the raw ones resolved, what is lent says the tables.
-pub mod Resolved
+-- Laws for whoever asks what a node does: what is lent says the tables.
 pub mod Asked
 pub mod Laws

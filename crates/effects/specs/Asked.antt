@@ -1,9 +1,10 @@
 -- What the code hands out, and what it asks of the tables that are lent.
 use Prim.Native.Nat.{ℕ, _+_, _*_, _≤_}
 use mathlib.Core.Path.{_≡_}
-use mathlib.Core.Bool.{true, false}
+use mathlib.Core.Bool.{Bool, true, false, cond}
 use mathlib.Core.List.{List, [], _∷_, map}
 use lib.ListN.{length}
+use lib.Dec.{eqb}
 use Rattle.fields.specs.Table.{entries}
 use Rattle.tables.specs.Tables.{Tables}
 use Rattle.tables.specs.Name.{nameOf}
@@ -11,7 +12,7 @@ use Rattle.tables.specs.Ty.{typeIn}
 use Rattle.tables.specs.Signature.{structIn, globalIn}
 use Rattle.lookup.specs.First.{AllWithin}
 use Rattle.lookup.specs.Ty.{Lower}
-use Rattle.effects.specs.Raw.{Raw, uses, hands, gives, moves, movesGlobal, movesNone}
+use Rattle.rules.specs.Effects.{Raw, uses, hands, gives, moves, movesGlobal, movesNone, handName}
 use Rattle.effects.specs.declared.Effect.{Effect}
 use Rattle.effects.specs.declared.Effect.the-variants.{Nothing, Use, UseHand, Consume, Move, MoveTemp, BadMove, GlobalMove}
 
@@ -25,6 +26,14 @@ emits (Move n p) = moves n p false ∷ []
 emits (MoveTemp n p) = moves n p true ∷ []
 emits (BadMove p) = movesNone p ∷ []
 emits (GlobalMove p def) = movesGlobal p def ∷ []
+
+module _ (T : Tables) where
+  -- a leaf's use and its hand-over, if it is handed over
+  abbrev pub leaf : Bool → ℕ → ℕ → List Raw
+  leaf b n p = uses n p ∷ cond b (handName T n p) []
+
+  abbrev pub leafOf : Bool → ℕ → ℕ → ℕ → List Raw
+  leafOf b tag arg span = cond (eqb tag 1) (leaf b arg span) (cond (eqb tag 2) (leaf b 0 span) [])
 
 -- what the questions to the tables require of the positions that are lent
 pub record Lent (s ns ts xs : List ℕ) (count first : ℕ) : Type 0 where

@@ -10,7 +10,7 @@ ghost use Rattle.tables.specs.Tables.{Tables};
 ghost use Rattle.tables.specs.Name.{nameOf};
 ghost use Rattle.lookup.specs.First.{AllWithin};
 ghost use Rattle.rules.specs.Questions.{isTempOf};
-ghost use Rattle.effects.specs.Raw.{leaf as leafAt, leafOf};
+ghost use Rattle.effects.specs.Asked.{leaf as leafAt, leafOf};
 ghost use Rattle.effects.specs.Asked.{emits};
 use fields::peek;
 use fields::peek_two;

@@ -27,7 +27,7 @@ use Rattle.writing.specs.Stored.{Stored}
 use Rattle.writing.proofs.Stores.{none-stored, both-stored}
 use Rattle.validation.specs.declared.Applied.{Applied}
 use Rattle.validation.specs.Quiet.{after, told, afterAll, toldAll, Still, Applies, Standing, Calm, Evaluated, Bounded}
-use Rattle.validation.proofs.Runs.{course, run, run-append, run-none, run-still, run-group, both-same}
+use Rattle.validation.proofs.Runs.{course, run, run-append, run-none, run-still, both-same}
 use Rattle.validation.proofs.Entries.{stored-eq, entries-append}
 
 module _ (T : Tables) (s : List ℕ) (k at : ℕ) (old : Scope Status) where
@@ -51,8 +51,7 @@ module _ (T : Tables) (s : List ℕ) (k at : ℕ) (old : Scope Status) where
       → (es : Exprs) (next : ℕ) → Standing s k at es next → (σ ≡ afterAll T es old) × (ρ ≡ toldAll T es old) × (p ≡ next)
   leads-end os n p σ ρ le f es next st =
       let z = follows-end run T s k at (course old []) run-none os n p (course σ ρ) le f es next (st .stand) (st .many) (st .shallow) in
-      let e = z .0 ∙ run-group T es old in
-      (ap (λ x. x .locals) e, ap (λ x. x .reports) e, z .1)
+      (ap (λ x. x .locals) (z .0), ap (λ x. x .reports) (z .0), z .1)
 
   pub calm : (os : List Open) (n p : ℕ) → n ≤ 0 → Leads os n p old [] → Calm T s k at old (record { ok = true; at = p })
   calm os n p le f = record { calm = λ t es next st. (let z = leads-end os n p old [] le f es next st in (sym (z .0), sym (z .1), z .2)) }

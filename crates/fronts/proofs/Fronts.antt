@@ -15,7 +15,7 @@ use Rattle.body.specs.Expr.{Scope as Reading}
 use Rattle.body.specs.Stmt.{Tree, Stmt, before, stmtIn}
 use Rattle.rules.specs.State.{State as Status}
 use Rattle.rules.specs.Stack.{shape, Stack as Scope}
-use Rattle.rules.specs.Effects.{group}
+use Rattle.rules.specs.Effects.{group, resolveAll}
 use Rattle.rules.specs.Report.{Report, errors, warnings, lefts}
 use Rattle.rules.specs.Verdict.{entriesOf}
 use Rattle.writing.specs.Stored.{Stored}
@@ -61,7 +61,7 @@ module _ (T : Tables) (c : Tree) (d : ℕ) (σ : Scope Status) (p q : Place) (a 
   after-it = record { out = out′; errs = errs′; warns = warns′; lefts = left′ }
 
   here : Errors (toldAll T (valuesOf c) σ)
-  here = all-errors (group T (shape σ) false (valuesOf c)) σ
+  here = all-errors (resolveAll (shape σ) (group T false (valuesOf c))) σ
 
   abbrev fronts : List Report
   fronts = frontReports T c (p .at) (valued T c σ)

@@ -39,8 +39,9 @@ rows =
     row (move 90 (one (v 10))) (use′ 1 10 ∷ kill moved 1 10 ∷ [])
     -- K9: std::move(&v)
     ∷ row (move 90 (one (unary 20 1 3 (v 10)))) (use′ 1 10 ∷ badMove 20 1 ∷ [])
-    -- looked through: the place is the Ident's
+    -- looked through: the place is the Ident's; what is no name is refused at the argument
     ∷ row (move 90 (one (unary 20 1 0 (v 10)))) (use′ 1 10 ∷ kill moved 1 10 ∷ [])
+    ∷ row (move 90 (one (unary 20 1 0 (unary 21 1 3 (v 10))))) (use′ 1 10 ∷ badMove 20 1 ∷ [])
     -- K10: a global that is a local too
     ∷ row (move 90 (one (ident 10 1 5))) (use′ 5 10 ∷ globalMove 10 99 ∷ [])
     -- no such local; a temporary; `this`
@@ -74,3 +75,9 @@ rows =
 pub effect-rows : map (λ r. row (r .expr) (effects tables locals (r .expr))) rows ≡ rows
 unfolding sameBytes startsWith firstFrom andThen orElse inside structNamed classOfTy classOf modifierIn modifierOf isConsuming globalOf countWidth through isTempOf isMoveOf consumes globalIn takes handed finish effects
 effect-rows = refl
+
+-- where no name is a local nothing is handed over or consumed, and a temporary is refused as no local
+pub without-locals : map (effects tables []) (call 50 0 (field 40 (v 10) 7) (one (tmp 11)) ∷ move 90 (one (tmp 10)) ∷ [])
+    ≡ (use′ 1 10 ∷ use′ 6 11 ∷ []) ∷ (use′ 6 10 ∷ badMove 10 2 ∷ []) ∷ []
+unfolding sameBytes startsWith firstFrom andThen orElse inside structNamed classOfTy classOf modifierIn modifierOf isConsuming globalOf countWidth through isTempOf isMoveOf consumes globalIn takes handed finish effects
+without-locals = refl

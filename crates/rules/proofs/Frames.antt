@@ -14,6 +14,8 @@ use Rattle.tables.specs.Tables.{Tables}
 use Rattle.body.specs.Expr.{Expr}
 use Rattle.body.specs.Stmt.{Code, Tree, Block, done, exprStmt, variable, assign, return, bareReturn, block, ifElse, ifThen, while, jump}
 use Rattle.image.specs.Image.{Image}
+use Rattle.rules.proofs.ByTag.{by-tag}
+use Rattle.rules.specs.Effects.{resolveAll}
 use Rattle.rules.specs.Questions.{auto, isTempOf}
 use Rattle.rules.specs.Expr.{Named, nobody, called, view, identIn, nameIn, isCall, tyOf}
 use Rattle.rules.specs.Stack.{Static, Local, local, Stack, Shape, shape, inFrame, mark, lookup, pop, has, staticOf}
@@ -564,9 +566,10 @@ pub has-found : (n : ℕ) (fs : Frames) → has n (shapeOf fs) ≡ isSome (findL
 has-found n fs = has-static n (shapeOf fs) ∙ ap isSome (static-found n fs)
 
 -- mark_compiler_temp_consumed, of a name
-pub hand-local : (T : Tables) (n p : ℕ) (fs : Frames) → applyAllFrames (handName T (shapeOf fs) n p) fs ≡ handLocal T n p fs
+pub hand-local : (T : Tables) (n p : ℕ) (fs : Frames) → applyAllFrames (resolveAll (shapeOf fs) (handName T n p)) fs ≡ handLocal T n p fs
 hand-local T n p fs =
-    split (has n (shapeOf fs) && isTempOf T n) ∙ ap (λ (b : Bool). cond (b && isTempOf T n) (handTemp n p fs) fs) (has-found n fs)
+    ap (λ (es : List Effect). applyAllFrames es fs) (by-tag T (shapeOf fs) 0 0 .handOver n p)
+    ∙ (split (has n (shapeOf fs) && isTempOf T n) ∙ ap (λ (b : Bool). cond (b && isTempOf T n) (handTemp n p fs) fs) (has-found n fs))
   where
     split : (c : Bool) → applyAllFrames (cond c (hand n p ∷ []) []) fs ≡ cond c (handTemp n p fs) fs
     split true = refl

@@ -1,5 +1,5 @@
--- What an expression does to the locals, in the order of mod.rs's validate_expr: it depends on the tables, the locals and the
--- expression alone. The pass and a run apply the same effects.
+-- What an expression does to the locals, in the order of mod.rs's validate_expr. The tables and the expression say all but which
+-- names are locals (`raws`); the stack says that (`resolve`). The pass and a run apply the same effects.
 use Prim.Native.Nat.{ℕ}
 use mathlib.Core.Bool.{Bool, cond, not, _&&_}
 use mathlib.Core.List.{List, [], _∷_, _++_}
@@ -22,6 +22,17 @@ pub data Effect : Type 0 where
   badMove : ℕ → ℕ → Effect
   globalMove : ℕ → ℕ → Effect
 
+-- The same, whichever names are locals. A use, the hand-over of a temporary and the consumption of a receiver have a name and a
+-- place; the move of an Ident or of `this` that is no global a name, a place and whether it is a temporary; the move of a global a
+-- place and the place of its definition; a move of anything else a place.
+pub data Raw : Type 0 where
+  uses : ℕ → ℕ → Raw
+  hands : ℕ → ℕ → Raw
+  gives : ℕ → ℕ → Raw
+  moves : ℕ → ℕ → Bool → Raw
+  movesGlobal : ℕ → ℕ → Raw
+  movesNone : ℕ → Raw
+
 -- by tag: 1 if the node takes its items over (Call, Obj), or its child (ListLiteralWithSize)
 unfoldable pub takes : List ℕ
 takes = 0 ∷ 0 ∷ 0 ∷ 0 ∷ 0 ∷ 0 ∷ 1 ∷ 0 ∷ 1 ∷ 1 ∷ 0 ∷ 0 ∷ 0 ∷ 0 ∷ 0 ∷ 0 ∷ []
@@ -30,66 +41,85 @@ takes = 0 ∷ 0 ∷ 0 ∷ 0 ∷ 0 ∷ 0 ∷ 1 ∷ 0 ∷ 1 ∷ 1 ∷ 0 ∷ 0 ∷ 
 unfoldable pub handed : ℕ → ℕ → Bool
 handed k tag = eqb k 0 && eqb (getD takes tag 0) 1
 
-module _ (T : Tables) (Γ : Shape) where
+module _ (T : Tables) where
   -- validate_identifier_use, of an Ident or a ThisLiteral
-  abbrev pub own : Head → List Effect
-  own h = cond (eqb (h .tag) 1) (use′ (h .arg) (h .span) ∷ []) (cond (eqb (h .tag) 2) (use′ 0 (h .span) ∷ []) [])
+  abbrev pub own : Head → List Raw
+  own h = cond (eqb (h .tag) 1) (uses (h .arg) (h .span) ∷ []) (cond (eqb (h .tag) 2) (uses 0 (h .span) ∷ []) [])
 
-  abbrev pub handName : ℕ → ℕ → List Effect
-  handName n p = cond (has n Γ && isTempOf T n) (hand n p ∷ []) []
+  abbrev pub handName : ℕ → ℕ → List Raw
+  handName n p = cond (isTempOf T n) (hands n p ∷ []) []
 
-  abbrev pub handHead : Head → List Effect
+  abbrev pub handHead : Head → List Raw
   handHead h = cond (eqb (h .tag) 1) (handName (h .arg) (h .span)) (cond (eqb (h .tag) 2) (handName 0 (h .span)) [])
 
   -- mark_compiler_temp_consumed
-  abbrev pub handIf : Bool → Expr → List Effect
+  abbrev pub handIf : Bool → Expr → List Raw
   handIf b e = cond b (handHead (headOf (through e))) []
 
   -- consuming_method_receiver: span and name of the field access, type of its target as it stands, the target looked through
-  abbrev pub consume : ℕ → ℕ → ℕ → Head → List Effect
-  consume p m ty h = cond (eqb (h .tag) 1) (cond (has (h .arg) Γ && consumes T ty m) (kill consumed (h .arg) p ∷ []) []) []
+  abbrev pub consume : ℕ → ℕ → ℕ → Head → List Raw
+  consume p m ty h = cond (eqb (h .tag) 1) (cond (consumes T ty m) (gives (h .arg) p ∷ []) []) []
 
-  abbrev pub fieldCall : Expr → List Effect
+  abbrev pub fieldCall : Expr → List Raw
   fieldCall (node h none xs) = []
   fieldCall (node h (more t ts) xs) = cond (eqb (h .tag) 11) (consume (h .span) (h .arg) (headOf t .ty) (headOf (through t))) []
 
-  abbrev pub receiver : Exprs → List Effect
+  abbrev pub receiver : Exprs → List Raw
   receiver none = []
   receiver (more f fs) = fieldCall (through f)
 
-  -- validate_move_argument; hints: 1 an expression, 2 no such local, 3 a temporary
-  abbrev pub moveLocal : ℕ → ℕ → Effect
-  moveLocal n p = cond (has n Γ) (cond (isTempOf T n) (badMove p 3) (kill moved n p)) (badMove p 2)
+  -- validate_move_argument
+  abbrev pub moveLocal : ℕ → ℕ → Raw
+  moveLocal n p = moves n p (isTempOf T n)
 
-  abbrev pub moveGlobal : ℕ → ℕ → Option ℕ → Effect
+  abbrev pub moveGlobal : ℕ → ℕ → Option ℕ → Raw
   moveGlobal n p Option.none = moveLocal n p
-  moveGlobal n p (some def) = globalMove p def
+  moveGlobal n p (some def) = movesGlobal p def
 
-  abbrev pub moveIdent : ℕ → ℕ → Effect
+  abbrev pub moveIdent : ℕ → ℕ → Raw
   moveIdent n p = moveGlobal n p (globalIn T n)
 
-  abbrev pub moveHead : ℕ → Head → Effect
-  moveHead q h = cond (eqb (h .tag) 1) (moveIdent (h .arg) (h .span)) (cond (eqb (h .tag) 2) (moveLocal 0 (h .span)) (badMove q 1))
+  abbrev pub moveHead : ℕ → Head → Raw
+  moveHead q h = cond (eqb (h .tag) 1) (moveIdent (h .arg) (h .span)) (cond (eqb (h .tag) 2) (moveLocal 0 (h .span)) (movesNone q))
 
-  abbrev pub moveFirst : Exprs → List Effect
+  abbrev pub moveFirst : Exprs → List Raw
   moveFirst none = []
   moveFirst (more e es) = moveHead (headOf e .span) (headOf (through e)) ∷ []
 
   -- what a node does once its children are evaluated: a Call consumes its receiver, `std::move` moves its first argument
-  unfoldable pub finish : Expr → List Effect
+  unfoldable pub finish : Expr → List Raw
   finish (node h ks xs) =
       cond (eqb (h .tag) 6) (receiver ks) (cond (eqb (h .tag) 14) (cond (isMoveOf T (h .arg)) (moveFirst xs) []) [])
 
-  -- validate_expr
+  -- a node's own use, its children, its items, and what it does then
   unfoldable mutual
-    pub effects : Expr → List Effect
-    effects (node h ks xs) =
+    pub raws : Expr → List Raw
+    raws (node h ks xs) =
         own h ++ (group (handed (getD countWidth (h .tag) 0) (h .tag)) ks ++ (group (handed 0 (h .tag)) xs ++ finish (node h ks xs)))
 
     -- children in order, each followed by its hand-over if b
-    pub group : Bool → Exprs → List Effect
+    pub group : Bool → Exprs → List Raw
     group b none = []
-    group b (more e es) = effects e ++ (handIf b e ++ group b es)
+    group b (more e es) = raws e ++ (handIf b e ++ group b es)
+
+-- only a local is handed over, consumed or moved; hints of a bad move: 1 an expression, 2 no such local, 3 a temporary
+abbrev pub resolve : Shape → Raw → List Effect
+resolve Γ (uses n p) = use′ n p ∷ []
+resolve Γ (hands n p) = cond (has n Γ) (hand n p ∷ []) []
+resolve Γ (gives n p) = cond (has n Γ) (kill consumed n p ∷ []) []
+resolve Γ (moves n p t) = cond (has n Γ) (cond t (badMove p 3) (kill moved n p)) (badMove p 2) ∷ []
+resolve Γ (movesGlobal p def) = globalMove p def ∷ []
+resolve Γ (movesNone p) = badMove p 1 ∷ []
+
+unfoldable pub resolveAll : Shape → List Raw → List Effect
+resolveAll Γ [] = []
+resolveAll Γ (r ∷ rs) = resolve Γ r ++ resolveAll Γ rs
+
+module _ (T : Tables) (Γ : Shape) where
+  -- validate_expr
+  unfoldable pub effects : Expr → List Effect
+  unfolding raws resolveAll
+  effects e = resolveAll Γ (raws T e)
 
   abbrev pub deletedBy : Named → List Effect
   deletedBy nobody = []

@@ -10,7 +10,7 @@ use Rattle.tables.specs.Tables.{Tables}
 use Rattle.body.specs.Expr.{Exprs}
 use Rattle.body.specs.Stands.{StandAll, count}
 use Rattle.body.specs.Depth.{depthAll}
-use Rattle.effects.specs.Raw.{Raw, group}
+use Rattle.rules.specs.Effects.{Raw, group}
 use Rattle.effects.specs.Asked.{emits}
 use Rattle.scan.specs.Scan.{Stage, Stacked, pending, rootOf, topOf, nodesAfter, openAfter, Goes}
 use Rattle.scan.specs.declared.Open.{Open}

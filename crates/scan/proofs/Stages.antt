@@ -19,8 +19,8 @@ use Rattle.body.specs.Depth.{depth, depthAll}
 use Rattle.body.proofs.Standing.{order-all, none-or-two}
 use Rattle.body.proofs.Walking.{head-at, Looked}
 use Rattle.rules.specs.Questions.{isMoveOf}
-use Rattle.rules.specs.Effects.{handed}
-use Rattle.effects.specs.Raw.{Raw, raws, group, finish, handIf, leafOf}
+use Rattle.rules.specs.Effects.{handed, Raw, raws, group, finish, handIf}
+use Rattle.effects.specs.Asked.{leafOf}
 use Rattle.effects.specs.Asked.{emits}
 use Rattle.scan.specs.Scan.{blank, Stage, Fits, Stacked, rest, pending, topOf, Ready, Goes}
 use Rattle.effects.specs.declared.Effect.{Effect}

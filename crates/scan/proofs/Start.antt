@@ -11,8 +11,7 @@ use Rattle.body.specs.Expr.{Exprs, node, none, lastWidth}
 use Rattle.body.specs.Stands.{StandAll, count}
 use Rattle.body.specs.Depth.{depthAll, WalkableAll}
 use Rattle.body.proofs.Standing.{end-all}
-use Rattle.rules.specs.Effects.{handed, takes}
-use Rattle.effects.specs.Raw.{group, finish}
+use Rattle.rules.specs.Effects.{handed, takes, group, finish}
 use Rattle.scan.specs.Scan.{Stage, Fits, Stacked, rest, pending, rootOf, topOf, Ready, Waits, Goes, nodesAfter, openAfter}
 use Rattle.scan.specs.declared.Open.{Open}
 use Rattle.scan.specs.declared.Step.{Step}

@@ -9,8 +9,7 @@ use Rattle.tables.specs.Tables.{Tables}
 use Rattle.body.specs.Expr.{Expr, Exprs, lastWidth, headOf}
 use Rattle.body.specs.Stands.{StandAll, Placed, count}
 use Rattle.body.specs.Depth.{depthAll}
-use Rattle.rules.specs.Effects.{handed}
-use Rattle.effects.specs.Raw.{Raw, group, finish}
+use Rattle.rules.specs.Effects.{handed, Raw, group, finish}
 use Rattle.effects.specs.Asked.{emits}
 use Rattle.scan.specs.declared.Open.{Open}
 use Rattle.scan.specs.declared.Step.{Step}

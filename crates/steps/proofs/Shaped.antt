@@ -14,7 +14,7 @@ use Rattle.body.specs.Stmt.{Tree, done, exprStmt, variable, assign, return, bar
 use Rattle.rules.specs.Expr.{view}
 use Rattle.rules.specs.State.{State as Status, alive}
 use Rattle.rules.specs.Stack.{Static, Shape, shape, Stack as Scope}
-use Rattle.rules.specs.Effects.{group, deletedIn, takeOver}
+use Rattle.rules.specs.Effects.{group, resolveAll, deletedIn, takeOver}
 use Rattle.rules.specs.Rules.{states, sureFrom, register, exit, merge, joins}
 use Rattle.rules.proofs.Shapes.{Within, shape-frame, shape-all, shape-assign, shape-merge, shape-joins, shape-inner}
 use Rattle.scope.specs.View.{Nested}
@@ -30,7 +30,7 @@ nested-within d (s ∷ Γ) h = (subst So (sym (le-leb (s .depth) d (h .0))) tt, 
 module _ (T : Tables) where
   -- values keep the locals
   pub shape-values : (es : Exprs) (σ : Scope Status) → shape (afterAll T es σ) ≡ shape σ
-  shape-values es σ = shape-all states (group T (shape σ) false es) σ
+  shape-values es σ = shape-all states (resolveAll (shape σ) (group T false es)) σ
 
   keep : (d : ℕ) {Γ Δ : Shape} → Δ ≡ Γ → Nested d Γ → Nested d Δ
   keep d e h = subst (Nested d) (sym e) h

@@ -18,7 +18,7 @@ use Rattle.encoding.specs.Body.{size, encodeCode, encodeExpr, withCount}
 use Rattle.rules.specs.Expr.{Named, nobody, called, View, anIdent, aThis, aField, aDelete, aCall, other, view, nameIn}
 use Rattle.rules.specs.State.{State as Status}
 use Rattle.rules.specs.Stack.{Shape, shape, pop, Stack as Scope}
-use Rattle.rules.specs.Effects.{Effect, effects, group, deletedIn, deletedBy, exprStmtEffects, takeOver, assignEffects}
+use Rattle.rules.specs.Effects.{Effect, group, resolveAll, effects, deletedIn, deletedBy, exprStmtEffects, takeOver, assignEffects}
 use Rattle.rules.specs.Rules.{Drop, dropOf, isDone, states, apply, applyAll, sureFrom, register, evaluate, afterExpr, afterVariable, beforeAssign, afterAssign, assignDrops, returnDrops, joins, merge, exit, decide}
 use Rattle.rules.specs.Report.{Report, reportOf, reportAll, deleteNode, identNode, inserts, flatten, report, exprBytes, codeBytes, unused, leftBehind}
 use Rattle.rules.specs.Walk.{walkFault, tooMany, tooWide}
@@ -98,7 +98,7 @@ three f g r x {i} {i′} {j} {j′} {k} {k′} e h l = ap (λ (n : ℕ). x ++ (f
 
 module _ (T : Tables) where
   -- the values of a statement
-  no-values : (Γ : Shape) → group T Γ false none ≡ []
+  no-values : (Γ : Shape) → resolveAll Γ (group T false none) ≡ []
   unfolding effects
   no-values Γ = refl
 
@@ -139,7 +139,7 @@ module _ (T : Tables) where
   pub variable-after : (d n t : ℕ) (e : Expr) (σ : Scope Status)
       → afterVariable states T d n t e σ ≡ applyAll states (takeOver T (shape (afterAll T (more e none) σ)) n t e) (register states n t d (afterAll T (more e none) σ))
   variable-after d n t e σ =
-      let g : shape σ ≡ shape (afterAll T (more e none) σ) = sym (shape-all states (group T (shape σ) false (more e none)) σ) in
+      let g : shape σ ≡ shape (afterAll T (more e none) σ) = sym (shape-all states (resolveAll (shape σ) (group T false (more e none))) σ) in
       ap (λ (Γ : Shape). applyAll states (takeOver T Γ n t e) (register states n t d (evaluate states T e σ))) g
       ∙ ap (λ (τ : Scope Status). applyAll states (takeOver T (shape (afterAll T (more e none) σ)) n t e) (register states n t d τ)) (sym (after-one T σ e))
 

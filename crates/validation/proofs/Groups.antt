@@ -1,25 +1,26 @@
 -- One expression, and the two of an assignment, as the rules name them.
 -- Assumes nothing.
-use mathlib.Core.Path.{_≡_, ap}
+use mathlib.Core.Path.{_≡_, ap, _∙_}
 use mathlib.Core.Bool.{false}
-use mathlib.Core.List.{_++_, append-nil}
+use mathlib.Core.List.{[], _++_, append-nil}
 use Rattle.tables.specs.Tables.{Tables}
 use Rattle.body.specs.Expr.{Expr, none, more}
 use Rattle.rules.specs.State.{State as Status}
 use Rattle.rules.specs.Stack.{Shape, shape, Stack as Scope}
-use Rattle.rules.specs.Effects.{effects, group, assignEffects}
+use Rattle.rules.specs.Effects.{raws, group, resolveAll, effects, assignEffects}
 use Rattle.rules.specs.Rules.{states, applyAll, evaluate, beforeAssign}
 use Rattle.rules.specs.Report.{reportAll}
+use Rattle.rules.proofs.ByTag.{resolve-append}
 use Rattle.validation.specs.Quiet.{afterAll, toldAll}
 
 module _ (T : Tables) where
-  group-one : (Γ : Shape) (e : Expr) → group T Γ false (more e none) ≡ effects T Γ e
-  unfolding group
-  group-one Γ e = append-nil (effects T Γ e)
+  group-one : (Γ : Shape) (e : Expr) → resolveAll Γ (group T false (more e none)) ≡ effects T Γ e
+  unfolding effects
+  group-one Γ e = ap (resolveAll Γ) (append-nil (raws T e))
 
-  group-two : (Γ : Shape) (d v : Expr) → group T Γ false (more d (more v none)) ≡ assignEffects T Γ d v
-  unfolding group assignEffects
-  group-two Γ d v = ap (λ l. effects T Γ d ++ l) (append-nil (effects T Γ v))
+  group-two : (Γ : Shape) (d v : Expr) → resolveAll Γ (group T false (more d (more v none))) ≡ assignEffects T Γ d v
+  unfolding effects assignEffects
+  group-two Γ d v = resolve-append Γ (raws T d) (raws T v ++ []) ∙ ap (λ l. effects T Γ d ++ resolveAll Γ l) (append-nil (raws T v))
 
   module _ (σ : Scope Status) where
     pub after-one : (e : Expr) → afterAll T (more e none) σ ≡ evaluate states T e σ

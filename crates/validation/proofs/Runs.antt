@@ -1,19 +1,15 @@
 -- Raw effects one after another: the locals after them, and the reports so far.
 -- Assumes nothing.
 use mathlib.Core.Path.{_≡_, refl, sym, ap, _∙_}
-use mathlib.Core.Bool.{false}
 use mathlib.Core.List.{List, [], _∷_, _++_, append-assoc, append-nil}
-use Rattle.tables.specs.Tables.{Tables}
-use Rattle.body.specs.Expr.{Exprs}
 use Rattle.rules.specs.State.{State as Status}
 use Rattle.rules.specs.Stack.{Shape, shape, Stack as Scope}
-use Rattle.rules.specs.Effects.{Effect}
+use Rattle.rules.specs.Effects.{Effect, Raw, resolveAll}
 use Rattle.rules.specs.Rules.{states, apply, applyAll}
 use Rattle.rules.specs.Report.{Report, reportOf, reportAll}
 use Rattle.rules.proofs.Shapes.{shape-all}
-use Rattle.effects.specs.Raw.{Raw, group, resolveAll}
-use Rattle.effects.proofs.Resolved.{resolve-append, groups}
-use Rattle.validation.specs.Quiet.{after, told, afterAll, toldAll, Still}
+use Rattle.rules.proofs.ByTag.{resolve-append}
+use Rattle.validation.specs.Quiet.{after, told, Still}
 
 pub apply-append : (xs ys : List Effect) (σ : Scope Status) → applyAll states (xs ++ ys) σ ≡ applyAll states ys (applyAll states xs σ)
 apply-append [] ys σ = refl
@@ -65,7 +61,3 @@ run-none x = both-same refl (append-nil (x .reports))
 
 pub run-still : (rs : List Raw) (σ : Scope Status) (ρ : List Report) → Still rs σ → course σ ρ ≡ run rs (course σ ρ)
 run-still rs σ ρ q = both-same (sym (q .stays)) (sym (ap (λ l. ρ ++ l) (q .silent) ∙ append-nil ρ))
-
--- the raw effects of expressions lead where validate_expr of each in turn leads
-pub run-group : (T : Tables) (es : Exprs) (σ : Scope Status) → run (group T false es) (course σ []) ≡ course (afterAll T es σ) (toldAll T es σ)
-run-group T es σ = both-same (ap (λ l. applyAll states l σ) (sym (groups (shape σ) T false es))) (ap (λ l. reportAll l σ) (sym (groups (shape σ) T false es)))

@@ -14,10 +14,9 @@ use Rattle.lookup.specs.declared.Found.the-variants.{At, Nothing}
 use Rattle.rules.specs.State.{State as Status, moved, consumed, handState}
 use Rattle.rules.specs.Stack.{Static, Local, local, shape, has, lookup, inFrame, mark, Stack as Scope}
 use Rattle.rules.proofs.FrameRules.{isSome}
-use Rattle.rules.specs.Effects.{hand, kill, badMove}
+use Rattle.rules.specs.Effects.{hand, kill, badMove, uses, hands, gives, moves, resolveAll}
 use Rattle.rules.specs.Rules.{states, applyAll}
 use Rattle.rules.specs.Report.{useOf, badUse, reportAll}
-use Rattle.effects.specs.Raw.{uses, hands, gives, moves, resolveAll}
 use Rattle.effects.specs.Asked.{emits}
 use Rattle.effects.specs.declared.Effect.{Effect}
 use Rattle.effects.specs.declared.Effect.the-variants.{Use, UseHand, Consume}

@@ -11,7 +11,7 @@ use Rattle.rules.specs.Stack.{shape, has, lookup, mark, Stack as Scope}
 use Rattle.rules.specs.Rules.{states}
 use Rattle.rules.specs.Report.{error, useOf}
 use Rattle.rules.specs.Verdict.{entryOf, entriesOf}
-use Rattle.effects.specs.Raw.{uses, hands, moves, resolveAll}
+use Rattle.rules.specs.Effects.{uses, hands, moves, resolveAll}
 use Rattle.effects.specs.Asked.{emits}
 use Rattle.effects.specs.declared.Effect.{Effect}
 use Rattle.effects.specs.declared.Effect.the-variants.{Nothing, Use, Consume, BadMove, GlobalMove}

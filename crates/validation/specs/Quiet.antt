@@ -10,11 +10,10 @@ use Rattle.body.specs.Stands.{StandAll, count}
 use Rattle.body.specs.Depth.{depthAll}
 use Rattle.rules.specs.State.{State as Status}
 use Rattle.rules.specs.Stack.{shape, Stack as Scope}
-use Rattle.rules.specs.Effects.{group}
+use Rattle.rules.specs.Effects.{Raw, group, resolveAll}
 use Rattle.rules.specs.Rules.{states, applyAll}
 use Rattle.rules.specs.Report.{Report, reportAll}
 use Rattle.rules.specs.Verdict.{entriesOf}
-use Rattle.effects.specs.Raw.{Raw, resolveAll}
 use Rattle.scope.specs.View.{view, Sound}
 use Rattle.writing.specs.Stored.{Stored}
 use Rattle.validation.specs.declared.Quiet.{Quiet}
@@ -42,10 +41,10 @@ pub record Applies (rs : List Raw) (σ : Scope Status) (old : List ℕ) (n : ℕ
 
 -- validate_expr of each expression in turn: the locals after, and the errors
 abbrev pub afterAll : Tables → Exprs → Scope Status → Scope Status
-afterAll T es σ = applyAll states (group T (shape σ) false es) σ
+afterAll T es σ = after (group T false es) σ
 
 abbrev pub toldAll : Tables → Exprs → Scope Status → List Report
-toldAll T es σ = reportAll (group T (shape σ) false es) σ
+toldAll T es σ = told (group T false es) σ
 
 -- so many expressions stand from a position up to another, none deeper than 24
 pub record Standing (s : List ℕ) (k at : ℕ) (es : Exprs) (next : ℕ) : Type 0 where

@@ -9,7 +9,7 @@ ghost use Rattle.tables.specs.Limits.{version1};
 ghost use Rattle.rules.specs.Stack.{lookup, has, shape};
 ghost use Rattle.rules.specs.Report.{error, useOf, badUse, first as firstOf};
 ghost use Rattle.rules.specs.Verdict.{entryOf, entriesOf};
-ghost use Rattle.effects.specs.Raw.{uses, hands, moves};
+ghost use Rattle.rules.specs.Effects.{uses, hands, moves};
 ghost use Rattle.effects.specs.Asked.{emits};
 ghost use Rattle.state.specs.Kinds.{baseOf, said};
 ghost use Rattle.state.specs.View.{listed, Roomy, Made};

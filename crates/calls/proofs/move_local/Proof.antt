@@ -1,6 +1,6 @@
 use mathlib.Core.Path.{sym, ap, _∙_}
 use mathlib.Core.List.{[], _∷_}
-use Rattle.effects.specs.Raw.{moves}
+use Rattle.rules.specs.Effects.{moves}
 use borrow.Author.Needs.{needs}
 use Rattle.calls.proofs.move_local.Statement.{statement}
 use Rattle.calls.proofs.move_local.Tie as tie

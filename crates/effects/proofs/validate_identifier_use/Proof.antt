@@ -1,5 +1,5 @@
 use mathlib.Core.Path.{sym, ap, _∙_}
-use Rattle.effects.specs.Raw.{leaf}
+use Rattle.effects.specs.Asked.{leaf}
 use borrow.Author.Needs.{needs}
 use Rattle.effects.proofs.validate_identifier_use.Statement.{statement}
 use Rattle.effects.proofs.validate_identifier_use.Tie as tie
