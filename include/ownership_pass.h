@@ -1,4 +1,5 @@
-/* Ownership of values in one Atlas77 body: the entries of libownership_pass.a and liblent.a (document 01).
+/* Ownership of values in one Atlas77 body: the entries of libownership_pass.a and liblent.a (document 01). docs/IMAGE.md has the bytes
+ * of an image and how to read the one given back. The function image_fault of libimage.a is not among these entries.
  *
  * The first two answer 0, accepted, or the number of the first fault:
  *    1  under 5 bytes, over 65,536, or wrong length    2  version not 1
@@ -13,6 +14,15 @@
  * Any bytes may be submitted as an image. Every pointer must be non-null and aligned for its type, also where its length is 0, and
  * valid for its length; what is written to must overlap neither the image nor any other memory lent in the same call. The calls hold
  * no state, allocate nothing and keep no pointer: threads may call them at one time, each with memory of its own to write to.
+ *
+ * Machine stack: give a thread that calls them 1 MB. Measured (bench/memory.c), ownership_pass takes up to 485,000 bytes and
+ * ownership_room 383,500. Nothing proves a bound, and a stack that is too small ends the process.
+ *
+ * An image of n bytes without faults 1 to 13 has, with m = n - 28 and rounded down, at most m / 7 errors, m / 21 warnings and 8 * m
+ * left-behind entries, and n + 90 * m bytes of output; for 65,536 bytes 9,358, 3,119, 524,064 and 5,961,256. At least 28 bytes stand
+ * before the first statement; an error needs an Ident (9 bytes), a ThisLiteral (7) or an Intrinsic (11) of its own, a warning a
+ * statement, a call and a callee (5 + 9 + 7); a bare return (8) leaves at most 64 locals, a return with a value (15) gains at most 64
+ * deletes of 21 bytes. This follows from the widths of the image and is not proved.
  */
 #ifndef OWNERSHIP_PASS_H
 #define OWNERSHIP_PASS_H
@@ -32,7 +42,9 @@ extern "C" {
 
 /* Gives back the body with the deletes inserted, as a whole image, and what is reported, each list in order. On 0 the first bytes of
  * output, the first entries of each list and all of totals are written; the rest of what is lent is unchanged. A length that is no
- * multiple of an entry's numbers lends the whole entries in it. Faults 1 to 15. */
+ * multiple of an entry's numbers lends the whole entries in it. Faults 1 to 15.
+ * What is given back may not read as an image again: it may pass 65,536 bytes (fault 1), and an unused result of depth 24 comes back
+ * in a Delete, 25 deep (fault 9). */
 uint32_t ownership_pass(const uint8_t *image, size_t image_len,
                         uint8_t *output, size_t output_len,
                         uint32_t *errors, size_t errors_len,
