@@ -17,14 +17,19 @@ use Rattle.image.specs.Image.{Image, Decoded, accepted, refused, decode}
 use Rattle.image.proofs.Numbered.{fault-numbers}
 use Rattle.rules.specs.State.{State}
 use Rattle.rules.specs.Stack.{Stack}
-use Rattle.rules.specs.Rules.{states, sureFrom, merge, joins, evaluate, afterExpr, afterVariable, beforeAssign, afterAssign, exit, entered, localsOf}
+use Rattle.rules.specs.Rules.{states, sureFrom, merge, joins, evaluate, afterVariable, exit, entered, localsOf}
 use Rattle.rules.specs.Walk.{tooMany, tooWide, crowded, walkFault, imageFault}
 use Rattle.rules.specs.Verdict.{Lent, Answer, answerOf, Verdict, refuses, answers, listsFit, outputFits, fitted, walked, decided, passVerdict, roomFaultOf, roomFault}
 
 -- no fault, or one of the walk
-abbrev pub Real : Option ℕ → Type 0
-Real none = Unit {0}
-Real (some n) = (11 < n) × (n < 14)
+pub record Real (x : Option ℕ) : Type 0 where
+  pub is : (n : ℕ) → x ≡ some n → (11 < n) × (n < 14)
+
+pub real-no : Real none
+real-no = record { is = λ n e. let z : _≡_ {A = ℕ} 0 1 = cc in absurd (omega arith) }
+
+real-some : (m : ℕ) → 11 < m → m < 14 → Real (some m)
+real-some m l h = record { is = λ n e. let z : m ≡ n = cc in (omega arith, omega arith) }
 
 pub real-else : (a b : Option ℕ) → Real a → Real b → Real (orElse a b)
 unfolding orElse
@@ -32,8 +37,8 @@ real-else none b p q = q
 real-else (some n) b p q = p
 
 real-if : (b : Bool) (n : ℕ) → 11 < n → n < 14 → Real (cond b (some n) none)
-real-if true n l h = (l, h)
-real-if false n l h = tt
+real-if true n l h = real-some n l h
+real-if false n l h = real-no
 
 module _ (L : Limits) where
   pub real-many : (σ : Stack State) → Real (tooMany L σ)
@@ -43,43 +48,43 @@ module _ (L : Limits) where
   real-wide j σ = real-if (j && crowded L σ) 13 (omega arith) (omega arith)
 
   module _ (T : Tables) where
-    pub real-walk : (c : Tree) (d : ℕ) (σ : Stack State) → Real (walkFault L T c d σ)
+    pub real-walk : (c : Tree) (d : ℕ) → (σ : Stack State) → Real (walkFault L T c d σ)
     unfolding walkFault
-    real-walk (done x) d σ = tt
-    real-walk (exprStmt s e y r) d σ = real-walk r d (afterExpr states T e σ)
-    real-walk (variable k s n t e r) d σ =
-        real-else (tooMany L (afterVariable states T d n t e σ)) (walkFault L T r d (afterVariable states T d n t e σ))
-        (real-many (afterVariable states T d n t e σ)) (real-walk r d (afterVariable states T d n t e σ))
-    real-walk (assign s e v t x r) d σ = real-walk r d (afterAssign states T e v (beforeAssign states T e v σ))
-    real-walk (return s e t x r) d σ = real-walk r d (evaluate states T e σ)
-    real-walk (bareReturn s t r) d σ = real-walk r d σ
-    real-walk (block s c r) d σ =
-        real-else (walkFault L T c (suc d) σ) (walkFault L T r d (exit states T c (suc d) σ)) (real-walk c (suc d) σ) (real-walk r d (exit states T c (suc d) σ))
-    real-walk (ifElse s e ts t us u r) d σ =
+    real-walk (done x) d = λ σ. real-no
+    real-walk (exprStmt s e y r) d = λ σ. real-walk r d _
+    real-walk (variable k s n t e r) d = λ σ.
+        let τ = afterVariable states T d n t e σ in
+        real-else (tooMany L τ) (walkFault L T r d τ) (real-many τ) (real-walk r d τ)
+    real-walk (assign s e v t x r) d = λ σ. real-walk r d _
+    real-walk (return s e t x r) d = λ σ. real-walk r d _
+    real-walk (bareReturn s t r) d = λ σ. real-walk r d _
+    real-walk (block s c r) d = λ σ. real-else _ _ (real-walk c (suc d) _) (real-walk r d _)
+    real-walk (ifElse s e ts t us u r) d = λ σ.
         let τ = evaluate states T e σ in
         let υ = merge states (sureFrom t false) (sureFrom u false) τ (exit states T t (suc d) τ) (exit states T u (suc d) τ) in
-        let x = tooWide L (not (sureFrom t false) && not (sureFrom u false)) (joins states (exit states T t (suc d) τ) (exit states T u (suc d) τ)) in
-        real-else (walkFault L T t (suc d) τ) (orElse (walkFault L T u (suc d) τ) (orElse x (walkFault L T r d υ))) (real-walk t (suc d) τ)
-        (real-else (walkFault L T u (suc d) τ) (orElse x (walkFault L T r d υ)) (real-walk u (suc d) τ)
-        (real-else x (walkFault L T r d υ) (real-wide (not (sureFrom t false) && not (sureFrom u false)) (joins states (exit states T t (suc d) τ) (exit states T u (suc d) τ))) (real-walk r d υ)))
-    real-walk (ifThen s e ts t r) d σ =
+        let x = not (sureFrom t false) && not (sureFrom u false) in
+        let y = joins states (exit states T t (suc d) τ) (exit states T u (suc d) τ) in
+        real-else _ (orElse (walkFault L T u (suc d) τ) (orElse (tooWide L x y) (walkFault L T r d υ))) (real-walk t (suc d) τ)
+        (real-else _ (orElse (tooWide L x y) (walkFault L T r d υ)) (real-walk u (suc d) τ)
+        (real-else (tooWide L x y) (walkFault L T r d υ) (real-wide x y) (real-walk r d υ)))
+    real-walk (ifThen s e ts t r) d = λ σ.
         let τ = evaluate states T e σ in
         let υ = merge states (sureFrom t false) false τ (exit states T t (suc d) τ) τ in
-        let x = tooWide L (not (sureFrom t false)) (joins states (exit states T t (suc d) τ) τ) in
-        real-else (walkFault L T t (suc d) τ) (orElse x (walkFault L T r d υ)) (real-walk t (suc d) τ)
-        (real-else x (walkFault L T r d υ) (real-wide (not (sureFrom t false)) (joins states (exit states T t (suc d) τ) τ)) (real-walk r d υ))
-    real-walk (while s e ts t r) d σ =
+        let y = joins states (exit states T t (suc d) τ) τ in
+        real-else _ (orElse (tooWide L (not (sureFrom t false)) y) (walkFault L T r d υ)) (real-walk t (suc d) τ)
+        (real-else (tooWide L (not (sureFrom t false)) y) (walkFault L T r d υ) (real-wide (not (sureFrom t false)) y) (real-walk r d υ))
+    real-walk (while s e ts t r) d = λ σ.
         let τ = evaluate states T e σ in
         let υ = joins states (exit states T t (suc d) τ) τ in
-        real-else (walkFault L T t (suc d) τ) (orElse (tooWide L true υ) (walkFault L T r d υ)) (real-walk t (suc d) τ)
+        real-else _ (orElse (tooWide L true υ) (walkFault L T r d υ)) (real-walk t (suc d) τ)
         (real-else (tooWide L true υ) (walkFault L T r d υ) (real-wide true υ) (real-walk r d υ))
-    real-walk (jump k s r) d σ = real-walk r d σ
+    real-walk (jump k s r) d = λ σ. real-walk r d _
 
   pub real-image : (i : Image) → Real (imageFault L i)
   unfolding imageFault
   real-image i =
       let σ = entered states (i .tables) (localsOf (i .entry)) [] in
-      real-else (tooMany L σ) (walkFault L (i .tables) (i .body .code) 1 σ) (real-many σ) (real-walk (i .tables) (i .body .code) 1 σ)
+      real-else (tooMany L σ) _ (real-many σ) (real-walk (i .tables) (i .body .code) 1 σ)
 
   -- the entry that gives back the body refuses with a number from 1 to 15
   of-refuses : (m n : ℕ) → refuses m ≡ refuses n → 0 < m → m < 16 → (0 < n) × (n < 16)
@@ -89,7 +94,7 @@ module _ (L : Limits) where
   never e = let z : _≡_ {A = ℕ} 0 1 = cc in absurd (omega arith)
 
   of-walked : (lent : Lent) (i : Image) (x : Option ℕ) (n : ℕ) → Real x → walked L lent i x ≡ refuses n → (0 < n) × (n < 16)
-  of-walked lent i (some m) n g e = of-refuses m n e (omega (arith, g .0)) (omega (arith, g .1))
+  of-walked lent i (some m) n g e = let k = g .is m refl in of-refuses m n e (omega (arith, k .0)) (omega (arith, k .1))
   of-walked lent i none n g e = go (listsFit lent (answerOf L i)) (outputFits lent i (answerOf L i)) e
     where
       go : (b c : Bool) → cond b (cond c (answers (answerOf L i)) (refuses 15)) (refuses 14) ≡ refuses n → (0 < n) × (n < 16)
@@ -110,13 +115,9 @@ module _ (L : Limits) where
   unfolding roomFault
   room-numbers s n e = go (decode L s) refl e
     where
-      real : (x : Option ℕ) → Real x → x ≡ some n → (0 < n) × (n < 14)
-      real none g h = let z : _≡_ {A = ℕ} 0 1 = cc in absurd (omega arith)
-      real (some m) g h = let z : m ≡ n = cc in (omega (arith, g .0), omega (arith, g .1))
-
       go : (d : Decoded) → decode L s ≡ d → roomFaultOf L d ≡ some n → (0 < n) × (n < 14)
       go (refused m) z h =
           let k = fault-numbers L s m z in
           let y : m ≡ n = cc in
           (omega (arith, k .0), omega (arith, k .1))
-      go (accepted i) z h = real (imageFault L i) (real-image i) h
+      go (accepted i) z h = let k = real-image i .is n h in (omega (arith, k .0), k .1)
