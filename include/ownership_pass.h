@@ -1,5 +1,5 @@
-/* Ownership of values in one Atlas77 body: the entries of libownership_pass.a and liblent.a (document 01). docs/IMAGE.md has the bytes
- * of an image and how to read the one given back. The function image_fault of libimage.a is not among these entries.
+/* Ownership of values in one Atlas77 body: the entries of libownership_pass.a, liblent.a and libimage.a (document 01). docs/IMAGE.md has the bytes
+ * of an image and how to read the one given back, docs/REPORTS.md what the lists say.
  *
  * The first two answer 0, accepted, or the number of the first fault:
  *    1  under 5 bytes, over 65,536, or wrong length    2  version not 1
@@ -66,6 +66,9 @@ struct ownership_report {
  * with nothing changed if fewer than count records or fewer than 12 * count numbers are lent. Records past count are unchanged. */
 uint32_t ownership_reports(const uint32_t *numbers, size_t numbers_len, size_t count,
                            struct ownership_report *reports, size_t reports_len);
+
+/* Reads an image and answers 0 or its fault of reading, 1 to 11; lends nothing and walks nothing: of libimage.a (rt staticlib image). */
+uint64_t image_fault(const uint8_t *image, size_t image_len);
 
 #ifdef __cplusplus
 }

@@ -41,7 +41,8 @@ use Rattle.steps.proofs.Plain.{blockless-fault, blockless-before}
 use Rattle.steps.proofs.Faults.{real-none, real-own}
 use Rattle.steps.proofs.Shaped.{shape-values, nested-own}
 use Rattle.fronts.specs.declared.Walk.{Walk}
-use Rattle.fronts.specs.Walks.{Memory, memory, Ready, Safe, StmtDone, BlocksWalk, TagThere, IfWalks, TagWalks, Settles, blocked, FrontWalks, FrontSafe}
+use Rattle.writing.specs.Memory.{Memory, memory}
+use Rattle.fronts.specs.Walks.{Ready, Safe, StmtDone, BlocksWalk, TagThere, IfWalks, TagWalks, Settles, blocked, FrontWalks, FrontSafe}
 use Rattle.fronts.proofs.Wrotes.{within-on}
 use Rattle.fronts.proofs.Fronts.{plain-done, blocks-done}
 use Rattle.fronts.proofs.Block.{block-blocks}

@@ -22,7 +22,8 @@ use Rattle.writing.proofs.Stores.{two-length, four-length}
 use Rattle.steps.specs.Own.{numberOf}
 use Rattle.statements.specs.declared.Place.{Place}
 use Rattle.fronts.specs.declared.Walk.{Walk}
-use Rattle.fronts.specs.Walks.{Memory, BlockDone, BlocksWalk}
+use Rattle.writing.specs.Memory.{Memory}
+use Rattle.fronts.specs.Walks.{BlockDone, BlocksWalk}
 
 -- where a block ends
 pub block-end : (s : List ℕ) → Bytes s → (t : Reading) (left at : ℕ) (b : Block) (next : ℕ) → blockAt t s left at ≡ ok b next → next ≡ at + (6 + codeBytes (b .code))

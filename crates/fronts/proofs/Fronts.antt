@@ -30,7 +30,8 @@ use Rattle.statements.specs.declared.Place.{Place}
 use Rattle.fronts.specs.declared.Walk.{Walk}
 use Rattle.statements.specs.declared.Act.{Act}
 use Rattle.statements.specs.Act.{Acts}
-use Rattle.fronts.specs.Walks.{Memory, Wrote, StmtDone, BlocksWalk}
+use Rattle.writing.specs.Memory.{Memory}
+use Rattle.fronts.specs.Walks.{Wrote, StmtDone, BlocksWalk}
 use Rattle.fronts.proofs.Wrotes.{stored-as, wrote-both, wrote-nothing, wrote-as}
 
 and-none : (a b : Bool) → a ≡ b → a ≡ (b && true)

@@ -26,7 +26,8 @@ use Rattle.steps.specs.Own.{nothing, both, restOf, blocksSize, returned, own, o
 use Rattle.steps.proofs.Steps.{exit-step, fault-step, sure-step, bytes-step, size-step, fits-step, report-step}
 use Rattle.steps.proofs.Before.{rest-before, going-before, sure-before, stmt-end}
 use Rattle.statements.specs.declared.Place.{Place}
-use Rattle.fronts.specs.Walks.{Memory, StmtDone, Leads}
+use Rattle.writing.specs.Memory.{Memory}
+use Rattle.fronts.specs.Walks.{StmtDone, Leads}
 use Rattle.fronts.proofs.Wrotes.{Alike, wrote-nothing, wrote-both}
 
 alike : (p : Place) → Alike p p

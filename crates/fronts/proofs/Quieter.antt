@@ -34,7 +34,8 @@ use Rattle.steps.proofs.Plain.{few-locals, blockless-fault, simple-blockless, s
 use Rattle.statements.specs.declared.Place.{Place}
 use Rattle.statements.specs.declared.Act.{Act}
 use Rattle.statements.specs.Act.{Positions, Tabled, SimpleThere, Acts, ActsThere}
-use Rattle.fronts.specs.Walks.{Memory, memory, StmtDone, QuietThere, QuietWalks}
+use Rattle.writing.specs.Memory.{Memory, memory}
+use Rattle.fronts.specs.Walks.{StmtDone, QuietThere, QuietWalks}
 use Rattle.fronts.proofs.Wrotes.{stored-as}
 use Rattle.fronts.proofs.Fronts.{plain-done}
 use Rattle.fronts.proofs.Values.{front-calm, calm-locals, calm-errors}

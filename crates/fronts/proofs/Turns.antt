@@ -26,7 +26,8 @@ use Rattle.steps.proofs.Faults.{real-none, real-own}
 use Rattle.fronts.specs.declared.Walk.{Walk}
 use Rattle.fronts.specs.declared.Quietly.{Quietly}
 use Rattle.fronts.specs.declared.Reached.{Reached}
-use Rattle.fronts.specs.Walks.{Memory, Safe, Leads, LeadsAll, StmtsThere, StmtWalks, StmtsWalk, QuietWalks, blocked, FrontWalks, FrontSafe, Reaches, ReachSafe}
+use Rattle.writing.specs.Memory.{Memory}
+use Rattle.fronts.specs.Walks.{Safe, Leads, LeadsAll, StmtsThere, StmtWalks, StmtsWalk, QuietWalks, blocked, FrontWalks, FrontSafe, Reaches, ReachSafe}
 use Rattle.fronts.proofs.Leads.{next-of, leads-start, leads-next, leads-fault, leads-end}
 
 -- the first fault is that of both

@@ -16,7 +16,8 @@ use Rattle.steps.specs.Own.{Own, nothing, both}
 use Rattle.steps.proofs.Lists.{errors-append, warnings-append, lefts-append}
 use Rattle.statements.specs.declared.Place.{Place}
 use Rattle.statements.specs.Act.{Within, Grows}
-use Rattle.fronts.specs.Walks.{Memory, Wrote}
+use Rattle.writing.specs.Memory.{Memory}
+use Rattle.fronts.specs.Walks.{Wrote}
 
 -- another list of the same numbers
 pub stored-as : {xs ys u v : List ℕ} {i j : ℕ} → v ≡ u → Stored xs i u ys j → Stored xs i v ys j

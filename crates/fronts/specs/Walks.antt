@@ -20,6 +20,7 @@ use Rattle.rules.specs.Walk.{tooMany, walkFault}
 use Rattle.rules.specs.Verdict.{entriesOf, countsFit}
 use Rattle.scope.specs.View.{view, Sound, Framed}
 use Rattle.scope.specs.declared.Stack.{Stack}
+use Rattle.writing.specs.Memory.{Memory}
 use Rattle.writing.specs.Stored.{Stored}
 use Rattle.validation.specs.Quiet.{Calm}
 use Rattle.validation.specs.declared.Quiet.{Quiet}
@@ -32,16 +33,6 @@ use Rattle.fronts.specs.declared.Walk.{Walk}
 use Rattle.fronts.specs.declared.Quietly.{Quietly}
 use Rattle.fronts.specs.declared.Reached.{Reached}
 use Rattle.steps.specs.Own.{numberOf, Own, returned, blocksOwn, blocksFault, blocksAfter, blockOwn, own, ownFault, ownAfter, valued}
-
--- the memory lent
-pub record Memory : Type 0 where
-  pub out : List ℕ
-  pub errs : List ℕ
-  pub warns : List ℕ
-  pub lefts : List ℕ
-
-abbrev pub memory : List ℕ → List ℕ → List ℕ → List ℕ → Memory
-memory out errs warns lefts = record { out = out; errs = errs; warns = warns; lefts = lefts }
 
 -- from one place to another o was stored, its bytes as far as no block counts too many
 pub record Wrote (o : Own) (p : Place) (m : Memory) (q : Place) (m′ : Memory) : Type 0 where

@@ -25,7 +25,7 @@ use Rattle.steps.specs.Own.{numberOf}
 use Rattle.rules.proofs.Numbers.{real-image}
 use Rattle.steps.proofs.Faults.{real-none}
 use Rattle.statements.specs.declared.Place.{Place}
-use Rattle.fronts.specs.Walks.{Memory, memory}
+use Rattle.writing.specs.Memory.{Memory, memory}
 use Rattle.judge.specs.declared.Outcome.{Outcome}
 use Rattle.judge.specs.declared.Outcome.the-variants.{Accepted, Refused}
 use Rattle.judge.specs.Passes.{lentOf, outcomeOf, over, memoryAfter, verdictOn, Passes}

@@ -5,7 +5,7 @@ use mathlib.Core.List.{List, _++_}
 use lib.ListN.{length, drop}
 use Rattle.tables.specs.Limits.{version1}
 use Rattle.rules.specs.Verdict.{Lent, Verdict, refuses, answers, passVerdict}
-use Rattle.fronts.specs.Walks.{Memory, memory}
+use Rattle.writing.specs.Memory.{Memory, memory}
 use Rattle.judge.specs.declared.Outcome.{Outcome}
 use Rattle.judge.specs.declared.Outcome.the-variants.{Accepted, Refused}
 

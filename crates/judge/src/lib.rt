@@ -2,7 +2,7 @@
 ghost use mathlib.Core.Path.{_≡_};
 ghost use Prim.Native.Nat.{_/_, _≤_};
 ghost use lib.ListN.{length};
-ghost use Rattle.fronts.specs.Walks.{memory};
+ghost use Rattle.writing.specs.Memory.{memory};
 ghost use Rattle.whole_image.specs.Images.{Stands};
 ghost use Rattle.judge.specs.Passes.{Passes};
 use fronts::Env;

@@ -2,7 +2,7 @@
 use mathlib.Core.Path.{_≡_, refl}
 use mathlib.Core.List.{List, [], _∷_}
 use Prim.Native.Nat.{ℕ}
-use Rattle.fronts.specs.Walks.{memory}
+use Rattle.writing.specs.Memory.{memory}
 use Rattle.judge.specs.declared.Outcome.the-variants.{Accepted, Refused}
 use Rattle.ownership.specs.Text.{spell, numbers, lines, textOf}
 

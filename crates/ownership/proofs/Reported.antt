@@ -6,7 +6,7 @@ use mathlib.Core.List.{List, [], _∷_}
 use lib.ListN.{length}
 use Rattle.writing.specs.Stored.{Stored}
 use Rattle.writing.proofs.Stores.{both-stored}
-use Rattle.fronts.specs.Walks.{Memory}
+use Rattle.writing.specs.Memory.{Memory}
 use Rattle.judge.specs.Passes.{Passes}
 use Rattle.judge.specs.declared.Totals.{Totals}
 use Rattle.judge.specs.declared.Outcome.{Outcome}

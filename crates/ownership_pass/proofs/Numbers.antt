@@ -10,7 +10,7 @@ use Rattle.tables.specs.Limits.{version1}
 use Rattle.image.specs.Image.{decode}
 use Rattle.rules.specs.Verdict.{Answer, Verdict, refuses, answers, roomFaultOf, roomFault}
 use Rattle.rules.proofs.Numbers.{verdict-numbers, room-numbers}
-use Rattle.fronts.specs.Walks.{Memory}
+use Rattle.writing.specs.Memory.{Memory}
 use Rattle.judge.specs.declared.Outcome.{Outcome}
 use Rattle.judge.specs.declared.Outcome.the-variants.{Accepted, Refused}
 use Rattle.judge.specs.Passes.{Passes, lentOf, outcomeOf, verdictOn}

@@ -18,7 +18,7 @@ use Rattle.rules.specs.Verdict.{Lent, Answer, answerOf, Verdict, refuses, answe
 use Rattle.rules.proofs.AsReturned.{returned-body}
 use Rattle.rules.specs.Pieces.{Struck}
 use Rattle.rules.proofs.Pieces.{struck}
-use Rattle.fronts.specs.Walks.{Memory}
+use Rattle.writing.specs.Memory.{Memory}
 use Rattle.judge.specs.declared.Totals.{Totals}
 use Rattle.judge.specs.declared.Outcome.{Outcome}
 use Rattle.judge.specs.declared.Outcome.the-variants.{Accepted, Refused}

@@ -25,7 +25,7 @@ use Rattle.rules.proofs.Longer.{room-met}
 use Rattle.rules.proofs.Numbers.{real-image}
 use Rattle.steps.specs.Own.{numberOf}
 use Rattle.steps.proofs.Faults.{real-none}
-use Rattle.fronts.specs.Walks.{Memory}
+use Rattle.writing.specs.Memory.{Memory}
 use Rattle.fronts.specs.declared.Env.{Env}
 use Rattle.fronts.specs.declared.Walk.{Walk}
 use Rattle.ownership_pass.specs.declared.Answer.{Answer}

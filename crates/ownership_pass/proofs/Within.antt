@@ -14,7 +14,7 @@ use Rattle.image.specs.Image.{Image, Decoded, accepted, refused, decode}
 use Rattle.rules.specs.Report.{returnedImage}
 use Rattle.rules.specs.Walk.{imageFault}
 use Rattle.rules.specs.Verdict.{Answer, answerOf, Verdict, refuses, answers, imageCountsFit, fitted, walked, decided, passVerdict}
-use Rattle.fronts.specs.Walks.{Memory}
+use Rattle.writing.specs.Memory.{Memory}
 use Rattle.judge.specs.declared.Totals.{Totals}
 use Rattle.judge.specs.declared.Outcome.{Outcome}
 use Rattle.judge.specs.declared.Outcome.the-variants.{Accepted, Refused}

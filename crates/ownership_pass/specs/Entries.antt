@@ -7,7 +7,7 @@ use Rattle.tables.specs.Limits.{version1}
 use Rattle.image.specs.Image.{Image, accepted, decode}
 use Rattle.rules.specs.Walk.{imageFault}
 use Rattle.rules.specs.Verdict.{roomFault, RoomFor}
-use Rattle.fronts.specs.Walks.{Memory}
+use Rattle.writing.specs.Memory.{Memory}
 use Rattle.judge.specs.Passes.{Passes}
 use Rattle.judge.specs.declared.Outcome.{Outcome}
 use Rattle.judge.specs.declared.Outcome.the-variants.{Accepted, Refused}

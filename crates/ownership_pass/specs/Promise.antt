@@ -9,7 +9,7 @@ use Rattle.body.specs.Stmt.{Tree}
 use Rattle.rules.specs.Report.{withCode}
 use Rattle.rules.specs.AsReturned.{ReturnedBody}
 use Rattle.rules.specs.Pieces.{Struck}
-use Rattle.fronts.specs.Walks.{Memory}
+use Rattle.writing.specs.Memory.{Memory}
 use Rattle.judge.specs.Passes.{over}
 
 -- the image that was read; the bytes written are those of the statements given back for its body, which meet demand 3's first two

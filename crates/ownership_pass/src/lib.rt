@@ -1,6 +1,6 @@
 // The entries: one image in, the body with the deletes inserted and the reports out, into lent memory; or the room that needs.
 ghost use mathlib.Core.Path.{_≡_};
-ghost use Rattle.fronts.specs.Walks.{memory};
+ghost use Rattle.writing.specs.Memory.{memory};
 ghost use Rattle.judge.specs.Passes.{Passes};
 ghost use Rattle.ownership_pass.specs.Entries.{PassLeaves, RoomIs, RoomLeaves};
 use fronts::Env;

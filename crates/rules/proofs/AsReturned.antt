@@ -18,6 +18,20 @@ use Rattle.rules.specs.AsReturned.{Origin, original, inserted, wrapped, 
 use Rattle.rules.proofs.Project.{demand3}
 use Rattle.rules.proofs.Strike.{if-else, strike-body}
 
+-- marks that show nothing: on a delete with a statement behind it that takes none, on what is no delete of an Ident, on a result
+-- with no delete round it, and on the delete of a name as if it were a result
+pub record Refused (s n t : ℕ) (e : Expr) : Type 0 where
+  pub elsewhere : gathered (exprStmt s (deleteNode s (identNode s t n)) inserted (exprStmt s e original (done tt))) ≡ none
+  pub inFront : gathered (exprStmt s (deleteNode s (identNode s t n)) inserted (while s e s (done tt) (done tt))) ≡ none
+  pub noDelete : gathered (exprStmt s (identNode s t n) inserted (done tt)) ≡ none
+  pub noIdent : gathered (exprStmt s (deleteNode s (deleteNode s e)) inserted (done tt)) ≡ none
+  pub unwrapped : gathered (exprStmt s (identNode s t n) wrapped (done tt)) ≡ none
+  pub noResult : gathered (exprStmt s (deleteNode s (identNode s t n)) wrapped (done tt)) ≡ none
+
+pub refused : (s n t : ℕ) (e : Expr) → Refused s n t e
+unfolding bind through
+refused s n t e = record { elsewhere = refl; inFront = refl; noDelete = refl; noIdent = refl; unwrapped = refl; noResult = refl }
+
 -- the returned statements, marked
 abbrev markedDeletes : List Drop → Marked → Marked
 markedDeletes [] c = c
@@ -121,17 +135,3 @@ returned-body T x b = record {
   submitted = strike-body T x b;
   plain = demand3 T x b;
 }
-
--- marks that show nothing: on a delete with a statement behind it that takes none, on what is no delete of an Ident, on a result
--- with no delete round it, and on the delete of a name as if it were a result
-pub record Refused (s n t : ℕ) (e : Expr) : Type 0 where
-  pub elsewhere : gathered (exprStmt s (deleteNode s (identNode s t n)) inserted (exprStmt s e original (done tt))) ≡ none
-  pub inFront : gathered (exprStmt s (deleteNode s (identNode s t n)) inserted (while s e s (done tt) (done tt))) ≡ none
-  pub noDelete : gathered (exprStmt s (identNode s t n) inserted (done tt)) ≡ none
-  pub noIdent : gathered (exprStmt s (deleteNode s (deleteNode s e)) inserted (done tt)) ≡ none
-  pub unwrapped : gathered (exprStmt s (identNode s t n) wrapped (done tt)) ≡ none
-  pub noResult : gathered (exprStmt s (deleteNode s (identNode s t n)) wrapped (done tt)) ≡ none
-
-pub refused : (s n t : ℕ) (e : Expr) → Refused s n t e
-unfolding bind through
-refused s n t e = record { elsewhere = refl; inFront = refl; noDelete = refl; noIdent = refl; unwrapped = refl; noResult = refl }

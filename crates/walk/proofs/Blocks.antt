@@ -30,7 +30,8 @@ use Rattle.steps.specs.Own.{returned}
 use Rattle.steps.proofs.Steps.{inserts-bytes, inserts-size, inserts-fit}
 use Rattle.statements.specs.declared.Place.{Place}
 use Rattle.fronts.specs.declared.Walk.{Walk}
-use Rattle.fronts.specs.Walks.{Memory, Leads, BlockDone}
+use Rattle.writing.specs.Memory.{Memory}
+use Rattle.fronts.specs.Walks.{Leads, BlockDone}
 use Rattle.ends.specs.Ends.{tail, Ends}
 use Rattle.fronts.proofs.Wrotes.{and-left, stored-as}
 use Rattle.fronts.proofs.Leads.{leads-end}

@@ -24,7 +24,8 @@ use Rattle.steps.specs.Own.{numberOf, Own, byte, both, blockOwn, blocksFault}
 use Rattle.returns.specs.Returns.{BlockThere}
 use Rattle.statements.specs.declared.Place.{Place}
 use Rattle.fronts.specs.declared.Walk.{Walk}
-use Rattle.fronts.specs.Walks.{Memory, Wrote, BlockDone, BlocksWalk}
+use Rattle.writing.specs.Memory.{Memory}
+use Rattle.fronts.specs.Walks.{Wrote, BlockDone, BlocksWalk}
 use Rattle.ends.specs.Ends.{Merges}
 use Rattle.fronts.proofs.Wrotes.{wrote-both}
 use Rattle.fronts.proofs.Turns.{else-number}

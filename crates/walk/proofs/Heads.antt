@@ -35,7 +35,8 @@ use Rattle.rules.proofs.Numbers.{real-walk}
 use Rattle.steps.proofs.Faults.{real-none}
 use Rattle.fronts.specs.declared.Env.{Env}
 use Rattle.fronts.specs.declared.Walk.{Walk}
-use Rattle.fronts.specs.Walks.{Memory, memory, Ready, Safe, Leads, StmtsThere, StmtsWalk, BlockWalks}
+use Rattle.writing.specs.Memory.{Memory, memory}
+use Rattle.fronts.specs.Walks.{Ready, Safe, Leads, StmtsThere, StmtsWalk, BlockWalks}
 use Rattle.ends.specs.Ends.{EndSafe, Ends}
 use Rattle.fronts.proofs.Wrotes.{within-on}
 use Rattle.walk.proofs.Blocks.{Inside, block-done}

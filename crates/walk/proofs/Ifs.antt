@@ -31,7 +31,8 @@ use Rattle.steps.proofs.Faults.{real-none}
 use Rattle.steps.proofs.Shaped.{shape-block}
 use Rattle.steps.proofs.Plain.{length-shape}
 use Rattle.fronts.specs.declared.Walk.{Walk}
-use Rattle.fronts.specs.Walks.{Memory, memory, Wrote, Ready, Safe, BlockDone, BlockWalks, IfThere, IfWalks, LoopWalks}
+use Rattle.writing.specs.Memory.{Memory, memory}
+use Rattle.fronts.specs.Walks.{Wrote, Ready, Safe, BlockDone, BlockWalks, IfThere, IfWalks, LoopWalks}
 use Rattle.ends.specs.Ends.{Merges}
 use Rattle.writing.proofs.Stores.{none-stored}
 use Rattle.fronts.proofs.Wrotes.{and-none, wrote-both, within-on}

@@ -39,7 +39,8 @@ use Rattle.statements.specs.declared.Place.{Place}
 use Rattle.statements.specs.Act.{Within, Grows}
 use Rattle.statements.proofs.Slices.{written-slice}
 use Rattle.fronts.specs.declared.Walk.{Walk}
-use Rattle.fronts.specs.Walks.{Memory, memory, Wrote, BlockDone, BlockWalks, Ready, Safe}
+use Rattle.writing.specs.Memory.{Memory, memory}
+use Rattle.fronts.specs.Walks.{Wrote, BlockDone, BlockWalks, Ready, Safe}
 use Rattle.fronts.proofs.Block.{block-end}
 use Rattle.fronts.proofs.Changes.{few-seen}
 use Rattle.fronts.proofs.Wrotes.{stored-as}

@@ -18,7 +18,7 @@ use Rattle.rules.specs.Verdict.{entriesOf, imageCountsFit}
 use Rattle.writing.specs.Stored.{Stored}
 use Rattle.steps.specs.Own.{numberOf}
 use Rattle.statements.specs.declared.Place.{Place}
-use Rattle.fronts.specs.Walks.{Memory}
+use Rattle.writing.specs.Memory.{Memory}
 use Rattle.fronts.specs.declared.Env.{Env}
 use Rattle.fronts.specs.declared.Walk.{Walk}
 

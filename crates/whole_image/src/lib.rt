@@ -4,7 +4,7 @@ ghost use mathlib.Core.Bool.{true};
 ghost use Prim.Native.Nat.{_≤_};
 ghost use lib.ListN.{length};
 ghost use lib.Seq.{sets, slice};
-ghost use Rattle.fronts.specs.Walks.{memory};
+ghost use Rattle.writing.specs.Memory.{memory};
 ghost use Rattle.whole_image.specs.Images.{Stands, ImageWalks, Measures, lackOf};
 use fronts::Env;
 use fronts::Walk;

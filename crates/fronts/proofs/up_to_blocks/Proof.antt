@@ -11,7 +11,8 @@ use Rattle.returns.proofs.Surely.{stmt-there}
 use Rattle.scope.specs.View.{view}
 use Rattle.statements.specs.declared.Place.{Place}
 use Rattle.statements.specs.Act.{Grows}
-use Rattle.fronts.specs.Walks.{Memory, memory, Ready, LeadsAll, blocked}
+use Rattle.writing.specs.Memory.{Memory, memory}
+use Rattle.fronts.specs.Walks.{Ready, LeadsAll, blocked}
 use Rattle.fronts.specs.declared.Reached.{Reached}
 use Rattle.fronts.proofs.Wrotes.{grows-none, grows-both, within-on}
 use Rattle.fronts.proofs.Turns.{all-start, all-there, all-quiet, all-loud, reach-end, reach-fault, reach-blocks, safe-end, safe-fault, safe-blocks, front-again, safe-again, there-again, was-true, was-false}

@@ -1,7 +1,7 @@
 use Prim.Native.Nat.{ℕ, _≤_}
 use native.Mathlib.Omega.{arith}
 use borrow.Author.Needs.{needs}
-use Rattle.fronts.specs.Walks.{memory}
+use Rattle.writing.specs.Memory.{memory}
 use Rattle.judge.proofs.Rooms.{fits-of, judge-walk, judge-room, judge-copied, judge-again}
 use Rattle.judge.proofs.judge.Statement.{statement}
 use Rattle.judge.proofs.judge.Tie as tie

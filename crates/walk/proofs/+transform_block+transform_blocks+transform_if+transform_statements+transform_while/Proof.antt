@@ -13,7 +13,8 @@ use Rattle.statements.specs.declared.Place.{Place}
 use Rattle.statements.specs.Act.{Within}
 use Rattle.fronts.specs.declared.Env.{Env}
 use Rattle.fronts.specs.declared.Walk.{Walk}
-use Rattle.fronts.specs.Walks.{Memory, memory, Reaches, ReachSafe}
+use Rattle.writing.specs.Memory.{Memory, memory}
+use Rattle.fronts.specs.Walks.{Reaches, ReachSafe}
 use Rattle.fronts.proofs.Wrotes.{grows-both, within-on}
 use Rattle.fronts.proofs.Turns.{all-start, all-rest, safe-on, turns, fewer-turns, reach-over, safe-over, faulty}
 use Rattle.walk.proofs.Heads.{span-stored, span-length, head-grows, head-ready, stmts-in, head-fault, last-there, head-walks, asked-of, told-of, block-safe, depth-inner, env-lent, env-says, framed-at}
