@@ -13,43 +13,43 @@ use Rattle.statements.proofs.behind.Reads as behind-reads
 use Rattle.acts.proofs.listed.Reads as listed-reads
 use Rattle.statements.proofs.nothing_put.Reads as nothing-put-reads
 
--- src/lib.rt:418:27
+-- src/lib.rt:107:27
 add-span-at : tie.Need-add-span-at
 add-span-at c = search needs
 
--- src/lib.rt:418:9
+-- src/lib.rt:107:9
 span-at-requires : tie.Need-span-at-requires
 span-at-requires c κs = search needs
 
--- src/lib.rt:419:9
+-- src/lib.rt:108:9
 list-left-requires : tie.Need-list-left-requires
 list-left-requires c κs = search needs
 
--- src/lib.rt:420:27
+-- src/lib.rt:111:9
 listed-requires : tie.Need-listed-requires
 listed-requires c κs = search needs
 
--- src/lib.rt:420:44
+-- src/lib.rt:112:9
 nothing-put-requires : tie.Need-nothing-put-requires
 nothing-put-requires c κs = search needs
 
--- src/lib.rt:420:60
+-- src/lib.rt:113:9
 add-behind : tie.Need-add-behind
 add-behind c = let w = room-of (c .before .before .before .before .before .before .before .before .before .before .before .before .before .before .pre .2) in omega arith
 
--- src/lib.rt:420:9
+-- src/lib.rt:109:9
 behind-requires : tie.Need-behind-requires
 behind-requires c κs = let w = room-of (c .before .before .before .before .before .before .before .before .before .before .before .before .before .before .before .pre .2) in let e = none-put-is (c .before .before .before .before .before .before .before .before .before .before .before .before .before .before .before .args .p) (c .before .before .nothing-put .ensures) in let l = listed-is (c .before .before .before .before .before .before .before .before .before .before .before .before .before .before .before .args .p) (c .before .before .before .listed .ensures) in let b = bare-reach (now (c .before .before .before .before .before .before .before .before .before .before .before .before .before .before .before .args .s)) (λ k. omega (arith, c .before .before .before .before .before .before .before .before .before .before .before .before .before .before .shared-slice-known .given k)) (c .before .before .before .before .before .before .before .before .before .before .before .before .before .before .before .args .p) (c .before .before .before .before .before .before .before .before .before .before .before .before .before .before .before .pre .3) (c .before .before .before .before .before .before .before .before .before .before .before .before .before .before .before .pre .4) (c .before .before .before .before .before .before .before .before .before .before .before .before .before .before .before .pre .5) in (omega arith, b, w .0, omega arith, omega arith)
 
--- src/lib.rt:398:1
+-- src/lib.rt:87:1
 same-length : tie.Need-same-length
 same-length c = search needs
 
--- src/lib.rt:398:1
+-- src/lib.rt:87:1
 same-length-2 : tie.Need-same-length-2
 same-length-2 c = search needs
 
--- src/lib.rt:398:1
+-- src/lib.rt:87:1
 returns : tie.Need-returns
 returns c = (λ T h st g. bare-acts (now (c .before .before .before .before .before .before .before .before .before .before .before .before .before .before .before .before .before .before .args .s)) (λ k. omega (arith, c .before .before .before .before .before .before .before .before .before .before .before .before .before .before .before .before .before .shared-slice-known .given k)) (c .before .before .before .before .before .before .before .before .before .before .before .before .before .before .before .before .before .before .args .p) (c .before .before .before .before .before .before .before .before .before .before .before .before .before .before .before .before .before .before .pre .3) (c .before .before .before .before .before .before .before .before .before .before .before .before .before .before .before .before .before .before .pre .4) (c .before .before .before .before .before .before .before .before .before .before .before .before .before .before .before .before .before .before .pre .5) (c .before .before .before .before .before .before .before .before .before .list-left .result) (c .before .before .before .before .before .before .listed .result) (c .before .before .before .before .before .before .listed .ensures) (c .before .before .before .before .before .nothing-put .result) (c .before .before .before .before .before .nothing-put .ensures) (c .before .before .behind .result) (c .before .before .behind .ensures) T (view st) (c .before .before .before .before .before .before .before .before .before .before .before .span-at .result) (c .before .before .before .before .before .before .before .before .before .before .before .span-at .ensures) (c .before .before .before .before .before .before .before .before .before .list-left .ensures .1 T h st (record { names = g .names; types = g .types; depths = g .depths; kinds = g .kinds }) (g .count)), bare-grows (now (c .before .before .before .before .before .before .before .before .before .before .before .before .before .before .before .before .before .before .args .s)) (λ k. omega (arith, c .before .before .before .before .before .before .before .before .before .before .before .before .before .before .before .before .before .shared-slice-known .given k)) (c .before .before .before .before .before .before .before .before .before .before .before .before .before .before .before .before .before .before .args .p) (c .before .before .before .before .before .before .before .before .before .before .before .before .before .before .before .before .before .before .pre .3) (c .before .before .before .before .before .before .before .before .before .before .before .before .before .before .before .before .before .before .pre .4) (c .before .before .before .before .before .before .before .before .before .before .before .before .before .before .before .before .before .before .pre .5) (c .before .before .before .before .before .before .before .before .before .list-left .result) (c .before .before .before .before .before .before .listed .result) (c .before .before .before .before .before .before .listed .ensures) (c .before .before .before .before .before .nothing-put .result) (c .before .before .before .before .before .nothing-put .ensures) (c .before .before .behind .result) (c .before .before .behind .ensures) (c .before .before .before .before .before .before .before .before .before .list-left .ensures .0))
 

@@ -10,39 +10,39 @@ use Rattle.fields.proofs.peek.Reads as peek-reads
 use Rattle.acts.proofs.bare_return.Reads as bare-return-reads
 use Rattle.acts.proofs.return_statement.Reads as return-statement-reads
 
--- src/lib.rt:592:16
+-- src/lib.rt:239:16
 add-peek : tie.Need-add-peek
 add-peek c = search needs
 
--- src/lib.rt:592:8
+-- src/lib.rt:239:8
 peek-requires : tie.Need-peek-requires
 peek-requires c κs = search needs
 
--- src/lib.rt:593:9
+-- src/lib.rt:240:9
 return-statement-requires : tie.Need-return-statement-requires
 return-statement-requires c κs = search needs
 
--- src/lib.rt:593:9
+-- src/lib.rt:240:9
 same-length : tie.Need-same-length
 same-length c = search needs
 
--- src/lib.rt:593:9
+-- src/lib.rt:240:9
 returns : tie.Need-returns
 returns c = (λ T h st g warns. c .before .before .return-statement .ensures .0 T h st g warns (now (c .before .before .before .before .before .before .before .before .before .before .before .before .args .lefts)), c .before .before .return-statement .ensures .1)
 
--- src/lib.rt:595:5
+-- src/lib.rt:242:5
 bare-return-requires : tie.Need-bare-return-requires
 bare-return-requires c κs = let g = bare-there (now (c .before .before .before .before .before .before .before .before .before .before .args .s)) (c .before .before .before .before .before .before .before .before .before .before .args .p .at) (c .before .before .before .before .before .before .before .before .before .before .args .end) (c .before .before .before .before .before .before .before .before .before .before .pre .3) (c .before .before .before .before .before .before .before .before .before .before .pre .4) (λ e. c .before .before .if1 .left (c .before .before .before .peek .ensures .0 ∙ e)) in (c .before .before .before .before .before .before .before .before .before .before .pre .0, c .before .before .before .before .before .before .before .before .before .before .pre .1, c .before .before .before .before .before .before .before .before .before .before .pre .2, g .0, c .before .before .before .before .before .before .before .before .before .before .pre .4, g .1)
 
--- src/lib.rt:572:1
+-- src/lib.rt:219:1
 same-length-2 : tie.Need-same-length-2
 same-length-2 c = search needs
 
--- src/lib.rt:572:1
+-- src/lib.rt:219:1
 same-length-3 : tie.Need-same-length-3
 same-length-3 c = search needs
 
--- src/lib.rt:572:1
+-- src/lib.rt:219:1
 returns-2 : tie.Need-returns-2
 returns-2 c = search needs
 

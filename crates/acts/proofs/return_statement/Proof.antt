@@ -11,31 +11,31 @@ use Rattle.drops.proofs.put_drops.Reads as put-drops-reads
 use Rattle.statements.proofs.behind.Reads as behind-reads
 use Rattle.acts.proofs.returned_identifier_name.Reads as returned-identifier-name-reads
 
--- src/lib.rt:371:45
+-- src/lib.rt:60:45
 add-returned-identifier-name : tie.Need-add-returned-identifier-name
 add-returned-identifier-name c = search needs
 
--- src/lib.rt:371:9
+-- src/lib.rt:60:9
 returned-identifier-name-requires : tie.Need-returned-identifier-name-requires
 returned-identifier-name-requires c κs = search needs
 
--- src/lib.rt:372:9
+-- src/lib.rt:61:9
 put-drops-requires : tie.Need-put-drops-requires
 put-drops-requires c κs = search needs
 
--- src/lib.rt:373:35
+-- src/lib.rt:62:47
 add-behind : tie.Need-add-behind
 add-behind c = let w = room-of (c .before .before .before .before .before .before .before .before .before .before .pre .2) in let r = return-reach (now (c .before .before .before .before .before .before .before .before .before .before .args .s)) (λ k. omega (arith, c .before .before .before .before .before .before .before .before .before .shared-slice-known .given k)) (c .before .before .before .before .before .before .before .before .before .before .args .p) (c .before .before .before .before .before .before .before .before .before .before .args .end) (c .before .before .before .before .before .before .before .before .before .before .pre .3) (c .before .before .before .before .before .before .before .before .before .before .pre .4) (c .before .before .before .before .before .before .before .before .before .before .pre .5) in omega arith
 
--- src/lib.rt:373:9
+-- src/lib.rt:62:9
 behind-requires : tie.Need-behind-requires
 behind-requires c κs = let w = room-of (c .before .before .before .before .before .before .before .before .before .before .before .pre .2) in let r = return-reach (now (c .before .before .before .before .before .before .before .before .before .before .before .args .s)) (λ k. omega (arith, c .before .before .before .before .before .before .before .before .before .before .shared-slice-known .given k)) (c .before .before .before .before .before .before .before .before .before .before .before .args .p) (c .before .before .before .before .before .before .before .before .before .before .before .args .end) (c .before .before .before .before .before .before .before .before .before .before .before .pre .3) (c .before .before .before .before .before .before .before .before .before .before .before .pre .4) (c .before .before .before .before .before .before .before .before .before .before .before .pre .5) in let x = c .before .before .before .put-drops .ensures .0 in let y = c .before .before .before .put-drops .ensures .1 in (omega arith, r .1, w .0, omega arith, omega arith)
 
--- src/lib.rt:351:1
+-- src/lib.rt:40:1
 same-length : tie.Need-same-length
 same-length c = search needs
 
--- src/lib.rt:351:1
+-- src/lib.rt:40:1
 returns : tie.Need-returns
 returns c = (λ T h st g. return-acts (now (c .before .before .before .before .before .before .before .before .before .before .before .before .before .before .args .s)) (λ k. omega (arith, c .before .before .before .before .before .before .before .before .before .before .before .before .before .shared-slice-known .given k)) (c .before .before .before .before .before .before .before .before .before .before .before .before .before .before .args .p) (c .before .before .before .before .before .before .before .before .before .before .before .before .before .before .args .end) (c .before .before .before .before .before .before .before .before .before .before .before .before .before .before .pre .3) (c .before .before .before .before .before .before .before .before .before .before .before .before .before .before .pre .4) (c .before .before .before .before .before .before .before .before .before .before .before .before .before .before .pre .5) (c .before .before .before .before .before .before .put-drops .result) (c .before .before .behind .result) (c .before .before .behind .ensures) T (view st) (c .before .before .before .before .before .before .before .before .returned-identifier-name .result) (c .before .before .before .before .before .before .before .before .returned-identifier-name .ensures) (c .before .before .before .before .before .before .put-drops .ensures .2 T h st (record { names = g .names; types = g .types; depths = g .depths; kinds = g .kinds }) (g .count)), return-grows (now (c .before .before .before .before .before .before .before .before .before .before .before .before .before .before .args .s)) (λ k. omega (arith, c .before .before .before .before .before .before .before .before .before .before .before .before .before .shared-slice-known .given k)) (c .before .before .before .before .before .before .before .before .before .before .before .before .before .before .args .p) (c .before .before .before .before .before .before .before .before .before .before .before .before .before .before .args .end) (c .before .before .before .before .before .before .before .before .before .before .before .before .before .before .pre .3) (c .before .before .before .before .before .before .before .before .before .before .before .before .before .before .pre .4) (c .before .before .before .before .before .before .before .before .before .before .before .before .before .before .pre .5) (c .before .before .before .before .before .before .put-drops .result) (c .before .before .before .before .before .before .put-drops .ensures .0) (c .before .before .before .before .before .before .put-drops .ensures .1) (c .before .before .behind .result) (c .before .before .behind .ensures))
 

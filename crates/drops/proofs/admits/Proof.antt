@@ -5,27 +5,27 @@ use Rattle.drops.proofs.admits.Tie as tie
 use Rattle.drops.proofs.admits.Reads as reads
 use Rattle.drops.proofs.admits.Lts as lts
 
--- src/lib.rt:56:22
+-- src/lib.rt:51:22
 enum-known-which : tie.Need-enum-known-which
 enum-known-which c = search needs
 
--- src/lib.rt:57:20
+-- src/lib.rt:52:20
 enum-known-which-2 : tie.Need-enum-known-which-2
 enum-known-which-2 c = search needs
 
--- src/lib.rt:58:23
+-- src/lib.rt:53:23
 enum-told : tie.Need-enum-told
 enum-told c = search needs
 
--- src/lib.rt:52:1
+-- src/lib.rt:47:1
 returns : tie.Need-returns
 returns c = λ l en ed. frame-admits _ l _ _ (c .before .which .given .1) ed
 
--- src/lib.rt:52:1
+-- src/lib.rt:47:1
 returns-2 : tie.Need-returns-2
 returns-2 c = λ l en ed. but-admits _ l _ _ (c .before .which2 .given .1) en
 
--- src/lib.rt:52:1
+-- src/lib.rt:47:1
 returns-3 : tie.Need-returns-3
 returns-3 c = λ l en ed. all-admits _ l (c .enum-told .given .1)
 

@@ -36,27 +36,27 @@ Inv-loop s types structs names tys depths kinds count span lefts₀ n below₀ a
 abbrev μ-loop : tie.MeasureT-loop
 μ-loop s types structs names tys depths kinds count span lefts₀ n below₀ at₀ lefts below at = below
 
--- src/lib.rt:166:5
+-- src/lib.rt:164:5
 loop-holds : tie.Need-loop-holds Inv-loop μ-loop
 loop-holds c = (refl, omega arith, omega arith, λ T h st g. rest-start (leftNumbers (c .before .before .before .before .args .span)) _ _ _)
 
--- src/lib.rt:167:28
+-- src/lib.rt:165:28
 next-drop-requires : tie.Need-next-drop-requires Inv-loop μ-loop
 next-drop-requires c κs = (c .before .before .before .before .before .pre .0, omega (arith, c .loop .inv .1, c .before .before .before .before .before .pre .1))
 
--- src/lib.rt:167:23
+-- src/lib.rt:165:23
 enum-known-i : tie.Need-enum-known-i Inv-loop μ-loop
 enum-known-i c = search needs
 
--- src/lib.rt:168:13
+-- src/lib.rt:176:13
 enum-told : tie.Need-enum-told Inv-loop μ-loop
 enum-told c = search needs
 
--- src/lib.rt:168:13
+-- src/lib.rt:176:13
 same-length : tie.Need-same-length Inv-loop μ-loop
 same-length c = c .before .before .before .loop .inv .0
 
--- src/lib.rt:168:13
+-- src/lib.rt:176:13
 returns : tie.Need-returns Inv-loop μ-loop
 returns c = (
   omega (arith, c .before .before .before .loop .inv .2, c .before .before .before .before .before .before .before .before .pre .1),
@@ -66,27 +66,27 @@ returns c = (
       rest-end (leftNumbers (c .before .before .before .before .before .before .before .before .args .span)) _ _ _ _ _ _ (c .before .before .before .loop .inv .3 T h st g) _ a (ap (leftNumbers (c .before .before .before .before .before .before .before .before .args .span)) e),
 )
 
--- src/lib.rt:170:56
+-- src/lib.rt:178:56
 mul-number : tie.Need-mul-number Inv-loop μ-loop
 mul-number c = let lt = found-below _ _ _ (c .before .before .before .before .next-drop .ensures .0) (c .before .before .i .given .1) in omega (arith, lt, c .before .before .before .before .before .loop .inv .1, c .before .before .before .before .before .before .before .before .before .before .pre .1)
 
--- src/lib.rt:170:56
+-- src/lib.rt:178:56
 element-copy-out-number : tie.Need-element-copy-out-number Inv-loop μ-loop
 element-copy-out-number c = let lt = found-below _ _ _ (c .before .before .before .before .next-drop .ensures .0) (c .before .before .i .given .1) in omega (arith, lt, c .before .before .before .before .before .loop .inv .1, c .before .before .before .before .before .before .before .before .before .before .pre .1)
 
--- src/lib.rt:170:49
+-- src/lib.rt:178:49
 number-requires : tie.Need-number-requires Inv-loop μ-loop
 number-requires c κs = search needs
 
--- src/lib.rt:170:9
+-- src/lib.rt:178:9
 put-pair-requires : tie.Need-put-pair-requires Inv-loop μ-loop
 put-pair-requires c κs = omega (arith, c .before .before .before .before .before .before .before .loop .inv .2, c .before .before .before .before .before .before .before .before .before .before .before .before .pre .1, c .before .before .before .before .before .before .before .before .before .before .before .before .pre .2)
 
--- src/lib.rt:166:5
+-- src/lib.rt:164:5
 loop-less : tie.Need-loop-less Inv-loop μ-loop
 loop-less c = found-below _ _ _ (c .before .before .before .before .before .before .before .before .before .next-drop .ensures .0) (c .before .before .before .before .before .before .before .i .given .1)
 
--- src/lib.rt:166:5
+-- src/lib.rt:164:5
 loop-again : tie.Need-loop-again Inv-loop μ-loop
 loop-again c =
     let v = c .before .before .before .before .before .before .before .before .before .before .loop in

@@ -23,51 +23,51 @@ Inv-loop s types structs names tys depths kinds which below n₀ n =
 abbrev μ-loop : tie.MeasureT-loop
 μ-loop s types structs names tys depths kinds which below n₀ n = n
 
--- src/lib.rt:100:5
+-- src/lib.rt:95:5
 loop-holds : tie.Need-loop-holds Inv-loop μ-loop
 loop-holds c = (omega arith, λ T h st g p. refl)
 
--- src/lib.rt:101:28
+-- src/lib.rt:96:28
 next-alive-requires : tie.Need-next-alive-requires Inv-loop μ-loop
 next-alive-requires c κs = omega (arith, c .loop .inv .0, c .before .before .before .before .pre .1)
 
--- src/lib.rt:101:23
+-- src/lib.rt:96:23
 enum-known-i : tie.Need-enum-known-i Inv-loop μ-loop
 enum-known-i c = search needs
 
--- src/lib.rt:102:13
+-- src/lib.rt:97:13
 enum-told : tie.Need-enum-told Inv-loop μ-loop
 enum-told c = search needs
 
--- src/lib.rt:102:13
+-- src/lib.rt:97:13
 returns : tie.Need-returns Inv-loop μ-loop
 returns c = (tt, λ T h st g p. c .before .before .before .loop .inv .1 T h st g p ∙ none-lives T _ st _ _ (c .before .before .next-alive .ensures st (g .kinds)) (c .enum-told .given .1) p)
 
--- src/lib.rt:104:49
+-- src/lib.rt:99:49
 mul-is-dropped : tie.Need-mul-is-dropped Inv-loop μ-loop
 mul-is-dropped c = let lt = found-below _ _ _ (c .before .before .before .next-alive .ensures (arrays (c .before .before .before .before .before .before .before .before .args .names .now) (c .before .before .before .before .before .before .before .before .args .kinds .now) 0) refl .below) (c .before .i .given .1) in omega (arith, lt, c .before .before .before .before .loop .inv .0, c .before .before .before .before .before .before .before .before .pre .1)
 
--- src/lib.rt:104:49
+-- src/lib.rt:99:49
 element-copy-out-is-dropped : tie.Need-element-copy-out-is-dropped Inv-loop μ-loop
 element-copy-out-is-dropped c = let lt = found-below _ _ _ (c .before .before .before .next-alive .ensures (arrays (c .before .before .before .before .before .before .before .before .args .names .now) (c .before .before .before .before .before .before .before .before .args .kinds .now) 0) refl .below) (c .before .i .given .1) in omega (arith, lt, c .before .before .before .before .loop .inv .0, c .before .before .before .before .before .before .before .before .pre .1)
 
--- src/lib.rt:104:59
+-- src/lib.rt:99:59
 mul-is-dropped-2 : tie.Need-mul-is-dropped-2 Inv-loop μ-loop
 mul-is-dropped-2 c = let lt = found-below _ _ _ (c .before .before .before .before .next-alive .ensures (arrays (c .before .before .before .before .before .before .before .before .before .args .names .now) (c .before .before .before .before .before .before .before .before .before .args .kinds .now) 0) refl .below) (c .before .before .i .given .1) in omega (arith, lt, c .before .before .before .before .before .loop .inv .0, c .before .before .before .before .before .before .before .before .before .pre .1)
 
--- src/lib.rt:104:59
+-- src/lib.rt:99:59
 element-copy-out-is-dropped-2 : tie.Need-element-copy-out-is-dropped-2 Inv-loop μ-loop
 element-copy-out-is-dropped-2 c = let lt = found-below _ _ _ (c .before .before .before .before .next-alive .ensures (arrays (c .before .before .before .before .before .before .before .before .before .args .names .now) (c .before .before .before .before .before .before .before .before .before .args .kinds .now) 0) refl .below) (c .before .before .i .given .1) in omega (arith, lt, c .before .before .before .before .before .loop .inv .0, c .before .before .before .before .before .before .before .before .before .pre .1)
 
--- src/lib.rt:104:67
+-- src/lib.rt:99:67
 element-copy-out-is-dropped-3 : tie.Need-element-copy-out-is-dropped-3 Inv-loop μ-loop
 element-copy-out-is-dropped-3 c = let lt = found-below _ _ _ (c .before .before .before .before .before .next-alive .ensures (arrays (c .before .before .before .before .before .before .before .before .before .before .args .names .now) (c .before .before .before .before .before .before .before .before .before .before .args .kinds .now) 0) refl .below) (c .before .before .before .i .given .1) in omega (arith, lt, c .before .before .before .before .before .before .loop .inv .0, c .before .before .before .before .before .before .before .before .before .before .pre .1)
 
--- src/lib.rt:104:12
+-- src/lib.rt:99:12
 is-dropped-requires : tie.Need-is-dropped-requires Inv-loop μ-loop
 is-dropped-requires c κs = c .before .before .before .before .before .before .before .before .before .before .before .pre .0
 
--- src/lib.rt:105:13
+-- src/lib.rt:100:13
 returns-2 : tie.Need-returns-2 Inv-loop μ-loop
 returns-2 c =
     let lt = found-below _ _ _ (c .before .before .before .before .before .before .before .before .next-alive .ensures (arrays (c .before .before .before .before .before .before .before .before .before .before .before .before .before .args .names .now) (c .before .before .before .before .before .before .before .before .before .before .before .before .before .args .kinds .now) 0) refl .below) (c .before .before .before .before .before .before .i .given .1) in (
@@ -76,11 +76,11 @@ returns-2 c =
           (sym (c .if1 .taken) ∙ c .before .is-dropped .ensures T h (staticAt st (c .before .before .before .before .before .before .i .given .0 .0)) (at-names _ g) (at-types _ g) (at-depths _ g)) p,
     )
 
--- src/lib.rt:100:5
+-- src/lib.rt:95:5
 loop-less : tie.Need-loop-less Inv-loop μ-loop
 loop-less c = found-below _ _ _ (c .before .before .before .before .before .before .before .before .next-alive .ensures (arrays (c .before .before .before .before .before .before .before .before .before .before .before .before .before .args .names .now) (c .before .before .before .before .before .before .before .before .before .before .before .before .before .args .kinds .now) 0) refl .below) (c .before .before .before .before .before .before .i .given .1)
 
--- src/lib.rt:100:5
+-- src/lib.rt:95:5
 loop-again : tie.Need-loop-again Inv-loop μ-loop
 loop-again c =
     let lt = found-below _ _ _ (c .before .before .before .before .before .before .before .before .next-alive .ensures (arrays (c .before .before .before .before .before .before .before .before .before .before .before .before .before .args .names .now) (c .before .before .before .before .before .before .before .before .before .before .before .before .before .args .kinds .now) 0) refl .below) (c .before .before .before .before .before .before .i .given .1) in (

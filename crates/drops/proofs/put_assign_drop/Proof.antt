@@ -16,67 +16,67 @@ use Rattle.lookup.proofs.should_auto_delete.Reads as should-auto-delete-reads
 use Rattle.scope.proofs.find_local.Reads as find-local-reads
 use Rattle.writing.proofs.put_delete.Reads as put-delete-reads
 
--- src/lib.rt:195:24
+-- src/lib.rt:203:24
 find-local-requires : tie.Need-find-local-requires
 find-local-requires c κs = search needs
 
--- src/lib.rt:195:19
+-- src/lib.rt:203:19
 enum-known-i : tie.Need-enum-known-i
 enum-known-i c = search needs
 
--- src/lib.rt:196:9
+-- src/lib.rt:204:9
 enum-told : tie.Need-enum-told
 enum-told c = search needs
 
--- src/lib.rt:196:9
+-- src/lib.rt:204:9
 returns : tie.Need-returns
 returns c = (omega arith, omega arith, λ T h st en et ek ec. none-put _ _ _ (assign-none T st (c .before .before .before .before .before .before .before .args .span) (c .before .before .before .before .before .before .before .args .name) 0 _ (c .before .before .find-local .ensures st en ec) (c .enum-told .given .1)))
 
--- src/lib.rt:198:8
+-- src/lib.rt:206:8
 element-copy-out-if1 : tie.Need-element-copy-out-if1
 element-copy-out-if1 c = let lt = found-below _ _ _ (c .before .before .before .find-local .ensures (arrays (c .before .before .before .before .before .before .before .before .args .names .now) (c .before .before .before .before .before .before .before .before .args .kinds .now) (c .before .before .before .before .before .before .before .before .args .count)) refl refl .below) (c .before .i .given .1) in omega (arith, lt, c .before .before .before .before .before .before .before .before .pre .1)
 
--- src/lib.rt:199:9
+-- src/lib.rt:207:9
 returns-2 : tie.Need-returns-2
 returns-2 c = (omega arith, omega arith, λ T h st en et ek ec. none-put _ _ _ (assign-dead T st (c .before .before .before .before .before .before .before .before .before .before .args .span) (c .before .before .before .before .before .before .before .before .before .before .args .name) 0 _ (c .before .before .before .before .before .find-local .ensures st en ec) (c .before .before .before .i .given .0 .0) (c .before .before .before .i .given .1) (rw ek (c .if1 .taken))))
 
--- src/lib.rt:201:60
+-- src/lib.rt:209:60
 mul-wide : tie.Need-mul-wide
 mul-wide c = let lt = found-below _ _ _ (c .before .before .before .before .before .find-local .ensures (arrays (c .before .before .before .before .before .before .before .before .before .before .args .names .now) (c .before .before .before .before .before .before .before .before .before .before .args .kinds .now) (c .before .before .before .before .before .before .before .before .before .before .args .count)) refl refl .below) (c .before .before .before .i .given .1) in omega (arith, lt, c .before .before .before .before .before .before .before .before .before .before .pre .1)
 
--- src/lib.rt:201:60
+-- src/lib.rt:209:60
 element-copy-out-wide : tie.Need-element-copy-out-wide
 element-copy-out-wide c = let lt = found-below _ _ _ (c .before .before .before .before .before .find-local .ensures (arrays (c .before .before .before .before .before .before .before .before .before .before .args .names .now) (c .before .before .before .before .before .before .before .before .before .before .args .kinds .now) (c .before .before .before .before .before .before .before .before .before .before .args .count)) refl refl .below) (c .before .before .before .i .given .1) in omega (arith, lt, c .before .before .before .before .before .before .before .before .before .before .pre .1)
 
--- src/lib.rt:201:55
+-- src/lib.rt:209:55
 wide-requires : tie.Need-wide-requires
 wide-requires c κs = search needs
 
--- src/lib.rt:201:9
+-- src/lib.rt:209:9
 should-auto-delete-requires : tie.Need-should-auto-delete-requires
 should-auto-delete-requires c κs = (c .before .before .before .before .before .before .before .before .before .before .before .before .pre .0 .types, c .before .before .before .before .before .before .before .before .before .before .before .before .pre .0 .structs, c .before .before .before .before .before .before .before .before .before .before .before .before .pre .0 .lower)
 
--- src/lib.rt:202:9
+-- src/lib.rt:210:9
 returns-3 : tie.Need-returns-3
 returns-3 c = (omega arith, omega arith, λ T h st en et ek ec. none-put _ _ _ (assign-kept T st (c .before .before .before .before .before .before .before .before .before .before .before .before .before .before .args .span) (c .before .before .before .before .before .before .before .before .before .before .before .before .before .before .args .name) 0 _ (c .before .before .before .before .before .before .before .before .before .find-local .ensures st en ec) (c .before .before .before .before .before .before .before .i .given .0 .0) (getD (c .before .before .before .before .before .before .before .before .before .before .before .before .before .before .args .tys .now) (c .before .before .before .before .before .before .before .i .given .0 .0) 0) (c .before .before .before .before .before .before .before .i .given .1) (rw ek (c .before .before .before .before .if1 .left)) (ap (λ (l : List ℕ). getD l (c .before .before .before .before .before .before .before .i .given .0 .0) 0) et) (sym (not-true _ (c .if2 .taken)) ∙ auto-is (c .before .before .before .before .before .before .before .before .before .before .before .before .before .before .args .s .now) (c .before .before .before .before .before .before .before .before .before .before .before .before .before .before .args .types .now) (c .before .before .before .before .before .before .before .before .before .before .before .before .before .before .args .structs .now) T h _ _ (c .before .before .wide .ensures) (c .before .should-auto-delete .ensures))))
 
--- src/lib.rt:204:56
+-- src/lib.rt:212:56
 mul-put-delete : tie.Need-mul-put-delete
 mul-put-delete c = let lt = found-below _ _ _ (c .before .before .before .before .before .before .before .before .before .before .find-local .ensures (arrays (c .before .before .before .before .before .before .before .before .before .before .before .before .before .before .before .args .names .now) (c .before .before .before .before .before .before .before .before .before .before .before .before .before .before .before .args .kinds .now) (c .before .before .before .before .before .before .before .before .before .before .before .before .before .before .before .args .count)) refl refl .below) (c .before .before .before .before .before .before .before .before .i .given .1) in omega (arith, lt, c .before .before .before .before .before .before .before .before .before .before .before .before .before .before .before .pre .1)
 
--- src/lib.rt:204:56
+-- src/lib.rt:212:56
 element-copy-out-put-delete : tie.Need-element-copy-out-put-delete
 element-copy-out-put-delete c = let lt = found-below _ _ _ (c .before .before .before .before .before .before .before .before .before .before .find-local .ensures (arrays (c .before .before .before .before .before .before .before .before .before .before .before .before .before .before .before .args .names .now) (c .before .before .before .before .before .before .before .before .before .before .before .before .before .before .before .args .kinds .now) (c .before .before .before .before .before .before .before .before .before .before .before .before .before .before .before .args .count)) refl refl .below) (c .before .before .before .before .before .before .before .before .i .given .1) in omega (arith, lt, c .before .before .before .before .before .before .before .before .before .before .before .before .before .before .before .pre .1)
 
--- src/lib.rt:204:9
+-- src/lib.rt:212:9
 put-delete-requires : tie.Need-put-delete-requires
 put-delete-requires c κs = search needs
 
--- src/lib.rt:176:1
+-- src/lib.rt:184:1
 same-length : tie.Need-same-length
 same-length c = search needs
 
--- src/lib.rt:176:1
+-- src/lib.rt:184:1
 returns-4 : tie.Need-returns-4
 returns-4 c =
     let i = c .before .before .before .before .before .before .before .before .before .before .before .before .i .given .0 .0 in

@@ -29,27 +29,27 @@ abbrev μ-loop : tie.MeasureT-loop
 μ-loop s types structs names tys depths kinds count which span out₀ at n₀ place₀ put₀ out n place put =
     n
 
--- src/lib.rt:135:5
+-- src/lib.rt:130:5
 loop-holds : tie.Need-loop-holds Inv-loop μ-loop
 loop-holds c = (refl, omega arith, omega arith, omega arith, λ T h st g. (rest-start deleteBytes _ _ _, omega arith))
 
--- src/lib.rt:136:28
+-- src/lib.rt:131:28
 next-drop-requires : tie.Need-next-drop-requires Inv-loop μ-loop
 next-drop-requires c κs = (c .before .before .before .before .before .pre .0, omega (arith, c .loop .inv .1, c .before .before .before .before .before .pre .1))
 
--- src/lib.rt:136:23
+-- src/lib.rt:131:23
 enum-known-i : tie.Need-enum-known-i Inv-loop μ-loop
 enum-known-i c = search needs
 
--- src/lib.rt:137:13
+-- src/lib.rt:132:13
 enum-told : tie.Need-enum-told Inv-loop μ-loop
 enum-told c = search needs
 
--- src/lib.rt:137:13
+-- src/lib.rt:132:13
 same-length : tie.Need-same-length Inv-loop μ-loop
 same-length c = c .before .before .before .loop .inv .0
 
--- src/lib.rt:137:13
+-- src/lib.rt:132:13
 returns : tie.Need-returns Inv-loop μ-loop
 returns c = (
   omega (arith, c .before .before .before .loop .inv .2, c .before .before .before .before .before .before .before .before .pre .1),
@@ -60,35 +60,35 @@ returns c = (
       (rest-end deleteBytes _ _ _ _ _ _ (c .before .before .before .loop .inv .4 T h st g .0) _ a (ap deleteBytes e), count-end _ _ _ (c .before .before .before .loop .inv .4 T h st g .1) e ∙ ap length a),
 )
 
--- src/lib.rt:139:55
+-- src/lib.rt:137:55
 mul-put-delete : tie.Need-mul-put-delete Inv-loop μ-loop
 mul-put-delete c = let lt = found-below _ _ _ (c .before .before .before .before .next-drop .ensures .0) (c .before .before .i .given .1) in omega (arith, lt, c .before .before .before .before .before .loop .inv .1, c .before .before .before .before .before .before .before .before .before .before .pre .1)
 
--- src/lib.rt:139:55
+-- src/lib.rt:137:55
 element-copy-out-put-delete : tie.Need-element-copy-out-put-delete Inv-loop μ-loop
 element-copy-out-put-delete c = let lt = found-below _ _ _ (c .before .before .before .before .next-drop .ensures .0) (c .before .before .i .given .1) in omega (arith, lt, c .before .before .before .before .before .loop .inv .1, c .before .before .before .before .before .before .before .before .before .before .pre .1)
 
--- src/lib.rt:139:65
+-- src/lib.rt:137:65
 mul-put-delete-2 : tie.Need-mul-put-delete-2 Inv-loop μ-loop
 mul-put-delete-2 c = let lt = found-below _ _ _ (c .before .before .before .before .before .next-drop .ensures .0) (c .before .before .before .i .given .1) in omega (arith, lt, c .before .before .before .before .before .before .loop .inv .1, c .before .before .before .before .before .before .before .before .before .before .before .pre .1)
 
--- src/lib.rt:139:65
+-- src/lib.rt:137:65
 element-copy-out-put-delete-2 : tie.Need-element-copy-out-put-delete-2 Inv-loop μ-loop
 element-copy-out-put-delete-2 c = let lt = found-below _ _ _ (c .before .before .before .before .before .next-drop .ensures .0) (c .before .before .before .i .given .1) in omega (arith, lt, c .before .before .before .before .before .before .loop .inv .1, c .before .before .before .before .before .before .before .before .before .before .before .pre .1)
 
--- src/lib.rt:139:9
+-- src/lib.rt:137:9
 put-delete-requires : tie.Need-put-delete-requires Inv-loop μ-loop
 put-delete-requires c κs = omega (arith, c .before .before .before .before .before .before .before .loop .inv .2, c .before .before .before .before .before .before .before .before .before .before .before .before .pre .1, c .before .before .before .before .before .before .before .before .before .before .before .before .pre .2)
 
--- src/lib.rt:140:9
+-- src/lib.rt:138:9
 add-put : tie.Need-add-put Inv-loop μ-loop
 add-put c = let lt = found-below _ _ _ (c .before .before .before .before .before .before .before .before .before .next-drop .ensures .0) (c .before .before .before .before .before .before .before .i .given .1) in omega (arith, lt, c .before .before .before .before .before .before .before .before .before .before .loop .inv .3, c .before .before .before .before .before .before .before .before .before .before .before .before .before .before .before .pre .1)
 
--- src/lib.rt:135:5
+-- src/lib.rt:130:5
 loop-less : tie.Need-loop-less Inv-loop μ-loop
 loop-less c = found-below _ _ _ (c .before .before .before .before .before .before .before .before .before .next-drop .ensures .0) (c .before .before .before .before .before .before .before .i .given .1)
 
--- src/lib.rt:135:5
+-- src/lib.rt:130:5
 loop-again : tie.Need-loop-again Inv-loop μ-loop
 loop-again c =
     let v = c .before .before .before .before .before .before .before .before .before .before .loop in

@@ -8,27 +8,27 @@ use Rattle.evaluation.proofs.is_usable.Reads as reads
 use Rattle.evaluation.proofs.is_usable.Lts as lts
 use Rattle.scope.proofs.find_local.Reads as find-local-reads
 
--- src/lib.rt:62:11
+-- src/lib.rt:28:11
 find-local-requires : tie.Need-find-local-requires
 find-local-requires c κs = search needs
 
--- src/lib.rt:63:19
+-- src/lib.rt:29:19
 enum-known-i : tie.Need-enum-known-i
 enum-known-i c = search needs
 
--- src/lib.rt:63:25
+-- src/lib.rt:29:25
 element-copy-out-result : tie.Need-element-copy-out-result
 element-copy-out-result c = let z = found-below (c .before .before .before .find-local .ensures (named (c .before .before .before .before .args .names .now) (c .before .before .before .before .args .count)) refl refl) (c .before .i .given .1) in let w = c .before .before .before .before .pre in omega arith
 
--- src/lib.rt:64:27
+-- src/lib.rt:30:27
 enum-told : tie.Need-enum-told
 enum-told c = search needs
 
--- src/lib.rt:57:1
+-- src/lib.rt:23:1
 returns : tie.Need-returns
 returns c = λ st e k f t p. use-alive (c .before .before .before .before .find-local .ensures st e f) (c .before .before .i .given .1) _ k t p
 
--- src/lib.rt:57:1
+-- src/lib.rt:23:1
 returns-2 : tie.Need-returns-2
 returns-2 c = λ st e k f t p. use-none (c .before .before .find-local .ensures st e f) (c .enum-told .given .1) p
 

@@ -14,47 +14,47 @@ Inv-loop s at errs entry j₀ j = Unit {0}
 abbrev μ-loop : tie.MeasureT-loop
 μ-loop s at errs entry j₀ j = 12 - j
 
--- src/main.rt:181:5
+-- src/main.rt:190:5
 loop-holds : tie.Need-loop-holds Inv-loop μ-loop
 loop-holds c = tt
 
--- src/main.rt:182:12
+-- src/main.rt:191:12
 error-number-requires : tie.Need-error-number-requires Inv-loop μ-loop
 error-number-requires c κs = search needs
 
--- src/main.rt:182:48
+-- src/main.rt:191:48
 add-wide : tie.Need-add-wide Inv-loop μ-loop
 add-wide c = search needs
 
--- src/main.rt:182:43
+-- src/main.rt:191:43
 mul-wide : tie.Need-mul-wide Inv-loop μ-loop
 mul-wide c = search needs
 
--- src/main.rt:182:43
+-- src/main.rt:191:43
 shared-slice-read-wide : tie.Need-shared-slice-read-wide Inv-loop μ-loop
 shared-slice-read-wide c = search needs
 
--- src/main.rt:182:38
+-- src/main.rt:191:38
 wide-requires : tie.Need-wide-requires Inv-loop μ-loop
 wide-requires c κs = search needs
 
--- src/main.rt:183:13
+-- src/main.rt:192:13
 returns : tie.Need-returns Inv-loop μ-loop
 returns c = tt
 
--- src/main.rt:185:9
+-- src/main.rt:194:9
 add-j : tie.Need-add-j Inv-loop μ-loop
 add-j c = search needs
 
--- src/main.rt:181:5
+-- src/main.rt:190:5
 loop-less : tie.Need-loop-less Inv-loop μ-loop
 loop-less c = search needs
 
--- src/main.rt:181:5
+-- src/main.rt:190:5
 loop-again : tie.Need-loop-again Inv-loop μ-loop
 loop-again c = tt
 
--- src/main.rt:177:1
+-- src/main.rt:186:1
 returns-2 : tie.Need-returns-2 Inv-loop μ-loop
 returns-2 c = tt
 

@@ -9,31 +9,31 @@ use Rattle.statements.proofs.consumed_compiler_temp_from_value.Lts as l
 use Rattle.statements.proofs.name_in.Reads as name-in-reads
 use Rattle.statements.proofs.takes.Reads as takes-reads
 
--- src/lib.rt:164:9
+-- src/lib.rt:162:9
 name-in-requires : tie.Need-name-in-requires
 name-in-requires c κs = search needs
 
--- src/lib.rt:165:23
+-- src/lib.rt:163:23
 enum-known-named : tie.Need-enum-known-named
 enum-known-named c = search needs
 
--- src/lib.rt:166:9
+-- src/lib.rt:164:9
 enum-told : tie.Need-enum-told
 enum-told c = search needs
 
--- src/lib.rt:166:9
+-- src/lib.rt:164:9
 returns : tie.Need-returns
 returns c = λ T h st g e next st2 σ. value-none T (shape (view st)) _ _ e σ (c .before .before .name-in .ensures e next st2) (c .enum-told .given .1)
 
--- src/lib.rt:168:8
+-- src/lib.rt:166:8
 takes-requires : tie.Need-takes-requires
 takes-requires c κs = search needs
 
--- src/lib.rt:169:9
+-- src/lib.rt:167:9
 returns-2 : tie.Need-returns-2
 returns-2 c = λ T h st g e next st2 σ. value-taken T (shape (view st)) _ _ e σ (c .before .before .before .before .before .name-in .ensures e next st2) (c .before .before .before .named .given .1) (c .before .takes .ensures T h st g) (c .if1 .taken)
 
--- src/lib.rt:149:1
+-- src/lib.rt:147:1
 returns-3 : tie.Need-returns-3
 returns-3 c = λ T h st g e next st2 σ. value-left T (shape (view st)) _ _ e σ (c .before .before .before .before .before .name-in .ensures e next st2) (c .before .before .before .named .given .1) (c .before .takes .ensures T h st g) (c .if1 .left)
 

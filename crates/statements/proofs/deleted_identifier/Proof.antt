@@ -12,39 +12,39 @@ use Rattle.body.proofs.node_at.Reads as node-at-reads
 use Rattle.body.proofs.strip_noop_unary.Reads as strip-noop-unary-reads
 use Rattle.statements.proofs.name_in.Reads as name-in-reads
 
--- src/lib.rt:91:9
+-- src/lib.rt:89:9
 strip-noop-unary-requires : tie.Need-strip-noop-unary-requires
 strip-noop-unary-requires c κs = search needs
 
--- src/lib.rt:92:31
+-- src/lib.rt:90:31
 node-at-requires : tie.Need-node-at-requires
 node-at-requires c κs = search needs
 
--- src/lib.rt:92:22
+-- src/lib.rt:90:22
 enum-known-child : tie.Need-enum-known-child
 enum-known-child c = search needs
 
--- src/lib.rt:93:9
+-- src/lib.rt:91:9
 returns : tie.Need-returns
 returns c = no-delete-at (now (c .before .before .before .before .args .s)) (c .before .before .before .before .args .at) _ (c .before .before .strip-noop-unary .ensures) (c .before .node-at .ensures) (c .match .keys2)
 
--- src/lib.rt:95:11
+-- src/lib.rt:93:11
 name-in-requires : tie.Need-name-in-requires
 name-in-requires c κs = search needs
 
--- src/lib.rt:96:23
+-- src/lib.rt:94:23
 enum-known-name : tie.Need-enum-known-name
 enum-known-name c = search needs
 
--- src/lib.rt:97:26
+-- src/lib.rt:95:26
 enum-told : tie.Need-enum-told
 enum-told c = search needs
 
--- src/lib.rt:88:1
+-- src/lib.rt:86:1
 returns-2 : tie.Need-returns-2
 returns-2 c = λ e next st. sym (ap (λ x. deleteOf (namedOf x)) (c .before .name .given .1)) ∙ delete-at (now (c .before .before .before .before .before .before .before .before .before .before .args .s)) (c .before .before .before .before .before .before .before .before .before .before .args .at) _ (c .before .before .before .before .before .before .before .before .strip-noop-unary .ensures) (c .before .before .before .before .before .before .before .node-at .ensures) (c .before .before .before .before .before .child .given .1) (c .before .before .before .name-in .result) (c .before .before .before .name-in .ensures) e next st
 
--- src/lib.rt:88:1
+-- src/lib.rt:86:1
 returns-3 : tie.Need-returns-3
 returns-3 c = λ e next st. sym (ap (λ x. deleteOf (namedOf x)) (c .enum-told .given .1)) ∙ delete-at (now (c .before .before .before .before .before .before .before .before .before .args .s)) (c .before .before .before .before .before .before .before .before .before .args .at) _ (c .before .before .before .before .before .before .before .strip-noop-unary .ensures) (c .before .before .before .before .before .before .node-at .ensures) (c .before .before .before .before .child .given .1) (c .before .before .name-in .result) (c .before .before .name-in .ensures) e next st
 

@@ -8,39 +8,39 @@ use Rattle.effects.proofs.span_at.Reads as span-at-reads
 use Rattle.writing.proofs.put_delete_head.Reads as put-delete-head-reads
 use Rattle.writing.proofs.put_pair.Reads as put-pair-reads
 
--- src/lib.rt:296:9
+-- src/lib.rt:295:9
 returns : tie.Need-returns
 returns c = warns-none (c .if1 .taken) _ _ _ _ _
 
--- src/lib.rt:301:27
+-- src/lib.rt:300:27
 add-span-at : tie.Need-add-span-at
 add-span-at c = search needs
 
--- src/lib.rt:301:9
+-- src/lib.rt:300:9
 span-at-requires : tie.Need-span-at-requires
 span-at-requires c κs = search needs
 
--- src/lib.rt:302:9
+-- src/lib.rt:301:9
 put-delete-head-requires : tie.Need-put-delete-head-requires
 put-delete-head-requires c κs = search needs
 
--- src/lib.rt:303:53
+-- src/lib.rt:302:53
 cast-put-pair : tie.Need-cast-put-pair
 cast-put-pair c = search needs
 
--- src/lib.rt:303:9
+-- src/lib.rt:302:9
 put-pair-requires : tie.Need-put-pair-requires
 put-pair-requires c κs = search needs
 
--- src/lib.rt:283:1
+-- src/lib.rt:282:1
 same-length : tie.Need-same-length
 same-length c = search needs
 
--- src/lib.rt:283:1
+-- src/lib.rt:282:1
 same-length-2 : tie.Need-same-length-2
 same-length-2 c = search needs
 
--- src/lib.rt:283:1
+-- src/lib.rt:282:1
 returns-2 : tie.Need-returns-2
 returns-2 c = warns-some (c .before .before .before .before .before .before .before .before .before .if1 .left) (c .before .before .before .before .before .before .before .before .span-at .ensures) (c .before .before .before .before .before .before .put-delete-head .ensures) (c .before .before .put-pair .ensures)
 

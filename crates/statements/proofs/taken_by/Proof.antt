@@ -13,31 +13,31 @@ use Rattle.body.proofs.skip.Reads as skip-reads
 use Rattle.statements.proofs.consumed_compiler_temp_from_assign.Reads as consumed-compiler-temp-from-assign-reads
 use Rattle.statements.proofs.name_in.Reads as name-in-reads
 
--- src/lib.rt:390:9
+-- src/lib.rt:363:9
 name-in-requires : tie.Need-name-in-requires
 name-in-requires c κs = search needs
 
--- src/lib.rt:391:23
+-- src/lib.rt:364:23
 enum-known-named : tie.Need-enum-known-named
 enum-known-named c = search needs
 
--- src/lib.rt:392:9
+-- src/lib.rt:365:9
 enum-told : tie.Need-enum-told
 enum-told c = search needs
 
--- src/lib.rt:392:9
+-- src/lib.rt:365:9
 returns : tie.Need-returns
 returns c = λ T h st g e v p q st1 st2 σ. assign-none T (shape (view st)) e v (c .before .before .name-in .ensures e p st1) σ (c .enum-told .given .1)
 
--- src/lib.rt:394:9
+-- src/lib.rt:367:9
 skip-requires : tie.Need-skip-requires
 skip-requires c κs = search needs
 
--- src/lib.rt:395:5
+-- src/lib.rt:368:5
 consumed-compiler-temp-from-assign-requires : tie.Need-consumed-compiler-temp-from-assign-requires
 consumed-compiler-temp-from-assign-requires c κs = search needs
 
--- src/lib.rt:377:1
+-- src/lib.rt:350:1
 returns-2 : tie.Need-returns-2
 returns-2 c = λ T h st g e v p q st1 st2 σ. assign-named T (shape (view st)) e v (c .before .before .before .before .before .name-in .ensures e p st1) σ (c .before .before .before .named .given .1) (c .consumed-compiler-temp-from-assign .ensures T h st g v q (subst (λ x. Stands v (now (c .before .before .before .before .before .before .before .before .args .s)) x q) (sym (c .before .skip .ensures e p st1)) st2) σ)
 

@@ -12,39 +12,39 @@ use Rattle.body.proofs.strip_noop_unary.Reads as strip-noop-unary-reads
 use Rattle.fields.proofs.peek_two.Reads as peek-two-reads
 use Rattle.lookup.proofs.should_auto_delete.Reads as should-auto-delete-reads
 
--- src/lib.rt:107:9
+-- src/lib.rt:105:9
 strip-noop-unary-requires : tie.Need-strip-noop-unary-requires
 strip-noop-unary-requires c κs = search needs
 
--- src/lib.rt:108:30
+-- src/lib.rt:106:30
 node-at-requires : tie.Need-node-at-requires
 node-at-requires c κs = search needs
 
--- src/lib.rt:108:20
+-- src/lib.rt:106:20
 enum-known-callee : tie.Need-enum-known-callee
 enum-known-callee c = search needs
 
--- src/lib.rt:109:9
+-- src/lib.rt:107:9
 returns : tie.Need-returns
 returns c = (omega arith, λ T h. no-call-at (now (c .before .before .before .before .before .before .args .s)) (c .before .before .before .before .before .before .args .at) _ (c .before .before .strip-noop-unary .ensures) (c .before .node-at .ensures) (c .match .keys2) T)
 
--- src/lib.rt:111:66
+-- src/lib.rt:109:66
 add-peek-two : tie.Need-add-peek-two
 add-peek-two c = let i = callee-in (now (c .before .before .before .before .before .before .before .before .args .s)) (c .before .before .before .before .before .before .before .before .args .at) _ (c .before .before .before .before .strip-noop-unary .ensures) (c .before .before .before .node-at .ensures) (c .before .callee .given .1) in let a = i .2 in let b = c .before .before .before .before .before .before .before .before .pre .1 in omega arith
 
--- src/lib.rt:111:46
+-- src/lib.rt:109:46
 peek-two-requires : tie.Need-peek-two-requires
 peek-two-requires c κs = let i = callee-in (now (c .before .before .before .before .before .before .before .before .args .s)) (c .before .before .before .before .before .before .before .before .args .at) _ (c .before .before .before .before .strip-noop-unary .ensures) (c .before .before .before .node-at .ensures) (c .before .callee .given .1) in let a = i .2 in let b = c .before .before .before .before .before .before .before .before .pre .1 in omega arith
 
--- src/lib.rt:111:8
+-- src/lib.rt:109:8
 should-auto-delete-requires : tie.Need-should-auto-delete-requires
 should-auto-delete-requires c κs = (c .before .before .before .before .before .before .before .before .before .pre .0 .types, c .before .before .before .before .before .before .before .before .before .pre .0 .structs, c .before .before .before .before .before .before .before .before .before .pre .0 .lower)
 
--- src/lib.rt:112:9
+-- src/lib.rt:110:9
 returns-2 : tie.Need-returns-2
 returns-2 c = let i = callee-in (now (c .before .before .before .before .before .before .before .before .before .before .before .args .s)) (c .before .before .before .before .before .before .before .before .before .before .before .args .at) _ (c .before .before .before .before .before .before .before .strip-noop-unary .ensures) (c .before .before .before .before .before .before .node-at .ensures) (c .before .before .before .before .callee .given .1) in let a = i .1 in let b = i .2 in (omega arith, λ T h e next st. callee-at (now (c .before .before .before .before .before .before .before .before .before .before .before .args .s)) (c .before .before .before .before .before .before .before .before .before .before .before .args .at) _ (c .before .before .before .before .before .before .before .strip-noop-unary .ensures) (c .before .before .before .before .before .before .node-at .ensures) (c .before .before .before .before .callee .given .1) T (auto-is (now (c .before .before .before .before .before .before .before .before .before .before .before .args .s)) (now (c .before .before .before .before .before .before .before .before .before .before .before .args .ts)) (now (c .before .before .before .before .before .before .before .before .before .before .before .args .xs)) T h _ _ (c .before .before .peek-two .ensures .0) (c .before .should-auto-delete .ensures)) e next st (c .if1 .taken))
 
--- src/lib.rt:102:1
+-- src/lib.rt:100:1
 returns-3 : tie.Need-returns-3
 returns-3 c = (omega arith, λ T h e next st. kept-at (now (c .before .before .before .before .before .before .before .before .before .before .before .args .s)) (c .before .before .before .before .before .before .before .before .before .before .before .args .at) _ (c .before .before .before .before .before .before .before .strip-noop-unary .ensures) (c .before .before .before .before .before .before .node-at .ensures) (c .before .before .before .before .callee .given .1) T (auto-is (now (c .before .before .before .before .before .before .before .before .before .before .before .args .s)) (now (c .before .before .before .before .before .before .before .before .before .before .before .args .ts)) (now (c .before .before .before .before .before .before .before .before .before .before .before .args .xs)) T h _ _ (c .before .before .peek-two .ensures .0) (c .before .should-auto-delete .ensures)) e next st (c .if1 .left))
 

@@ -9,23 +9,23 @@ use Rattle.validation.proofs.put_use.Lts as lts
 use Rattle.validation.proofs.put_error.Reads as put-error-reads
 use Rattle.validation.proofs.told_places.Reads as told-places-reads
 
--- src/lib.rt:137:9
+-- src/lib.rt:109:9
 returns : tie.Need-returns
 returns c = (stored-eq (use-nothing (c .before .before .args .kind) (c .before .before .args .places) (c .before .before .pre .0) (c .before .before .args .place) (c .if1 .taken)) (none-stored _ _), omega arith)
 
--- src/lib.rt:139:40
+-- src/lib.rt:111:40
 told-places-requires : tie.Need-told-places-requires
 told-places-requires c κs = (c .before .before .before .pre .0, omega (arith, c .before .if1 .left))
 
--- src/lib.rt:139:5
+-- src/lib.rt:111:5
 put-error-requires : tie.Need-put-error-requires
 put-error-requires c κs = (c .told-places .ensures .1, c .before .before .before .before .pre .1)
 
--- src/lib.rt:132:1
+-- src/lib.rt:104:1
 same-length : tie.Need-same-length
 same-length c = stored-length (c .before .before .put-error .ensures)
 
--- src/lib.rt:132:1
+-- src/lib.rt:104:1
 returns-2 : tie.Need-returns-2
 returns-2 c = (stored-eq (use-entries (c .before .before .before .before .before .before .before .args .kind) (c .before .before .before .before .before .before .before .args .places) (c .before .before .before .before .before .before .before .pre .0) (c .before .before .before .before .before .before .before .args .place) (listed (c .before .before .before .told-places .result)) (omega (arith, c .before .before .before .before .before .if1 .left)) (c .before .before .before .told-places .ensures .0)) (c .before .before .put-error .ensures), entry-most (c .before .before .before .before .before .before .before .args .kind) (c .before .before .before .before .before .before .before .args .place) 0 (listed (c .before .before .before .told-places .result)) (listed-most (c .before .before .before .told-places .result) (c .before .before .before .told-places .ensures .1)) (c .before .before .put-error .ensures))
 

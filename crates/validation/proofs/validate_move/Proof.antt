@@ -10,39 +10,39 @@ use Rattle.scope.proofs.Stack.mark_moved.Reads as mark-moved-reads
 use Rattle.validation.proofs.is_local.Reads as is-local-reads
 use Rattle.validation.proofs.put_bad_move.Reads as put-bad-move-reads
 
--- src/lib.rt:199:9
+-- src/lib.rt:171:9
 is-local-requires : tie.Need-is-local-requires
 is-local-requires c κs = c .before .before .before .pre .0 .small
 
--- src/lib.rt:200:13
+-- src/lib.rt:172:13
 put-bad-move-requires : tie.Need-put-bad-move-requires
 put-bad-move-requires c κs = c .before .before .before .before .before .before .pre .1
 
--- src/lib.rt:201:9
+-- src/lib.rt:173:9
 same-length : tie.Need-same-length
 same-length c = stored-length (c .before .before .put-bad-move .ensures)
 
--- src/lib.rt:201:9
+-- src/lib.rt:173:9
 returns : tie.Need-returns
 returns c = moves-none (c .before .before .before .before .before .before .before .before .before .pre .0) (sym (not-true _ (c .before .before .before .before .if1 .taken)) ∙ (c .before .before .before .before .before .is-local .ensures (c .before .before .before .before .before .before .before .before .before .args .t1) refl refl)) (c .before .before .put-bad-move .ensures)
 
--- src/lib.rt:207:13
+-- src/lib.rt:179:13
 put-bad-move-requires-2 : tie.Need-put-bad-move-requires-2
 put-bad-move-requires-2 c κs = c .before .before .before .before .before .before .before .pre .1
 
--- src/lib.rt:208:9
+-- src/lib.rt:180:9
 same-length-2 : tie.Need-same-length-2
 same-length-2 c = stored-length (c .before .before .put-bad-move2 .ensures)
 
--- src/lib.rt:208:9
+-- src/lib.rt:180:9
 returns-2 : tie.Need-returns-2
 returns-2 c = moves-temp (c .before .before .before .before .before .before .before .before .before .before .pre .0) (sym (not-false _ (c .before .before .before .before .before .if1 .left)) ∙ (c .before .before .before .before .before .before .is-local .ensures (c .before .before .before .before .before .before .before .before .before .before .args .t1) refl refl)) (sym (c .before .before .before .before .if2 .taken)) (c .before .before .put-bad-move2 .ensures)
 
--- src/lib.rt:213:9
+-- src/lib.rt:185:9
 mark-moved-requires : tie.Need-mark-moved-requires
 mark-moved-requires c κs = c .before .before .before .before .before .before .pre .0
 
--- src/lib.rt:188:1
+-- src/lib.rt:160:1
 returns-3 : tie.Need-returns-3
 returns-3 c = moves-local (c .before .before .before .before .before .before .before .pre .0) (sym (not-false _ (c .before .before .if1 .left)) ∙ (c .before .before .before .is-local .ensures (c .before .before .before .before .before .before .before .args .t1) refl refl)) (sym (c .before .if2 .left)) (c .mark-moved .ensures)
 

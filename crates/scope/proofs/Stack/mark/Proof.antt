@@ -30,19 +30,19 @@ frame-of-requires c κs = c .before .before .before .pre .0 .small
 loop-holds : tie.Need-loop-holds Inv-loop μ-loop
 loop-holds c = (search needs, record { same = refl; sound = c .before .before .before .before .before .pre .0; done = done-none _ _ _ _ })
 
--- src/lib.rt:123:26
+-- src/lib.rt:124:17
 mul-is-marked : tie.Need-mul-is-marked Inv-loop μ-loop
 mul-is-marked c = search needs
 
--- src/lib.rt:123:26
+-- src/lib.rt:124:17
 element-copy-out-is-marked : tie.Need-element-copy-out-is-marked Inv-loop μ-loop
 element-copy-out-is-marked c = search needs
 
--- src/lib.rt:123:48
+-- src/lib.rt:126:17
 element-copy-out-is-marked-2 : tie.Need-element-copy-out-is-marked-2 Inv-loop μ-loop
 element-copy-out-is-marked-2 c = search needs
 
--- src/lib.rt:123:84
+-- src/lib.rt:129:17
 element-copy-out-is-marked-3 : tie.Need-element-copy-out-is-marked-3 Inv-loop μ-loop
 element-copy-out-is-marked-3 c = search needs
 
@@ -50,19 +50,19 @@ element-copy-out-is-marked-3 c = search needs
 is-marked-requires : tie.Need-is-marked-requires Inv-loop μ-loop
 is-marked-requires c κs = search needs
 
--- src/lib.rt:124:17
+-- src/lib.rt:131:17
 element-write-self : tie.Need-element-write-self Inv-loop μ-loop
 element-write-self c = search needs
 
--- src/lib.rt:125:17
+-- src/lib.rt:132:17
 mul-ps : tie.Need-mul-ps Inv-loop μ-loop
 mul-ps c = search needs
 
--- src/lib.rt:125:17
+-- src/lib.rt:132:17
 element-set-from-ps : tie.Need-element-set-from-ps Inv-loop μ-loop
 element-set-from-ps c = search needs
 
--- src/lib.rt:127:13
+-- src/lib.rt:134:13
 add-at : tie.Need-add-at Inv-loop μ-loop
 add-at c = search needs
 

@@ -15,15 +15,15 @@ use Rattle.scope.proofs.Stack.mark_compiler_temp_consumed.Lts as lts
 use Rattle.scope.proofs.Stack.mark.Reads as mark-reads
 use Rattle.state.proofs.State.at.Reads as at-reads
 
--- src/lib.rt:174:25
+-- src/lib.rt:172:25
 at-requires : tie.Need-at-requires
 at-requires c κs = search needs
 
--- src/lib.rt:174:9
+-- src/lib.rt:172:9
 mark-requires : tie.Need-mark-requires
 mark-requires c κs = (c .before .pre, c .at .ensures .1)
 
--- src/lib.rt:170:5
+-- src/lib.rt:168:5
 returns : tie.Need-returns
 returns c = (
   c .mark .ensures .0,

@@ -11,15 +11,15 @@ use Rattle.scope.proofs.Stack.mark_consumed.Lts as lts
 use Rattle.scope.proofs.Stack.mark.Reads as mark-reads
 use Rattle.state.proofs.State.at.Reads as at-reads
 
--- src/lib.rt:159:25
+-- src/lib.rt:157:25
 at-requires : tie.Need-at-requires
 at-requires c κs = search needs
 
--- src/lib.rt:159:9
+-- src/lib.rt:157:9
 mark-requires : tie.Need-mark-requires
 mark-requires c κs = (c .before .pre, c .at .ensures .1)
 
--- src/lib.rt:155:5
+-- src/lib.rt:153:5
 returns : tie.Need-returns
 returns c = (c .mark .ensures .0, c .mark .ensures .1 ∙ ap (λ (s : State). mark (c .before .before .args .name) (λ a. s) (view (c .before .before .args .self))) (c .before .at .ensures .0))
 
