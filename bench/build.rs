@@ -1,5 +1,5 @@
-//! Links the static library `ownership_pass`, if there is one: the cfg `ours`. With the feature `mistakes`: a copy of src/rules.rs for
-//! each mistake of mistakes.txt, and the list of them.
+//! Links the static library `ownership_pass`, if there is one: the cfg `ours`; and `lent` beside it: the cfg `reports`. With the feature
+//! `mistakes`: a copy of src/rules.rs for each mistake of mistakes.txt, and the list of them.
 use std::fmt::Write;
 use std::path::{Path, PathBuf};
 
@@ -12,17 +12,19 @@ fn main() {
     }
 }
 
-// The library of the folder that OWNERSHIP_PASS_LIB names, else of ../target/staticlib.
+// The libraries of the folder that OWNERSHIP_PASS_LIB names, else of ../target/staticlib. Each exports its entries alone.
 fn link(here: &Path) {
-    println!("cargo:rustc-check-cfg=cfg(ours)");
     println!("cargo:rerun-if-env-changed=OWNERSHIP_PASS_LIB");
     let folder = std::env::var("OWNERSHIP_PASS_LIB").map_or(here.join("../target/staticlib"), PathBuf::from);
-    let library = folder.join("libownership_pass.a");
-    println!("cargo:rerun-if-changed={}", library.display());
-    if library.exists() {
-        println!("cargo:rustc-link-search=native={}", folder.display());
-        println!("cargo:rustc-link-lib=static=ownership_pass");
-        println!("cargo:rustc-cfg=ours");
+    println!("cargo:rustc-link-search=native={}", folder.display());
+    for (name, cfg) in [("ownership_pass", "ours"), ("lent", "reports")] {
+        let library = folder.join(format!("lib{name}.a"));
+        println!("cargo:rustc-check-cfg=cfg({cfg})");
+        println!("cargo:rerun-if-changed={}", library.display());
+        if library.exists() {
+            println!("cargo:rustc-link-lib=static={name}");
+            println!("cargo:rustc-cfg={cfg}");
+        }
     }
 }
 

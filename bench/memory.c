@@ -1,6 +1,7 @@
 /* The library over images of a file (bench images FILE), with heap buffers of exactly the lent sizes:
  *   memory check FILE   for valgrind's memcheck: roomy, exactly full, and one short of each kind
  *   memory stack FILE   the machine stack that each entry takes at most, by a thread whose stack is painted
+ * With REPORTS defined and liblent.a linked, each list of errors goes through ownership_reports too.
  */
 #define _GNU_SOURCE
 #include "../include/ownership_pass.h"
@@ -11,6 +12,17 @@
 #include <sys/mman.h>
 
 enum { PAINTED = 2 << 20, PAINT = 0xa5, KINDS = 4 };
+
+/* The header's record is 12 numbers in their order, as src/ours.rs has it. */
+#define STANDS(field, number) _Static_assert(offsetof(struct ownership_report, field) == 4 * (number), #field)
+_Static_assert(sizeof(struct ownership_report) == 4 * OWNERSHIP_ERROR_NUMBERS, "size");
+_Static_assert(_Alignof(struct ownership_report) == 4, "alignment");
+STANDS(kind, 0);
+STANDS(place, 1);
+STANDS(hint, 2);
+STANDS(count, 3);
+STANDS(places, 4);
+_Static_assert(sizeof((struct ownership_report *)0)->places == 8 * 4, "places");
 
 /* What is lent: bytes, and numbers of errors, warnings and left-behind entries. */
 struct lent {
@@ -85,6 +97,44 @@ static void one_short(const char *label, const uint8_t *image, size_t length, co
     give_back(&l);
 }
 
+#ifdef REPORTS
+static size_t recorded; /* errors */
+
+/* So many numbers and records lent: 14, and nothing changed. */
+static void records_short(const char *label, const uint32_t *numbers, size_t numbers_len, size_t n, size_t lent) {
+    size_t size = lent * sizeof(struct ownership_report);
+    struct ownership_report *records = malloc(size);
+    uint32_t *few = malloc(numbers_len * 4);
+    memset(records, PAINT, size);
+    memcpy(few, numbers, numbers_len * 4);
+    if (ownership_reports(few, numbers_len, n, records, lent) != 14)
+        die("records: too little, and not 14", label);
+    if (!is_painted((uint8_t *)records, size))
+        die("records: changed on a refusal", label);
+    free(few);
+    free(records);
+}
+
+/* The errors as records, with exactly what is needed; then a record short, and a number short. */
+static void records(const char *label, const uint32_t *numbers, size_t n) {
+    struct ownership_report *records = malloc(n * sizeof *records);
+    if (ownership_reports(numbers, OWNERSHIP_ERROR_NUMBERS * n, n, records, n) != 0)
+        die("records: an exact fit is refused", label);
+    for (size_t i = 0; i < n; i++) {
+        const struct ownership_report *r = &records[i];
+        const uint32_t *e = numbers + OWNERSHIP_ERROR_NUMBERS * i;
+        if (r->kind != e[0] || r->place != e[1] || r->hint != e[2] || r->count != e[3] || memcmp(r->places, e + 4, sizeof r->places) != 0)
+            die("records: not the numbers", label);
+    }
+    free(records);
+    recorded += n;
+    if (n > 0) {
+        records_short(label, numbers, OWNERSHIP_ERROR_NUMBERS * n, n, n - 1);
+        records_short(label, numbers, OWNERSHIP_ERROR_NUMBERS * n - 1, n, n);
+    }
+}
+#endif
+
 /* 1 if the image is accepted; *sum is over what was reported. */
 static int check(const char *label, const uint8_t *image, size_t length, uint64_t *sum) {
     uint64_t *room = malloc(sizeof *room);
@@ -107,6 +157,9 @@ static int check(const char *label, const uint8_t *image, size_t length, uint64_
     if (pass(image, length, &l) != 0)
         die("an exact fit is refused", label);
     *sum += sum_of(&l);
+#ifdef REPORTS
+    records(label, l.memory[1], l.totals[1]);
+#endif
     give_back(&l);
     for (int k = 0; k < KINDS; k++)
         if (needed[k] > 0)
@@ -215,6 +268,10 @@ int main(int words, char **word) {
     else
         printf("%zu images, %zu accepted, exact fits and one short of each kind; sum %016llx\n", s.images, s.accepted,
                (unsigned long long)s.sum);
+#ifdef REPORTS
+    if (!stack)
+        printf("%zu errors as records, exact fits, a record and a number short\n", recorded);
+#endif
     give_back(&s.roomy);
     munmap(s.stack, PAINTED);
     free(file);

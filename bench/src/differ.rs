@@ -1,9 +1,10 @@
 //! Every image through the static library and the Rust. Body, errors and warnings must be the Rust's; left-behind entries and faults the
-//! bench's; what is lent must be as it was past what is reported, and all of it on a fault.
+//! bench's; what is lent must be as it was past what is reported, and all of it on a fault. Each list of errors goes on to reports.rs.
 use crate::answer::{self, Answer, LENT_BYTES, LENT_ENTRIES, Outcome};
 use crate::image::{self, Image};
-use crate::ours::{self, Lent};
+use crate::ours::{self, Lent, Report};
 use crate::random::Random;
+use crate::reports::Reports;
 use crate::{boundaries, compare, corners, generator, reader, rules};
 use std::time::Instant;
 
@@ -19,6 +20,8 @@ struct Expected {
     uncountable: bool,
     output: Vec<u8>,
     errors: Vec<u32>,
+    /// the errors as records
+    reports: Vec<Report>,
     warnings: Vec<u32>,
     left: Vec<u32>,
     totals: [u64; 4],
@@ -31,7 +34,8 @@ type Sizes = [usize; 4];
 
 impl Expected {
     fn refused(fault: u8) -> Self {
-        Expected { fault, uncountable: false, output: vec![], errors: vec![], warnings: vec![], left: vec![], totals: [0; 4], room: (0, 0) }
+        let (output, errors, reports, warnings, left) = (vec![], vec![], vec![], vec![], vec![]);
+        Expected { fault, uncountable: false, output, errors, reports, warnings, left, totals: [0; 4], room: (0, 0) }
     }
 
     fn accepted(a: Answer, most: usize) -> Self {
@@ -48,6 +52,7 @@ impl Expected {
             room: (a.output.len(), most),
             output: a.output,
             errors,
+            reports: a.errors.iter().map(Report::of).collect(),
             warnings: a.warnings.iter().flat_map(|w| [w.0, w.1 as u32]).collect(),
             left: a.lefts.iter().flat_map(|l| [l.0, l.1 as u32]).collect(),
         }
@@ -69,7 +74,7 @@ impl Expected {
 }
 
 /// Memory with a pattern, of which a part is lent.
-struct Memory<T> {
+pub struct Memory<T> {
     cells: Vec<T>,
     pattern: Vec<T>,
     start: usize,
@@ -77,12 +82,12 @@ struct Memory<T> {
 }
 
 impl<T: Copy + Eq + std::fmt::Debug> Memory<T> {
-    fn new() -> Self {
+    pub fn new() -> Self {
         Memory { cells: vec![], pattern: vec![], start: 0, from: 0 }
     }
 
     /// So many cells with the pattern, from some place of it, at some alignment.
-    fn lend(&mut self, size: usize, random: &mut Random, number: fn(u64) -> T) -> &mut [T] {
+    pub fn lend(&mut self, size: usize, random: &mut Random, number: fn(u64) -> T) -> &mut [T] {
         (self.start, self.from) = (GUARD + random.below(16), random.below(256));
         let all = self.start + size + GUARD;
         while self.pattern.len() < all + 256 {
@@ -93,8 +98,13 @@ impl<T: Copy + Eq + std::fmt::Debug> Memory<T> {
         &mut self.cells[self.start..self.start + size]
     }
 
+    /// The cells lent, of which there are so many.
+    pub fn lent(&self, size: usize) -> &[T] {
+        &self.cells[self.start..self.start + size]
+    }
+
     /// Empty if the first cells lent are these and no other was changed; else where the first difference is.
-    fn difference(&self, what: &str, first: &[T]) -> String {
+    pub fn difference(&self, what: &str, first: &[T]) -> String {
         let (end, before) = (self.start + first.len(), &self.cells[..self.start]);
         let (head, tail) = (&self.cells[self.start..end.min(self.cells.len())], &self.cells[end.min(self.cells.len())..]);
         let same = before == &self.pattern[self.from..self.from + self.start]
@@ -115,6 +125,7 @@ pub struct Differ {
     random: Random,
     output: Memory<u8>,
     lists: [Memory<u32>; 3],
+    reports: Reports,
     images: usize,
     bytes: usize,
     accepted: usize,
@@ -130,8 +141,8 @@ impl Differ {
     fn new(seed: u64) -> Self {
         let lists = [Memory::new(), Memory::new(), Memory::new()];
         let random = Random::new(seed ^ 0x5eed);
-        let output = Memory::new();
-        Differ { random, output, lists, images: 0, bytes: 0, accepted: 0, refused: 0, outside: 0, calls: 0, exact: 0, short: 0 }
+        let (output, reports) = (Memory::new(), Reports::new(seed));
+        Differ { random, output, lists, reports, images: 0, bytes: 0, accepted: 0, refused: 0, outside: 0, calls: 0, exact: 0, short: 0 }
     }
 
     /// What differs, if anything does; `all`: with each way of lending too little, and exactly enough.
@@ -229,6 +240,11 @@ impl Differ {
         {
             found += &memory.difference(what, want);
         }
+        if ours::REPORTS && fault == 0 && found.is_empty() {
+            let errors = &self.lists[0];
+            found += &self.reports.check(errors.lent(lent[1]), &want.reports);
+            found += &errors.difference("errors after ownership_reports", &want.errors);
+        }
         if found.is_empty() { Ok(fault) } else { Err(format!("{found}with {lent:?} lent")) }
     }
 
@@ -296,6 +312,7 @@ impl Differ {
             self.images as f64 / seconds,
             self.calls
         );
+        self.reports.print();
         println!(
             "{} images, 0 differences: {} accepted, {} refused, {} outside the Rust's domain; {} calls that fit exactly, {} with one kind short",
             self.images, self.accepted, self.refused, self.outside, self.exact, self.short

@@ -17,6 +17,8 @@ mod mistakes;
 mod ours;
 mod random;
 mod reader;
+#[cfg(ours)]
+mod reports;
 mod rules;
 mod speed;
 mod stored;
@@ -68,6 +70,9 @@ fn command() -> i32 {
 #[cfg(not(ours))]
 const NO_LIBRARY: &str =
     "there is no library: rt staticlib ownership_pass makes it, or OWNERSHIP_PASS_LIB names its folder; then build anew";
+
+#[cfg(ours)]
+const NO_REPORTS: &str = "ownership_reports: left out, there is no liblent.a: rt staticlib lent makes it";
 
 fn speeds(runs: usize) -> i32 {
     speed::speed(runs);

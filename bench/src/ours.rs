@@ -1,4 +1,6 @@
-//! The entries of the static library, called as C calls them (include/ownership_pass.h).
+//! The entries of the static libraries, called as C calls them (include/ownership_pass.h).
+use crate::answer::Error;
+use std::mem::{align_of, offset_of, size_of};
 
 unsafe extern "C" {
     fn ownership_pass(
@@ -15,6 +17,54 @@ unsafe extern "C" {
         totals: *mut u64,
     ) -> u32;
     fn ownership_room(image: *const u8, image_len: usize, room: *mut u64) -> u32;
+    #[cfg(reports)]
+    fn ownership_reports(numbers: *const u32, numbers_len: usize, count: usize, reports: *mut Report, reports_len: usize) -> u32;
+}
+
+/// Whether liblent.a is linked.
+pub const REPORTS: bool = cfg!(reports);
+
+/// The numbers of one error.
+pub const ERROR_NUMBERS: usize = 12;
+
+/// `struct ownership_report`; memory.c has the same assertions of the header.
+#[repr(C)]
+pub struct Report {
+    kind: u32,
+    place: u32,
+    hint: u32,
+    count: u32,
+    places: [u32; 8],
+}
+
+const _: () = assert!(size_of::<Report>() == 4 * ERROR_NUMBERS && align_of::<Report>() == 4);
+const _: () = assert!(offset_of!(Report, kind) == 0 && offset_of!(Report, place) == 4 && offset_of!(Report, hint) == 8);
+const _: () = assert!(offset_of!(Report, count) == 12 && offset_of!(Report, places) == 16);
+
+impl Report {
+    pub fn of(e: &Error) -> Self {
+        let mut places = [0; 8];
+        places[..e.others.len()].copy_from_slice(&e.others);
+        Report { kind: e.kind, place: e.place, hint: e.hint, count: e.others.len() as u32, places }
+    }
+}
+
+/// The memory of records as 32-bit words.
+pub fn words(reports: &[Report]) -> &[u32] {
+    // a record is 12 words, with their alignment and without padding
+    unsafe { std::slice::from_raw_parts(reports.as_ptr().cast(), ERROR_NUMBERS * reports.len()) }
+}
+
+/// Words lent as records: 0 or 14.
+#[cfg(reports)]
+pub fn reports(numbers: &[u32], count: usize, lent: &mut [u32]) -> u32 {
+    // the pointers and lengths are those of slices; a record as above
+    unsafe { ownership_reports(numbers.as_ptr(), numbers.len(), count, lent.as_mut_ptr().cast(), lent.len() / ERROR_NUMBERS) }
+}
+
+#[cfg(not(reports))]
+pub fn reports(_: &[u32], _: usize, _: &mut [u32]) -> u32 {
+    panic!("{}", crate::NO_REPORTS)
 }
 
 /// What is lent to the pass: bytes and, for each list, numbers.
