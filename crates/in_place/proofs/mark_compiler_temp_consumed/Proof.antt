@@ -1,0 +1,25 @@
+use Prim.Native.Nat.{ℕ}
+use mathlib.Core.Path.{refl}
+use contract.Running.{givenOf, tables, tablesOf}
+use denote.Triple.Spec.{tripleOf}
+use denote.Triple.Table.{entered, cited}
+use Rattle.rules.specs.State.{handState, State}
+use Rattle.rules.specs.Stack.{mark, Stack}
+use Rattle.lent.proofs.mark_compiler_temp_consumed.Symbol as callee
+use Rattle.lent.proofs.mark_compiler_temp_consumed.Met as lent
+use Rattle.in_place.proofs.Marks.{Lends, meets}
+use Rattle.in_place.proofs.mark_compiler_temp_consumed.Key as key
+use Rattle.in_place.proofs.mark_compiler_temp_consumed as f
+use Rattle.in_place.proofs.mark_compiler_temp_consumed.Statement.{statement}
+use Rattle.in_place.proofs.mark_compiler_temp_consumed.Code as code
+
+abbrev rule : ℕ → ℕ → Stack State → Stack State
+rule n p = mark n (handState p)
+
+pub mark-compiler-temp-consumed-spec : {M : Type 1} → statement M
+unfolding code.routine tablesOf
+mark-compiler-temp-consumed-spec 𝓤 H 𝓜 𝓖 𝓡 =
+    entered 𝓤 H (tripleOf 𝓤 H (𝓖 .A) f.signature (f.spec 𝓤 H (𝓖 .A) (𝓜 .mem) (𝓡 .run)))
+    (tables 𝓤 H 𝓜 𝓡 code.env .C) (tables 𝓤 H 𝓜 𝓡 code.env .Λ) key.name code.function (code.unfolded 𝓤 H 𝓜 𝓡)
+    (meets callee.name rule 𝓤 H (𝓖 .A) (givenOf 𝓤 H 𝓜 𝓖) (tablesOf 𝓤 H 𝓜 (tables 𝓤 H 𝓜 𝓡 code.env))
+    (cited 𝓤 H (Lends rule 𝓤 H (𝓖 .A)) 𝓜 𝓡 code.env callee.name callee.routine refl (lent.met 𝓤 H 𝓜 𝓖 𝓡)))
