@@ -19,35 +19,35 @@ use Rattle.fronts.proofs.quiet_values.Reads as quiet-values-reads
 use Rattle.returns.proofs.front_at.Reads as front-at-reads
 use Rattle.acts.proofs.statement.Reads as statement-reads
 
--- src/lib.rt:270:9
+-- src/lib.rt:271:9
 front-at-requires : tie.Need-front-at-requires
 front-at-requires c κs = stmt-there (now (c .before .before .before .before .before .before .before .args .s)) (c .before .before .before .before .before .before .before .args .env .left) (c .before .before .before .before .before .before .before .args .p .at) (c .before .before .before .before .before .before .before .pre .4)
 
--- src/lib.rt:271:9
+-- src/lib.rt:272:9
 quiet-values-requires : tie.Need-quiet-values-requires
 quiet-values-requires c κs = search needs
 
--- src/lib.rt:273:9
+-- src/lib.rt:274:9
 returns : tie.Need-returns
 returns c = (λ T h st g errs. nothing-done T (now (c .before .before .before .before .before .before .before .before .before .before .before .args .s)) (c .before .before .before .before .before .before .before .before .before .before .before .args .env .left) (12 - c .before .before .before .before .before .before .before .before .before .before .before .args .env .left) (view st) (c .before .before .before .before .before .before .before .before .before .before .before .args .p) _, grows-none (c .before .before .before .before .before .before .before .before .before .before .before .pre .3 .inside))
 
--- src/lib.rt:279:9
+-- src/lib.rt:280:9
 statement-requires : tie.Need-statement-requires
 statement-requires c κs = (positions-of (c .before .before .before .before .before .before .before .before .before .before .before .before .before .before .pre .0), c .before .before .before .before .before .before .before .before .before .before .before .before .before .before .pre .1, c .before .before .before .before .before .before .before .before .before .before .before .before .before .before .pre .3, calm-ends (now (c .before .before .before .before .before .before .before .before .before .before .before .before .before .before .args .s)) (c .before .before .before .before .before .before .before .before .before .before .before .before .before .before .args .env .left) (c .before .before .before .before .before .before .before .before .before .before .before .before .before .before .args .p .at) (c .before .before .before .before .before .before .before .before .before .before .before .before .before .before .pre .4) (tablesOf (now (c .before .before .before .before .before .before .before .before .before .before .before .before .before .before .args .s)) (now (c .before .before .before .before .before .before .before .before .before .before .before .before .before .before .args .ns)) (now (c .before .before .before .before .before .before .before .before .before .before .before .before .before .before .args .ts)) (now (c .before .before .before .before .before .before .before .before .before .before .before .before .before .before .args .xs)) (c .before .before .before .before .before .before .before .before .before .before .before .before .before .before .args .env .globals) (c .before .before .before .before .before .before .before .before .before .before .before .before .before .before .args .env .first)) (view (arrays (now (c .before .before .before .before .before .before .before .before .before .before .before .before .before .before .args .ln)) (now (c .before .before .before .before .before .before .before .before .before .before .before .before .before .before .args .lk)) (c .before .before .before .before .before .before .before .before .before .before .before .before .before .before .args .n))) (c .before .before .before .before .before .quiet-values .result) (c .before .before .before .before .before .quiet-values .ensures (tablesOf (now (c .before .before .before .before .before .before .before .before .before .before .before .before .before .before .args .s)) (now (c .before .before .before .before .before .before .before .before .before .before .before .before .before .before .args .ns)) (now (c .before .before .before .before .before .before .before .before .before .before .before .before .before .before .args .ts)) (now (c .before .before .before .before .before .before .before .before .before .before .before .before .before .before .args .xs)) (c .before .before .before .before .before .before .before .before .before .before .before .before .before .before .args .env .globals) (c .before .before .before .before .before .before .before .before .before .before .before .before .before .before .args .env .first)) (said (now (c .before .before .before .before .before .before .before .before .before .before .before .before .before .before .args .s)) (now (c .before .before .before .before .before .before .before .before .before .before .before .before .before .before .args .ns)) (now (c .before .before .before .before .before .before .before .before .before .before .before .before .before .before .args .ts)) (now (c .before .before .before .before .before .before .before .before .before .before .before .before .before .before .args .xs)) (c .before .before .before .before .before .before .before .before .before .before .before .before .before .before .args .env .globals) (c .before .before .before .before .before .before .before .before .before .before .before .before .before .before .args .env .first)) (arrays (now (c .before .before .before .before .before .before .before .before .before .before .before .before .before .before .args .ln)) (now (c .before .before .before .before .before .before .before .before .before .before .before .before .before .before .args .lk)) (c .before .before .before .before .before .before .before .before .before .before .before .before .before .before .args .n)) refl refl refl .calm) (not-false _ (c .before .before .before .if1 .left)) .front)
 
--- src/lib.rt:248:1
+-- src/lib.rt:249:1
 same-length : tie.Need-same-length
 same-length c = search needs
 
--- src/lib.rt:248:1
+-- src/lib.rt:249:1
 same-length-2 : tie.Need-same-length-2
 same-length-2 c = search needs
 
--- src/lib.rt:248:1
+-- src/lib.rt:249:1
 same-length-3 : tie.Need-same-length-3
 same-length-3 c = search needs
 
--- src/lib.rt:248:1
+-- src/lib.rt:249:1
 returns-2 : tie.Need-returns-2
 returns-2 c = (λ T h st g errs. quiet-walks T (now (c .before .before .before .before .before .before .before .before .before .before .before .before .before .before .before .before .before .before .before .before .before .before .args .s)) (λ k. omega (arith, c .before .before .before .before .before .before .before .before .before .before .before .before .before .before .before .before .before .before .before .before .before .shared-slice-known .given k)) (c .before .before .before .before .before .before .before .before .before .before .before .before .before .before .before .before .before .before .before .before .before .before .args .env .left) (12 - c .before .before .before .before .before .before .before .before .before .before .before .before .before .before .before .before .before .before .before .before .before .before .args .env .left) st (omega (arith, g .count, c .before .before .before .before .before .before .before .before .before .before .before .before .before .before .before .before .before .before .before .before .before .before .pre .1)) (c .before .before .before .before .before .before .before .before .before .before .before .before .before .before .before .before .before .before .before .before .before .before .args .p) (c .before .before .before .before .before .before .before .before .before .before .before .before .before .quiet-values .result) (c .before .before .before .before .before .before .before .before .before .before .before .before .before .quiet-values .ensures T h st (g .names) (g .kinds) (g .count)) (not-false _ (c .before .before .before .before .before .before .before .before .before .before .before .if1 .left)) (c .before .before .before .before .before .before .before .statement .result) _ _ _ _ _ _ errs (c .before .before .before .before .before .before .before .statement .ensures .0 T (tabled-of h) st g), c .before .before .before .before .before .before .before .statement .ensures .1)
 

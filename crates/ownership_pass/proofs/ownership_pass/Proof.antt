@@ -6,19 +6,19 @@ use Rattle.ownership_pass.proofs.ownership_pass.Reads as reads
 use Rattle.ownership_pass.proofs.ownership_pass.Lts as lts
 use Rattle.ownership_pass.proofs.pass.Reads as pass-reads
 
--- src/lib.rt:100:11
+-- src/lib.rt:97:11
 pass-requires : tie.Need-pass-requires
 pass-requires c κs = search needs
 
--- src/lib.rt:101:26
+-- src/lib.rt:98:26
 enum-known-fault : tie.Need-enum-known-fault
 enum-known-fault c = search needs
 
--- src/lib.rt:101:36
+-- src/lib.rt:98:36
 cast-result : tie.Need-cast-result
 cast-result c = search needs
 
--- src/lib.rt:102:27
+-- src/lib.rt:99:27
 enum-known-t : tie.Need-enum-known-t
 enum-known-t c = search needs
 

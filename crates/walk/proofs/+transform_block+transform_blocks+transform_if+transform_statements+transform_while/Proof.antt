@@ -161,37 +161,37 @@ transform-statements-claims t = (up-to-blocks-reads.Asked, up-to-blocks-reads.Le
 abbrev transform-while-claims : ℕ → transform-while-lts.Claims
 transform-while-claims t = (transform-block-below t, transform-block.Post, walk-of-reads.Asked, walk-of-reads.Learnt, merged-reads.Asked, merged-reads.Learnt)
 
--- src/lib.rt:208:44
+-- src/lib.rt:209:44
 transform-block-add-copy-bytes : (t : ℕ) → transform-block-lts.Need-add-copy-bytes (transform-block-claims t) (transform-block-at t) transform-block.Post
 transform-block-add-copy-bytes t c =
     let r = block-there _ _ _ (c .before .before .before .before .before .before .before .before .before .pre .1 .2) in omega (arith, r .1, c .before .before .before .before .before .before .before .before .before .pre .1 .1 .within .small)
 
--- src/lib.rt:208:9
+-- src/lib.rt:209:9
 transform-block-copy-bytes-requires : (t : ℕ) → transform-block-lts.Need-copy-bytes-requires (transform-block-claims t) (transform-block-at t) transform-block.Post
 transform-block-copy-bytes-requires t c κs =
     let r = block-there _ _ _ (c .before .before .before .before .before .before .before .before .before .before .pre .1 .2) in let w = c .before .before .before .before .before .before .before .before .before .before .pre .1 .1 .within in (omega arith, omega (arith, r .1), w .small, omega (arith, w .written, w .inside, w .small))
 
--- src/lib.rt:209:35
+-- src/lib.rt:210:35
 transform-block-add-two-at : (t : ℕ) → transform-block-lts.Need-add-two-at (transform-block-claims t) (transform-block-at t) transform-block.Post
 transform-block-add-two-at t c =
     let r = block-there _ _ _ (c .before .before .before .before .before .before .before .before .before .before .before .before .before .before .pre .1 .2) in omega (arith, r .1, c .before .before .before .before .before .before .before .before .before .before .before .before .before .before .pre .1 .1 .within .small)
 
--- src/lib.rt:209:9
+-- src/lib.rt:210:9
 transform-block-two-at-requires : (t : ℕ) → transform-block-lts.Need-two-at-requires (transform-block-claims t) (transform-block-at t) transform-block.Post
 transform-block-two-at-requires t c κs =
     let r = block-there _ _ _ (c .before .before .before .before .before .before .before .before .before .before .before .before .before .before .pre .1 .2) in omega (arith, r .1)
 
--- src/lib.rt:210:9
+-- src/lib.rt:211:9
 transform-block-inside-requires : (t : ℕ) → transform-block-lts.Need-inside-requires (transform-block-claims t) (transform-block-at t) transform-block.Post
 transform-block-inside-requires t c κs =
     let w = c .before .before .before .before .before .before .before .before .before .before .before .before .before .before .before .pre .1 .1 .within in let g = span-length _ (λ k. omega (arith, c .before .before .before .before .before .before .before .before .before .before .before .before .before .before .shared-slice-known .given k)) _ (block-there _ _ _ (c .before .before .before .before .before .before .before .before .before .before .before .before .before .before .before .pre .1 .2) .1) (c .before .before .before .before .copy-bytes .ensures) in (omega (arith, w .inside, w .small), omega (arith, g, w .written, w .inside, w .small))
 
--- src/lib.rt:211:9
+-- src/lib.rt:212:9
 transform-block-deeper-requires : (t : ℕ) → transform-block-lts.Need-deeper-requires (transform-block-claims t) (transform-block-at t) transform-block.Post
 transform-block-deeper-requires t c κs =
     block-there _ _ _ (c .before .before .before .before .before .before .before .before .before .before .before .before .before .before .before .before .pre .1 .2) .0
 
--- src/lib.rt:212:9
+-- src/lib.rt:213:9
 transform-block-transform-statements-requires : (t : ℕ) → transform-block-lts.Need-transform-statements-requires (transform-block-claims t) (transform-block-at t) transform-block.Post
 transform-block-transform-statements-requires t c κs =
     let r = block-there _ _ _ (c .before .before .before .before .before .before .before .before .before .before .before .before .before .before .before .before .before .before .before .before .before .pre .1 .2) in
@@ -204,23 +204,23 @@ transform-block-transform-statements-requires t c κs =
       ),
     )
 
--- src/lib.rt:214:9
+-- src/lib.rt:215:9
 transform-block-same-length : (t : ℕ) → transform-block-lts.Need-same-length (transform-block-claims t) (transform-block-at t) transform-block.Post
 transform-block-same-length t c = c .before .before .before .before .before .before .before .before .before .before .transform-statements .kept .1 .1 .1 .1 .1 .1 .1 .1 .0 ∙ c .before .before .before .before .before .before .before .before .before .before .before .before .before .before .before .before .before .before .before .before .before .copy-bytes .kept .1 .1 .1 .0
 
--- src/lib.rt:214:9
+-- src/lib.rt:215:9
 transform-block-same-length-2 : (t : ℕ) → transform-block-lts.Need-same-length-2 (transform-block-claims t) (transform-block-at t) transform-block.Post
 transform-block-same-length-2 t c = c .before .before .before .before .before .before .before .before .before .before .transform-statements .kept .1 .1 .1 .1 .1 .1 .1 .1 .1 .0
 
--- src/lib.rt:214:9
+-- src/lib.rt:215:9
 transform-block-same-length-3 : (t : ℕ) → transform-block-lts.Need-same-length-3 (transform-block-claims t) (transform-block-at t) transform-block.Post
 transform-block-same-length-3 t c = c .before .before .before .before .before .before .before .before .before .before .transform-statements .kept .1 .1 .1 .1 .1 .1 .1 .1 .1 .1 .0
 
--- src/lib.rt:214:9
+-- src/lib.rt:215:9
 transform-block-same-length-4 : (t : ℕ) → transform-block-lts.Need-same-length-4 (transform-block-claims t) (transform-block-at t) transform-block.Post
 transform-block-same-length-4 t c = c .before .before .before .before .before .before .before .before .before .before .transform-statements .kept .1 .1 .1 .1 .1 .1 .1 .1 .1 .1 .1 .0
 
--- src/lib.rt:214:9
+-- src/lib.rt:215:9
 transform-block-returns : (t : ℕ) → transform-block-lts.Need-returns (transform-block-claims t) (transform-block-at t) transform-block.Post
 transform-block-returns t c =
     let r = block-there _ _ _ (c .before .before .before .before .before .before .before .before .before .before .before .before .before .before .before .before .before .before .before .before .before .before .before .before .before .before .before .before .before .before .before .before .pre .1 .2) in
@@ -229,7 +229,7 @@ transform-block-returns t c =
       faulty _ _ _ _ (c .if1 .taken),
     )
 
--- src/lib.rt:218:5
+-- src/lib.rt:219:5
 transform-block-end-block-requires : (t : ℕ) → transform-block-lts.Need-end-block-requires (transform-block-claims t) (transform-block-at t) transform-block.Post
 transform-block-end-block-requires t c κs =
     let U = tablesOf (c .before .before .before .before .before .before .before .before .before .before .before .before .before .before .before .before .before .before .before .before .before .before .before .before .before .before .before .before .before .before .before .before .before .before .before .args .s .now) (c .before .before .before .before .before .before .before .before .before .before .before .before .before .before .before .before .before .before .before .before .before .before .before .before .before .before .before .before .before .before .before .before .before .before .before .args .ns .now) (c .before .before .before .before .before .before .before .before .before .before .before .before .before .before .before .before .before .before .before .before .before .before .before .before .before .before .before .before .before .before .before .before .before .before .before .args .ts .now) (c .before .before .before .before .before .before .before .before .before .before .before .before .before .before .before .before .before .before .before .before .before .before .before .before .before .before .before .before .before .before .before .before .before .before .before .args .xs .now) (c .before .before .before .before .before .before .before .before .before .before .before .before .before .before .before .before .before .before .before .before .before .before .before .before .before .before .before .before .before .before .before .before .before .before .before .args .env .globals) (c .before .before .before .before .before .before .before .before .before .before .before .before .before .before .before .before .before .before .before .before .before .before .before .before .before .before .before .before .before .before .before .before .before .before .before .args .env .first) in
@@ -252,23 +252,23 @@ transform-block-end-block-requires t c κs =
       },
     )
 
--- src/lib.rt:191:1
+-- src/lib.rt:192:1
 transform-block-same-length-5 : (t : ℕ) → transform-block-lts.Need-same-length-5 (transform-block-claims t) (transform-block-at t) transform-block.Post
 transform-block-same-length-5 t c = c .before .before .end-block .kept .1 .1 .1 .1 .1 .1 .1 .1 .0 ∙ c .before .before .before .before .before .before .before .before .before .before .before .before .before .before .before .before .transform-statements .kept .1 .1 .1 .1 .1 .1 .1 .1 .0 ∙ c .before .before .before .before .before .before .before .before .before .before .before .before .before .before .before .before .before .before .before .before .before .before .before .before .before .before .before .copy-bytes .kept .1 .1 .1 .0
 
--- src/lib.rt:191:1
+-- src/lib.rt:192:1
 transform-block-same-length-6 : (t : ℕ) → transform-block-lts.Need-same-length-6 (transform-block-claims t) (transform-block-at t) transform-block.Post
 transform-block-same-length-6 t c = c .before .before .before .before .before .before .before .before .before .before .before .before .before .before .before .before .transform-statements .kept .1 .1 .1 .1 .1 .1 .1 .1 .1 .0
 
--- src/lib.rt:191:1
+-- src/lib.rt:192:1
 transform-block-same-length-7 : (t : ℕ) → transform-block-lts.Need-same-length-7 (transform-block-claims t) (transform-block-at t) transform-block.Post
 transform-block-same-length-7 t c = c .before .before .before .before .before .before .before .before .before .before .before .before .before .before .before .before .transform-statements .kept .1 .1 .1 .1 .1 .1 .1 .1 .1 .1 .0
 
--- src/lib.rt:191:1
+-- src/lib.rt:192:1
 transform-block-same-length-8 : (t : ℕ) → transform-block-lts.Need-same-length-8 (transform-block-claims t) (transform-block-at t) transform-block.Post
 transform-block-same-length-8 t c = c .before .before .before .before .before .before .before .before .before .before .before .before .before .before .before .before .transform-statements .kept .1 .1 .1 .1 .1 .1 .1 .1 .1 .1 .1 .0
 
--- src/lib.rt:191:1
+-- src/lib.rt:192:1
 transform-block-returns-2 : (t : ℕ) → transform-block-lts.Need-returns-2 (transform-block-claims t) (transform-block-at t) transform-block.Post
 transform-block-returns-2 t c =
     let U = tablesOf (c .before .before .before .before .before .before .before .before .before .before .before .before .before .before .before .before .before .before .before .before .before .before .before .before .before .before .before .before .before .before .before .before .before .before .before .before .before .before .args .s .now) (c .before .before .before .before .before .before .before .before .before .before .before .before .before .before .before .before .before .before .before .before .before .before .before .before .before .before .before .before .before .before .before .before .before .before .before .before .before .before .args .ns .now) (c .before .before .before .before .before .before .before .before .before .before .before .before .before .before .before .before .before .before .before .before .before .before .before .before .before .before .before .before .before .before .before .before .before .before .before .before .before .before .args .ts .now) (c .before .before .before .before .before .before .before .before .before .before .before .before .before .before .before .before .before .before .before .before .before .before .before .before .before .before .before .before .before .before .before .before .before .before .before .before .before .before .args .xs .now) (c .before .before .before .before .before .before .before .before .before .before .before .before .before .before .before .before .before .before .before .before .before .before .before .before .before .before .before .before .before .before .before .before .before .before .before .before .before .before .args .env .globals) (c .before .before .before .before .before .before .before .before .before .before .before .before .before .before .before .before .before .before .before .before .before .before .before .before .before .before .before .before .before .before .before .before .before .before .before .before .before .before .args .env .first) in
@@ -282,149 +282,149 @@ transform-block-returns-2 t c =
           (some-end .at) (some-end .errors) (some-end .warnings) (some-end .lefts) (some-end .inserted),
     )
 
--- src/lib.rt:146:9
+-- src/lib.rt:147:9
 transform-blocks-transform-if-requires : (t : ℕ) → transform-blocks-lts.Need-transform-if-requires (transform-blocks-claims t) (transform-blocks-at t) transform-blocks.Post
 transform-blocks-transform-if-requires t c κs =
     (omega (arith, c .before .before .before .before .before .before .before .before .before .before .before .before .before .pre .0), (c .before .before .before .before .before .before .before .before .before .before .before .before .before .pre .1 .0, c .before .before .before .before .before .before .before .before .before .before .before .before .before .pre .1 .1, c .before .before .before .before .before .before .before .before .before .before .before .before .before .pre .1 .2 .ifs (c .before .before .before .before .if1 .taken)))
 
--- src/lib.rt:146:9
+-- src/lib.rt:147:9
 transform-blocks-same-length : (t : ℕ) → transform-blocks-lts.Need-same-length (transform-blocks-claims t) (transform-blocks-at t) transform-blocks.Post
 transform-blocks-same-length t c = c .before .before .before .before .before .before .before .before .transform-if .kept .1 .1 .1 .1 .1 .1 .1 .0
 
--- src/lib.rt:146:9
+-- src/lib.rt:147:9
 transform-blocks-same-length-2 : (t : ℕ) → transform-blocks-lts.Need-same-length-2 (transform-blocks-claims t) (transform-blocks-at t) transform-blocks.Post
 transform-blocks-same-length-2 t c = c .before .before .before .before .before .before .before .before .transform-if .kept .1 .1 .1 .1 .1 .1 .1 .1 .0
 
--- src/lib.rt:146:9
+-- src/lib.rt:147:9
 transform-blocks-same-length-3 : (t : ℕ) → transform-blocks-lts.Need-same-length-3 (transform-blocks-claims t) (transform-blocks-at t) transform-blocks.Post
 transform-blocks-same-length-3 t c = c .before .before .before .before .before .before .before .before .transform-if .kept .1 .1 .1 .1 .1 .1 .1 .1 .1 .0
 
--- src/lib.rt:146:9
+-- src/lib.rt:147:9
 transform-blocks-same-length-4 : (t : ℕ) → transform-blocks-lts.Need-same-length-4 (transform-blocks-claims t) (transform-blocks-at t) transform-blocks.Post
 transform-blocks-same-length-4 t c = c .before .before .before .before .before .before .before .before .transform-if .kept .1 .1 .1 .1 .1 .1 .1 .1 .1 .1 .0
 
--- src/lib.rt:146:9
+-- src/lib.rt:147:9
 transform-blocks-returns : (t : ℕ) → transform-blocks-lts.Need-returns (transform-blocks-claims t) (transform-blocks-at t) transform-blocks.Post
 transform-blocks-returns t c = (
   λ T sy. record { ifs = λ h. c .before .before .before .before .before .before .before .before .transform-if .ensures .0 T sy; loops = λ h. absurd (omega (arith, c .before .before .before .before .before .before .before .before .before .before .before .before .before .if1 .taken, h)); others = λ h g. absurd (h (c .before .before .before .before .before .before .before .before .before .before .before .before .before .if1 .taken)) },
   c .before .before .before .before .before .before .before .before .transform-if .ensures .1,
 )
 
--- src/lib.rt:149:9
+-- src/lib.rt:150:9
 transform-blocks-transform-while-requires : (t : ℕ) → transform-blocks-lts.Need-transform-while-requires (transform-blocks-claims t) (transform-blocks-at t) transform-blocks.Post
 transform-blocks-transform-while-requires t c κs =
     (omega (arith, c .before .before .before .before .before .before .before .before .before .before .before .before .before .before .pre .0), (c .before .before .before .before .before .before .before .before .before .before .before .before .before .before .pre .1 .0, c .before .before .before .before .before .before .before .before .before .before .before .before .before .before .pre .1 .1, c .before .before .before .before .before .before .before .before .before .before .before .before .before .before .pre .1 .2 .others (c .before .before .before .before .before .if1 .left)))
 
--- src/lib.rt:149:9
+-- src/lib.rt:150:9
 transform-blocks-same-length-5 : (t : ℕ) → transform-blocks-lts.Need-same-length-5 (transform-blocks-claims t) (transform-blocks-at t) transform-blocks.Post
 transform-blocks-same-length-5 t c = c .before .before .before .before .before .before .before .before .transform-while .kept .1 .1 .1 .1 .1 .1 .1 .0
 
--- src/lib.rt:149:9
+-- src/lib.rt:150:9
 transform-blocks-same-length-6 : (t : ℕ) → transform-blocks-lts.Need-same-length-6 (transform-blocks-claims t) (transform-blocks-at t) transform-blocks.Post
 transform-blocks-same-length-6 t c = c .before .before .before .before .before .before .before .before .transform-while .kept .1 .1 .1 .1 .1 .1 .1 .1 .0
 
--- src/lib.rt:149:9
+-- src/lib.rt:150:9
 transform-blocks-same-length-7 : (t : ℕ) → transform-blocks-lts.Need-same-length-7 (transform-blocks-claims t) (transform-blocks-at t) transform-blocks.Post
 transform-blocks-same-length-7 t c = c .before .before .before .before .before .before .before .before .transform-while .kept .1 .1 .1 .1 .1 .1 .1 .1 .1 .0
 
--- src/lib.rt:149:9
+-- src/lib.rt:150:9
 transform-blocks-same-length-8 : (t : ℕ) → transform-blocks-lts.Need-same-length-8 (transform-blocks-claims t) (transform-blocks-at t) transform-blocks.Post
 transform-blocks-same-length-8 t c = c .before .before .before .before .before .before .before .before .transform-while .kept .1 .1 .1 .1 .1 .1 .1 .1 .1 .1 .0
 
--- src/lib.rt:149:9
+-- src/lib.rt:150:9
 transform-blocks-returns-2 : (t : ℕ) → transform-blocks-lts.Need-returns-2 (transform-blocks-claims t) (transform-blocks-at t) transform-blocks.Post
 transform-blocks-returns-2 t c = (
   λ T sy. record { ifs = λ h. absurd (c .before .before .before .before .before .before .before .before .before .before .before .before .before .before .if1 .left h); loops = λ h. c .before .before .before .before .before .before .before .before .transform-while .ensures .0 T sy; others = λ h g. absurd (g (c .before .before .before .before .before .before .before .before .before .before .before .before .before .if2 .taken)) },
   c .before .before .before .before .before .before .before .before .transform-while .ensures .1,
 )
 
--- src/lib.rt:151:5
+-- src/lib.rt:152:5
 transform-blocks-transform-block-requires : (t : ℕ) → transform-blocks-lts.Need-transform-block-requires (transform-blocks-claims t) (transform-blocks-at t) transform-blocks.Post
 transform-blocks-transform-block-requires t c κs =
     (omega (arith, c .before .before .before .before .before .before .before .before .before .before .before .before .before .before .pre .0), (c .before .before .before .before .before .before .before .before .before .before .before .before .before .before .pre .1 .0, c .before .before .before .before .before .before .before .before .before .before .before .before .before .before .pre .1 .1, c .before .before .before .before .before .before .before .before .before .before .before .before .before .before .pre .1 .2 .others (c .before .before .before .before .before .if1 .left)))
 
--- src/lib.rt:127:1
+-- src/lib.rt:128:1
 transform-blocks-same-length-9 : (t : ℕ) → transform-blocks-lts.Need-same-length-9 (transform-blocks-claims t) (transform-blocks-at t) transform-blocks.Post
 transform-blocks-same-length-9 t c = c .before .before .before .before .before .before .before .before .transform-block .kept .1 .1 .1 .1 .1 .1 .1 .0
 
--- src/lib.rt:127:1
+-- src/lib.rt:128:1
 transform-blocks-same-length-10 : (t : ℕ) → transform-blocks-lts.Need-same-length-10 (transform-blocks-claims t) (transform-blocks-at t) transform-blocks.Post
 transform-blocks-same-length-10 t c = c .before .before .before .before .before .before .before .before .transform-block .kept .1 .1 .1 .1 .1 .1 .1 .1 .0
 
--- src/lib.rt:127:1
+-- src/lib.rt:128:1
 transform-blocks-same-length-11 : (t : ℕ) → transform-blocks-lts.Need-same-length-11 (transform-blocks-claims t) (transform-blocks-at t) transform-blocks.Post
 transform-blocks-same-length-11 t c = c .before .before .before .before .before .before .before .before .transform-block .kept .1 .1 .1 .1 .1 .1 .1 .1 .1 .0
 
--- src/lib.rt:127:1
+-- src/lib.rt:128:1
 transform-blocks-same-length-12 : (t : ℕ) → transform-blocks-lts.Need-same-length-12 (transform-blocks-claims t) (transform-blocks-at t) transform-blocks.Post
 transform-blocks-same-length-12 t c = c .before .before .before .before .before .before .before .before .transform-block .kept .1 .1 .1 .1 .1 .1 .1 .1 .1 .1 .0
 
--- src/lib.rt:127:1
+-- src/lib.rt:128:1
 transform-blocks-returns-3 : (t : ℕ) → transform-blocks-lts.Need-returns-3 (transform-blocks-claims t) (transform-blocks-at t) transform-blocks.Post
 transform-blocks-returns-3 t c = (
   λ T sy. record { ifs = λ h. absurd (c .before .before .before .before .before .before .before .before .before .before .before .before .before .before .if1 .left h); loops = λ h. absurd (c .before .before .before .before .before .before .before .before .before .before .before .before .before .if2 .left h); others = λ h g. c .before .before .before .before .before .before .before .before .transform-block .ensures .0 T sy },
   c .before .before .before .before .before .before .before .before .transform-block .ensures .1,
 )
 
--- src/lib.rt:79:9
+-- src/lib.rt:80:9
 transform-if-transform-block-requires : (t : ℕ) → transform-if-lts.Need-transform-block-requires (transform-if-claims t) (transform-if-at t) transform-if.Post
 transform-if-transform-block-requires t c κs =
     (omega (arith, c .before .before .before .before .before .before .before .before .before .before .before .before .pre .0), (c .before .before .before .before .before .before .before .before .before .before .before .before .pre .1 .0, c .before .before .before .before .before .before .before .before .before .before .before .before .pre .1 .1, then-there _ _ _ (c .before .before .before .before .before .before .before .before .before .before .before .before .pre .1 .2)))
 
--- src/lib.rt:81:9
+-- src/lib.rt:82:9
 transform-if-same-length : (t : ℕ) → transform-if-lts.Need-same-length (transform-if-claims t) (transform-if-at t) transform-if.Post
 transform-if-same-length t c =
     c .before .before .before .before .before .before .before .before .before .before .transform-block .kept .1 .1 .1 .1 .1 .1 .1 .0
 
--- src/lib.rt:81:9
+-- src/lib.rt:82:9
 transform-if-same-length-2 : (t : ℕ) → transform-if-lts.Need-same-length-2 (transform-if-claims t) (transform-if-at t) transform-if.Post
 transform-if-same-length-2 t c =
     c .before .before .before .before .before .before .before .before .before .before .transform-block .kept .1 .1 .1 .1 .1 .1 .1 .1 .0
 
--- src/lib.rt:81:9
+-- src/lib.rt:82:9
 transform-if-same-length-3 : (t : ℕ) → transform-if-lts.Need-same-length-3 (transform-if-claims t) (transform-if-at t) transform-if.Post
 transform-if-same-length-3 t c =
     c .before .before .before .before .before .before .before .before .before .before .transform-block .kept .1 .1 .1 .1 .1 .1 .1 .1 .1 .0
 
--- src/lib.rt:81:9
+-- src/lib.rt:82:9
 transform-if-same-length-4 : (t : ℕ) → transform-if-lts.Need-same-length-4 (transform-if-claims t) (transform-if-at t) transform-if.Post
 transform-if-same-length-4 t c =
     c .before .before .before .before .before .before .before .before .before .before .transform-block .kept .1 .1 .1 .1 .1 .1 .1 .1 .1 .1 .0
 
--- src/lib.rt:81:9
+-- src/lib.rt:82:9
 transform-if-returns : (t : ℕ) → transform-if-lts.Need-returns (transform-if-claims t) (transform-if-at t) transform-if.Post
 transform-if-returns t c =
     (λ T sy. if-first T _ (λ k. omega (arith, c .before .before .before .before .before .before .before .before .before .before .before .before .before .before .before .before .before .before .before .before .before .before .shared-slice-known .given k)) _ _ _ _ _ _ _ (c .before .before .before .before .before .before .before .before .before .before .transform-block .ensures .0 T sy) (c .if1 .taken), faulty _ _ _ _ (c .if1 .taken))
 
--- src/lib.rt:85:16
+-- src/lib.rt:86:16
 transform-if-shared-slice-read-flag : (t : ℕ) → transform-if-lts.Need-shared-slice-read-flag (transform-if-claims t) (transform-if-at t) transform-if.Post
 transform-if-shared-slice-read-flag t c =
     let U = tablesOf (c .before .before .before .before .before .before .before .before .before .before .before .before .before .before .before .before .before .before .before .before .before .before .before .before .before .args .s .now) (c .before .before .before .before .before .before .before .before .before .before .before .before .before .before .before .before .before .before .before .before .before .before .before .before .before .args .ns .now) (c .before .before .before .before .before .before .before .before .before .before .before .before .before .before .before .before .before .before .before .before .before .before .before .before .before .args .ts .now) (c .before .before .before .before .before .before .before .before .before .before .before .before .before .before .before .before .before .before .before .before .before .before .before .before .before .args .xs .now) (c .before .before .before .before .before .before .before .before .before .before .before .before .before .before .before .before .before .before .before .before .before .before .before .before .before .args .env .globals) (c .before .before .before .before .before .before .before .before .before .before .before .before .before .before .before .before .before .before .before .before .before .before .before .before .before .args .env .first) in
     else-there U _ (λ k. omega (arith, c .before .before .before .before .before .before .before .before .before .before .before .before .before .before .before .before .before .before .before .before .before .before .before .before .shared-slice-known .given k)) _ _ _ _ _ _ _ (c .before .before .before .before .before .before .before .before .before .before .before .before .transform-block .ensures .0 U (said _ _ _ _ _ _)) (c .before .before .if1 .left) (c .before .before .before .before .before .before .before .before .before .before .before .before .before .before .before .before .before .before .before .before .before .before .before .before .before .pre .1 .2) .inside
 
--- src/lib.rt:86:9
+-- src/lib.rt:87:9
 transform-if-put-requires : (t : ℕ) → transform-if-lts.Need-put-requires (transform-if-claims t) (transform-if-at t) transform-if.Post
 transform-if-put-requires t c κs =
     let one : c .before .before .before .before .before .before .before .before .before .before .before .before .before .transform-block .result .fault ≡ 0 = omega (arith, c .before .before .before .if1 .left) in
     let w = within-on (c .before .before .before .before .before .before .before .before .before .before .before .before .before .before .before .before .before .before .before .before .before .before .before .before .before .before .pre .1 .1 .within) (c .before .before .before .before .before .before .before .before .before .before .before .before .before .transform-block .ensures .1 .grows one) in omega (arith, w .written, w .inside, w .small)
 
--- src/lib.rt:87:25
+-- src/lib.rt:88:25
 transform-if-add-moved-on : (t : ℕ) → transform-if-lts.Need-add-moved-on (transform-if-claims t) (transform-if-at t) transform-if.Post
 transform-if-add-moved-on t c =
     let one : c .before .before .before .before .before .before .before .before .before .before .before .before .before .before .before .before .transform-block .result .fault ≡ 0 = omega (arith, c .before .before .before .before .before .before .if1 .left) in
     let w = within-on (c .before .before .before .before .before .before .before .before .before .before .before .before .before .before .before .before .before .before .before .before .before .before .before .before .before .before .before .before .before .pre .1 .1 .within) (c .before .before .before .before .before .before .before .before .before .before .before .before .before .before .before .before .transform-block .ensures .1 .grows one) in omega (arith, w .inside, w .small)
 
--- src/lib.rt:87:9
+-- src/lib.rt:88:9
 transform-if-moved-on-requires : (t : ℕ) → transform-if-lts.Need-moved-on-requires (transform-if-claims t) (transform-if-at t) transform-if.Post
 transform-if-moved-on-requires t c κs =
     search needs
 
--- src/lib.rt:90:51
+-- src/lib.rt:91:51
 transform-if-walk-of-requires : (t : ℕ) → transform-if-lts.Need-walk-of-requires (transform-if-claims t) (transform-if-at t) transform-if.Post
 transform-if-walk-of-requires t c κs =
     search needs
 
--- src/lib.rt:90:9
+-- src/lib.rt:91:9
 transform-if-merged-requires : (t : ℕ) → transform-if-lts.Need-merged-requires (transform-if-claims t) (transform-if-at t) transform-if.Post
 transform-if-merged-requires t c κs =
     let U = tablesOf (c .before .before .before .before .before .before .before .before .before .before .before .before .before .before .before .before .before .before .before .before .before .before .before .before .before .before .before .before .before .before .before .before .before .args .s .now) (c .before .before .before .before .before .before .before .before .before .before .before .before .before .before .before .before .before .before .before .before .before .before .before .before .before .before .before .before .before .before .before .before .before .args .ns .now) (c .before .before .before .before .before .before .before .before .before .before .before .before .before .before .before .before .before .before .before .before .before .before .before .before .before .before .before .before .before .before .before .before .before .args .ts .now) (c .before .before .before .before .before .before .before .before .before .before .before .before .before .before .before .before .before .before .before .before .before .before .before .before .before .before .before .before .before .before .before .before .before .args .xs .now) (c .before .before .before .before .before .before .before .before .before .before .before .before .before .before .before .before .before .before .before .before .before .before .before .before .before .before .before .before .before .before .before .before .before .args .env .globals) (c .before .before .before .before .before .before .before .before .before .before .before .before .before .before .before .before .before .before .before .before .before .before .before .before .before .before .before .before .before .before .before .before .before .args .env .first) in
@@ -437,27 +437,27 @@ transform-if-merged-requires t c κs =
       branches-of _ _ _ same (c .before .before .before .before .before .before .before .before .before .before .before .before .before .before .before .before .before .before .before .before .transform-block .ensures .1 .framed one .sound) (c .before .before .before .before .before .before .before .before .before .before .before .before .before .before .before .before .before .before .before .before .before .before .before .before .before .before .before .before .before .before .before .before .before .pre .1 .1 .framed .sound) bs,
     )
 
--- src/lib.rt:90:9
+-- src/lib.rt:91:9
 transform-if-same-length-5 : (t : ℕ) → transform-if-lts.Need-same-length-5 (transform-if-claims t) (transform-if-at t) transform-if.Post
 transform-if-same-length-5 t c =
     c .before .before .before .before .before .before .before .put .kept .0 ∙ c .before .before .before .before .before .before .before .before .before .before .before .before .before .before .before .before .before .before .before .before .before .transform-block .kept .1 .1 .1 .1 .1 .1 .1 .0
 
--- src/lib.rt:90:9
+-- src/lib.rt:91:9
 transform-if-same-length-6 : (t : ℕ) → transform-if-lts.Need-same-length-6 (transform-if-claims t) (transform-if-at t) transform-if.Post
 transform-if-same-length-6 t c =
     c .before .before .before .before .before .before .before .before .before .before .before .before .before .before .before .before .before .before .before .before .before .transform-block .kept .1 .1 .1 .1 .1 .1 .1 .1 .0
 
--- src/lib.rt:90:9
+-- src/lib.rt:91:9
 transform-if-same-length-7 : (t : ℕ) → transform-if-lts.Need-same-length-7 (transform-if-claims t) (transform-if-at t) transform-if.Post
 transform-if-same-length-7 t c =
     c .before .before .before .before .before .before .before .before .before .before .before .before .before .before .before .before .before .before .before .before .before .transform-block .kept .1 .1 .1 .1 .1 .1 .1 .1 .1 .0
 
--- src/lib.rt:90:9
+-- src/lib.rt:91:9
 transform-if-same-length-8 : (t : ℕ) → transform-if-lts.Need-same-length-8 (transform-if-claims t) (transform-if-at t) transform-if.Post
 transform-if-same-length-8 t c =
     c .before .before .before .before .before .before .before .before .before .before .before .before .before .before .before .before .before .before .before .before .before .transform-block .kept .1 .1 .1 .1 .1 .1 .1 .1 .1 .1 .0
 
--- src/lib.rt:90:9
+-- src/lib.rt:91:9
 transform-if-returns-2 : (t : ℕ) → transform-if-lts.Need-returns-2 (transform-if-claims t) (transform-if-at t) transform-if.Post
 transform-if-returns-2 t c =
     let U = tablesOf (c .before .before .before .before .before .before .before .before .before .before .before .before .before .before .before .before .before .before .before .before .before .before .before .before .before .before .before .before .before .before .before .before .before .before .args .s .now) (c .before .before .before .before .before .before .before .before .before .before .before .before .before .before .before .before .before .before .before .before .before .before .before .before .before .before .before .before .before .before .before .before .before .before .args .ns .now) (c .before .before .before .before .before .before .before .before .before .before .before .before .before .before .before .before .before .before .before .before .before .before .before .before .before .before .before .before .before .before .before .before .before .before .args .ts .now) (c .before .before .before .before .before .before .before .before .before .before .before .before .before .before .before .before .before .before .before .before .before .before .before .before .before .before .before .before .before .before .before .before .before .before .args .xs .now) (c .before .before .before .before .before .before .before .before .before .before .before .before .before .before .before .before .before .before .before .before .before .before .before .before .before .before .before .before .before .before .before .before .before .before .args .env .globals) (c .before .before .before .before .before .before .before .before .before .before .before .before .before .before .before .before .before .before .before .before .before .before .before .before .before .before .before .before .before .before .before .before .before .before .args .env .first) in
@@ -472,7 +472,7 @@ transform-if-returns-2 t c =
           (grows-to (ap (λ (v : Walk). v .place) (c .before .walk-of .ensures)) (grows-both (c .before .before .before .before .before .before .before .before .before .before .before .before .before .before .before .before .before .before .before .before .before .transform-block .ensures .1 .grows one) on)),
     )
 
--- src/lib.rt:92:9
+-- src/lib.rt:93:9
 transform-if-transform-block-requires-2 : (t : ℕ) → transform-if-lts.Need-transform-block-requires-2 (transform-if-claims t) (transform-if-at t) transform-if.Post
 transform-if-transform-block-requires-2 t c κs =
     let U = tablesOf (c .before .before .before .before .before .before .before .before .before .before .before .before .before .before .before .before .before .before .before .before .before .before .before .before .before .before .before .before .before .before .before .before .before .before .before .before .args .s .now) (c .before .before .before .before .before .before .before .before .before .before .before .before .before .before .before .before .before .before .before .before .before .before .before .before .before .before .before .before .before .before .before .before .before .before .before .before .args .ns .now) (c .before .before .before .before .before .before .before .before .before .before .before .before .before .before .before .before .before .before .before .before .before .before .before .before .before .before .before .before .before .before .before .before .before .before .before .before .args .ts .now) (c .before .before .before .before .before .before .before .before .before .before .before .before .before .before .before .before .before .before .before .before .before .before .before .before .before .before .before .before .before .before .before .before .before .before .before .before .args .xs .now) (c .before .before .before .before .before .before .before .before .before .before .before .before .before .before .before .before .before .before .before .before .before .before .before .before .before .before .before .before .before .before .before .before .before .before .before .before .args .env .globals) (c .before .before .before .before .before .before .before .before .before .before .before .before .before .before .before .before .before .before .before .before .before .before .before .before .before .before .before .before .before .before .before .before .before .before .before .before .args .env .first) in
@@ -486,32 +486,32 @@ transform-if-transform-block-requires-2 t c κs =
       ),
     )
 
--- src/lib.rt:94:9
+-- src/lib.rt:95:9
 transform-if-same-length-9 : (t : ℕ) → transform-if-lts.Need-same-length-9 (transform-if-claims t) (transform-if-at t) transform-if.Post
 transform-if-same-length-9 t c =
     c .before .before .before .before .before .before .before .before .before .before .transform-block2 .kept .1 .1 .1 .1 .1 .1 .1 .0 ∙ c .before .before .before .before .before .before .before .before .before .before .before .before .before .before .before .before .before .before .before .before .put .kept .0 ∙ c .before .before .before .before .before .before .before .before .before .before .before .before .before .before .before .before .before .before .before .before .before .before .before .before .before .before .before .before .before .before .before .before .before .before .transform-block .kept .1 .1 .1 .1 .1 .1 .1 .0
 
--- src/lib.rt:94:9
+-- src/lib.rt:95:9
 transform-if-same-length-10 : (t : ℕ) → transform-if-lts.Need-same-length-10 (transform-if-claims t) (transform-if-at t) transform-if.Post
 transform-if-same-length-10 t c =
     c .before .before .before .before .before .before .before .before .before .before .transform-block2 .kept .1 .1 .1 .1 .1 .1 .1 .1 .0 ∙ c .before .before .before .before .before .before .before .before .before .before .before .before .before .before .before .before .before .before .before .before .before .before .before .before .before .before .before .before .before .before .before .before .before .before .transform-block .kept .1 .1 .1 .1 .1 .1 .1 .1 .0
 
--- src/lib.rt:94:9
+-- src/lib.rt:95:9
 transform-if-same-length-11 : (t : ℕ) → transform-if-lts.Need-same-length-11 (transform-if-claims t) (transform-if-at t) transform-if.Post
 transform-if-same-length-11 t c =
     c .before .before .before .before .before .before .before .before .before .before .transform-block2 .kept .1 .1 .1 .1 .1 .1 .1 .1 .1 .0 ∙ c .before .before .before .before .before .before .before .before .before .before .before .before .before .before .before .before .before .before .before .before .before .before .before .before .before .before .before .before .before .before .before .before .before .before .transform-block .kept .1 .1 .1 .1 .1 .1 .1 .1 .1 .0
 
--- src/lib.rt:94:9
+-- src/lib.rt:95:9
 transform-if-same-length-12 : (t : ℕ) → transform-if-lts.Need-same-length-12 (transform-if-claims t) (transform-if-at t) transform-if.Post
 transform-if-same-length-12 t c =
     c .before .before .before .before .before .before .before .before .before .before .transform-block2 .kept .1 .1 .1 .1 .1 .1 .1 .1 .1 .1 .0 ∙ c .before .before .before .before .before .before .before .before .before .before .before .before .before .before .before .before .before .before .before .before .before .before .before .before .before .before .before .before .before .before .before .before .before .before .transform-block .kept .1 .1 .1 .1 .1 .1 .1 .1 .1 .1 .0
 
--- src/lib.rt:94:9
+-- src/lib.rt:95:9
 transform-if-returns-3 : (t : ℕ) → transform-if-lts.Need-returns-3 (transform-if-claims t) (transform-if-at t) transform-if.Post
 transform-if-returns-3 t c =
     (λ T sy. if-second T _ (λ k. omega (arith, c .before .before .before .before .before .before .before .before .before .before .before .before .before .before .before .before .before .before .before .before .before .before .before .before .before .before .before .before .before .before .before .before .before .before .before .before .before .before .before .before .before .before .before .before .before .before .shared-slice-known .given k)) _ _ _ _ _ _ _ (c .before .before .before .before .before .before .before .before .before .before .before .before .before .before .before .before .before .before .before .before .before .before .before .before .before .before .before .before .before .before .before .before .before .before .transform-block .ensures .0 T sy) (c .before .before .before .before .before .before .before .before .before .before .before .before .before .before .before .before .before .before .before .before .before .before .before .before .if1 .left) _ _ (else-block T _ _ _ _ _ _ _ _ _ _ _ _ (c .before .before .before .before .before .before .before .before .before .before .before .before .before .before .before .before .before .moved-on .ensures) (c .before .before .before .before .before .before .before .before .before .before .before .before .before .before .before .before .before .before .before .before .put .ensures) (c .before .before .before .before .before .before .before .before .before .before .before .before .before .before .before .if2 .left) _ _ (c .before .before .before .before .before .before .before .before .before .before .transform-block2 .ensures .0 T sy)) (c .if3 .taken), faulty _ _ _ _ (c .if3 .taken))
 
--- src/lib.rt:96:5
+-- src/lib.rt:97:5
 transform-if-merged-requires-2 : (t : ℕ) → transform-if-lts.Need-merged-requires-2 (transform-if-claims t) (transform-if-at t) transform-if.Post
 transform-if-merged-requires-2 t c κs =
     let U = tablesOf (c .before .before .before .before .before .before .before .before .before .before .before .before .before .before .before .before .before .before .before .before .before .before .before .before .before .before .before .before .before .before .before .before .before .before .before .before .before .before .before .before .before .before .before .before .before .before .before .args .s .now) (c .before .before .before .before .before .before .before .before .before .before .before .before .before .before .before .before .before .before .before .before .before .before .before .before .before .before .before .before .before .before .before .before .before .before .before .before .before .before .before .before .before .before .before .before .before .before .before .args .ns .now) (c .before .before .before .before .before .before .before .before .before .before .before .before .before .before .before .before .before .before .before .before .before .before .before .before .before .before .before .before .before .before .before .before .before .before .before .before .before .before .before .before .before .before .before .before .before .before .before .args .ts .now) (c .before .before .before .before .before .before .before .before .before .before .before .before .before .before .before .before .before .before .before .before .before .before .before .before .before .before .before .before .before .before .before .before .before .before .before .before .before .before .before .before .before .before .before .before .before .before .before .args .xs .now) (c .before .before .before .before .before .before .before .before .before .before .before .before .before .before .before .before .before .before .before .before .before .before .before .before .before .before .before .before .before .before .before .before .before .before .before .before .before .before .before .before .before .before .before .before .before .before .before .args .env .globals) (c .before .before .before .before .before .before .before .before .before .before .before .before .before .before .before .before .before .before .before .before .before .before .before .before .before .before .before .before .before .before .before .before .before .before .before .before .before .before .before .before .before .before .before .before .before .before .before .args .env .first) in
@@ -526,27 +526,27 @@ transform-if-merged-requires-2 t c κs =
       record { sound = c .before .before .before .before .before .before .before .before .before .before .before .before .before .before .before .before .before .before .before .before .before .before .before .before .before .before .before .before .before .before .before .before .before .before .transform-block .ensures .1 .framed one .sound; other = c .before .before .before .before .before .before .before .before .before .before .transform-block2 .ensures .1 .framed two .sound; alike = shape-count _ _ (bs ∙ sym es) },
     )
 
--- src/lib.rt:62:1
+-- src/lib.rt:63:1
 transform-if-same-length-13 : (t : ℕ) → transform-if-lts.Need-same-length-13 (transform-if-claims t) (transform-if-at t) transform-if.Post
 transform-if-same-length-13 t c =
     c .before .before .before .before .before .before .before .before .before .before .before .transform-block2 .kept .1 .1 .1 .1 .1 .1 .1 .0 ∙ c .before .before .before .before .before .before .before .before .before .before .before .before .before .before .before .before .before .before .before .before .before .put .kept .0 ∙ c .before .before .before .before .before .before .before .before .before .before .before .before .before .before .before .before .before .before .before .before .before .before .before .before .before .before .before .before .before .before .before .before .before .before .before .transform-block .kept .1 .1 .1 .1 .1 .1 .1 .0
 
--- src/lib.rt:62:1
+-- src/lib.rt:63:1
 transform-if-same-length-14 : (t : ℕ) → transform-if-lts.Need-same-length-14 (transform-if-claims t) (transform-if-at t) transform-if.Post
 transform-if-same-length-14 t c =
     c .before .before .before .before .before .before .before .before .before .before .before .transform-block2 .kept .1 .1 .1 .1 .1 .1 .1 .1 .0 ∙ c .before .before .before .before .before .before .before .before .before .before .before .before .before .before .before .before .before .before .before .before .before .before .before .before .before .before .before .before .before .before .before .before .before .before .before .transform-block .kept .1 .1 .1 .1 .1 .1 .1 .1 .0
 
--- src/lib.rt:62:1
+-- src/lib.rt:63:1
 transform-if-same-length-15 : (t : ℕ) → transform-if-lts.Need-same-length-15 (transform-if-claims t) (transform-if-at t) transform-if.Post
 transform-if-same-length-15 t c =
     c .before .before .before .before .before .before .before .before .before .before .before .transform-block2 .kept .1 .1 .1 .1 .1 .1 .1 .1 .1 .0 ∙ c .before .before .before .before .before .before .before .before .before .before .before .before .before .before .before .before .before .before .before .before .before .before .before .before .before .before .before .before .before .before .before .before .before .before .before .transform-block .kept .1 .1 .1 .1 .1 .1 .1 .1 .1 .0
 
--- src/lib.rt:62:1
+-- src/lib.rt:63:1
 transform-if-same-length-16 : (t : ℕ) → transform-if-lts.Need-same-length-16 (transform-if-claims t) (transform-if-at t) transform-if.Post
 transform-if-same-length-16 t c =
     c .before .before .before .before .before .before .before .before .before .before .before .transform-block2 .kept .1 .1 .1 .1 .1 .1 .1 .1 .1 .1 .0 ∙ c .before .before .before .before .before .before .before .before .before .before .before .before .before .before .before .before .before .before .before .before .before .before .before .before .before .before .before .before .before .before .before .before .before .before .before .transform-block .kept .1 .1 .1 .1 .1 .1 .1 .1 .1 .1 .0
 
--- src/lib.rt:62:1
+-- src/lib.rt:63:1
 transform-if-returns-4 : (t : ℕ) → transform-if-lts.Need-returns-4 (transform-if-claims t) (transform-if-at t) transform-if.Post
 transform-if-returns-4 t c =
     let U = tablesOf (c .before .before .before .before .before .before .before .before .before .before .before .before .before .before .before .before .before .before .before .before .before .before .before .before .before .before .before .before .before .before .before .before .before .before .before .before .before .before .before .before .before .before .before .before .before .before .before .before .args .s .now) (c .before .before .before .before .before .before .before .before .before .before .before .before .before .before .before .before .before .before .before .before .before .before .before .before .before .before .before .before .before .before .before .before .before .before .before .before .before .before .before .before .before .before .before .before .before .before .before .before .args .ns .now) (c .before .before .before .before .before .before .before .before .before .before .before .before .before .before .before .before .before .before .before .before .before .before .before .before .before .before .before .before .before .before .before .before .before .before .before .before .before .before .before .before .before .before .before .before .before .before .before .before .args .ts .now) (c .before .before .before .before .before .before .before .before .before .before .before .before .before .before .before .before .before .before .before .before .before .before .before .before .before .before .before .before .before .before .before .before .before .before .before .before .before .before .before .before .before .before .before .before .before .before .before .before .args .xs .now) (c .before .before .before .before .before .before .before .before .before .before .before .before .before .before .before .before .before .before .before .before .before .before .before .before .before .before .before .before .before .before .before .before .before .before .before .before .before .before .before .before .before .before .before .before .before .before .before .before .args .env .globals) (c .before .before .before .before .before .before .before .before .before .before .before .before .before .before .before .before .before .before .before .before .before .before .before .before .before .before .before .before .before .before .before .before .before .before .before .before .before .before .before .before .before .before .before .before .before .before .before .before .args .env .first) in
@@ -573,17 +573,17 @@ transform-statements-Inv-loop s ns ts xs env total out₀ errs₀ warns₀ lefts
 abbrev transform-statements-μ-loop : transform-statements-lts.MeasureT-loop
 transform-statements-μ-loop s ns ts xs env total out₀ errs₀ warns₀ lefts₀ w₀ out errs warns lefts w = turns w
 
--- src/lib.rt:173:9
+-- src/lib.rt:174:9
 transform-statements-up-to-blocks-requires : (t : ℕ) → transform-statements-lts.Need-up-to-blocks-requires (transform-statements-claims t) (transform-statements-at t) transform-statements.Post transform-statements-Inv-loop transform-statements-μ-loop
 transform-statements-up-to-blocks-requires t c κs =
     (c .before .before .before .before .before .before .before .before .before .before .before .before .pre .1 .0, c .before .before .before .before .before .before .before .before .before .before .before .before .pre .1 .1, c .before .before .before .before .before .before .before .before .before .before .before .before .pre .1 .2)
 
--- src/lib.rt:174:5
+-- src/lib.rt:175:5
 transform-statements-loop-holds : (t : ℕ) → transform-statements-lts.Need-loop-holds (transform-statements-claims t) (transform-statements-at t) transform-statements.Post transform-statements-Inv-loop transform-statements-μ-loop
 transform-statements-loop-holds t c =
     (refl, refl, refl, refl, λ n p h. h, λ T sy n σ₀ p₀ m₀ h. h)
 
--- src/lib.rt:177:13
+-- src/lib.rt:178:13
 transform-statements-transform-blocks-requires : (t : ℕ) → transform-statements-lts.Need-transform-blocks-requires (transform-statements-claims t) (transform-statements-at t) transform-statements.Post transform-statements-Inv-loop transform-statements-μ-loop
 transform-statements-transform-blocks-requires t c κs =
     let safe = (c .before .before .before .before .before .before .before .before .loop .inv .4 _ _ (c .before .before .before .before .before .before .before .before .before .before .before .before .before .before .before .before .before .up-to-blocks .ensures .1)) in (
@@ -595,32 +595,32 @@ transform-statements-transform-blocks-requires t c κs =
       ),
     )
 
--- src/lib.rt:179:13
+-- src/lib.rt:180:13
 transform-statements-same-length : (t : ℕ) → transform-statements-lts.Need-same-length (transform-statements-claims t) (transform-statements-at t) transform-statements.Post transform-statements-Inv-loop transform-statements-μ-loop
 transform-statements-same-length t c =
     c .before .before .before .before .before .before .before .before .before .before .transform-blocks .kept .1 .1 .1 .1 .1 .1 .1 .1 .0 ∙ c .before .before .before .before .before .before .before .before .before .before .before .before .before .before .before .before .before .before .before .loop .inv .0 ∙ c .before .before .before .before .before .before .before .before .before .before .before .before .before .before .before .before .before .before .before .before .before .before .before .before .before .before .before .before .up-to-blocks .kept .1 .1 .1 .1 .1 .1 .1 .1 .0
 
--- src/lib.rt:179:13
+-- src/lib.rt:180:13
 transform-statements-same-length-2 : (t : ℕ) → transform-statements-lts.Need-same-length-2 (transform-statements-claims t) (transform-statements-at t) transform-statements.Post transform-statements-Inv-loop transform-statements-μ-loop
 transform-statements-same-length-2 t c =
     c .before .before .before .before .before .before .before .before .before .before .transform-blocks .kept .1 .1 .1 .1 .1 .1 .1 .1 .1 .0 ∙ c .before .before .before .before .before .before .before .before .before .before .before .before .before .before .before .before .before .before .before .loop .inv .1 ∙ c .before .before .before .before .before .before .before .before .before .before .before .before .before .before .before .before .before .before .before .before .before .before .before .before .before .before .before .before .up-to-blocks .kept .1 .1 .1 .1 .1 .1 .1 .1 .1 .0
 
--- src/lib.rt:179:13
+-- src/lib.rt:180:13
 transform-statements-same-length-3 : (t : ℕ) → transform-statements-lts.Need-same-length-3 (transform-statements-claims t) (transform-statements-at t) transform-statements.Post transform-statements-Inv-loop transform-statements-μ-loop
 transform-statements-same-length-3 t c =
     c .before .before .before .before .before .before .before .before .before .before .transform-blocks .kept .1 .1 .1 .1 .1 .1 .1 .1 .1 .1 .0 ∙ c .before .before .before .before .before .before .before .before .before .before .before .before .before .before .before .before .before .before .before .loop .inv .2 ∙ c .before .before .before .before .before .before .before .before .before .before .before .before .before .before .before .before .before .before .before .before .before .before .before .before .before .before .before .before .up-to-blocks .kept .1 .1 .1 .1 .1 .1 .1 .1 .1 .1 .0
 
--- src/lib.rt:179:13
+-- src/lib.rt:180:13
 transform-statements-same-length-4 : (t : ℕ) → transform-statements-lts.Need-same-length-4 (transform-statements-claims t) (transform-statements-at t) transform-statements.Post transform-statements-Inv-loop transform-statements-μ-loop
 transform-statements-same-length-4 t c =
     c .before .before .before .before .before .before .before .before .before .before .transform-blocks .kept .1 .1 .1 .1 .1 .1 .1 .1 .1 .1 .1 .0 ∙ c .before .before .before .before .before .before .before .before .before .before .before .before .before .before .before .before .before .before .before .loop .inv .3 ∙ c .before .before .before .before .before .before .before .before .before .before .before .before .before .before .before .before .before .before .before .before .before .before .before .before .before .before .before .before .up-to-blocks .kept .1 .1 .1 .1 .1 .1 .1 .1 .1 .1 .1 .0
 
--- src/lib.rt:179:13
+-- src/lib.rt:180:13
 transform-statements-returns : (t : ℕ) → transform-statements-lts.Need-returns (transform-statements-claims t) (transform-statements-at t) transform-statements.Post transform-statements-Inv-loop transform-statements-μ-loop
 transform-statements-returns t c =
     (λ T sy. (c .before .before .before .before .before .before .before .before .before .before .before .before .before .before .before .before .before .before .before .loop .inv .5 T sy _ _ _ _ (c .before .before .before .before .before .before .before .before .before .before .before .before .before .before .before .before .before .before .before .before .before .before .before .before .before .before .before .before .up-to-blocks .ensures .0 T sy _ _ _ _ (all-start T _ (λ k. omega (arith, c .before .before .before .before .before .before .before .before .before .before .before .before .before .before .before .before .before .before .before .before .before .before .before .before .before .before .before .before .before .before .before .before .before .before .before .before .before .before .before .before .shared-slice-known .given k)) _ _ _ _ _ _))) .onward (c .before .before .before .before .before .before .before .before .before .before .before .before .before .before .before .before .before .if1 .taken) _ _ (c .before .before .before .before .before .before .before .before .before .before .transform-blocks .ensures .0 T sy) .0 (c .if2 .taken), faulty _ _ _ _ (c .if2 .taken))
 
--- src/lib.rt:183:9
+-- src/lib.rt:184:9
 transform-statements-up-to-blocks-requires-2 : (t : ℕ) → transform-statements-lts.Need-up-to-blocks-requires-2 (transform-statements-claims t) (transform-statements-at t) transform-statements.Post transform-statements-Inv-loop transform-statements-μ-loop
 transform-statements-up-to-blocks-requires-2 t c κs =
     let U = tablesOf (c .before .before .before .before .before .before .before .before .before .before .before .before .before .before .before .before .before .before .before .before .before .before .before .before .before .before .before .before .before .before .before .before .before .before .before .before .before .before .before .before .before .before .before .before .before .before .before .args .s .now) (c .before .before .before .before .before .before .before .before .before .before .before .before .before .before .before .before .before .before .before .before .before .before .before .before .before .before .before .before .before .before .before .before .before .before .before .before .before .before .before .before .before .before .before .before .before .before .before .args .ns .now) (c .before .before .before .before .before .before .before .before .before .before .before .before .before .before .before .before .before .before .before .before .before .before .before .before .before .before .before .before .before .before .before .before .before .before .before .before .before .before .before .before .before .before .before .before .before .before .before .args .ts .now) (c .before .before .before .before .before .before .before .before .before .before .before .before .before .before .before .before .before .before .before .before .before .before .before .before .before .before .before .before .before .before .before .before .before .before .before .before .before .before .before .before .before .before .before .before .before .before .before .args .xs .now) (c .before .before .before .before .before .before .before .before .before .before .before .before .before .before .before .before .before .before .before .before .before .before .before .before .before .before .before .before .before .before .before .before .before .before .before .before .before .before .before .before .before .before .before .before .before .before .before .args .env .globals) (c .before .before .before .before .before .before .before .before .before .before .before .before .before .before .before .before .before .before .before .before .before .before .before .before .before .before .before .before .before .before .before .before .before .before .before .before .before .before .before .before .before .before .before .before .before .before .before .args .env .first) in
@@ -633,12 +633,12 @@ transform-statements-up-to-blocks-requires-2 t c κs =
       all-rest U _ (λ k. omega (arith, c .before .before .before .before .before .before .before .before .before .before .before .before .before .before .before .before .before .before .before .before .before .before .before .before .before .before .before .before .before .before .before .before .before .before .before .before .before .before .before .before .before .before .before .before .before .before .shared-slice-known .given k)) _ _ _ _ _ _ _ _ _ _ led (c .before .before .before .before .before .before .before .before .before .before .before .before .before .before .before .before .before .before .before .before .before .before .before .before .before .before .before .before .before .before .before .before .before .before .before .before .before .before .before .before .before .before .before .before .before .before .before .pre .1 .2),
     )
 
--- src/lib.rt:174:5
+-- src/lib.rt:175:5
 transform-statements-loop-less : (t : ℕ) → transform-statements-lts.Need-loop-less (transform-statements-claims t) (transform-statements-at t) transform-statements.Post transform-statements-Inv-loop transform-statements-μ-loop
 transform-statements-loop-less t c =
     fewer-turns (c .before .before .before .before .before .before .before .before .before .before .before .before .before .before .before .before .before .before .before .before .before .before .before .before .before .before .before .before .before .before .before .before .before .before .loop .w) (c .before .before .before .before .before .before .before .before .up-to-blocks2 .result) (c .before .before .before .before .before .before .before .before .before .before .before .before .before .before .before .before .before .before .before .before .before .before .before .before .before .before .before .before .before .before .before .before .if1 .taken) (λ h. c .before .before .before .before .before .before .before .before .up-to-blocks2 .ensures .1 .fewer h)
 
--- src/lib.rt:174:5
+-- src/lib.rt:175:5
 transform-statements-loop-again : (t : ℕ) → transform-statements-lts.Need-loop-again (transform-statements-claims t) (transform-statements-at t) transform-statements.Post transform-statements-Inv-loop transform-statements-μ-loop
 transform-statements-loop-again t c =
     let i = c .before .before .before .before .before .before .before .before .before .before .before .before .before .before .before .before .before .before .before .before .before .before .before .before .before .before .before .before .before .before .before .before .before .before .loop .inv in
@@ -652,32 +652,32 @@ transform-statements-loop-again t c =
       λ T sy n σ₀ p₀ m₀ g. c .before .before .before .before .before .before .before .before .up-to-blocks2 .ensures .0 T sy _ _ _ _ ((i .5 T sy n σ₀ p₀ m₀ g) .onward (c .before .before .before .before .before .before .before .before .before .before .before .before .before .before .before .before .before .before .before .before .before .before .before .before .before .before .before .before .before .before .before .before .if1 .taken) _ _ (c .before .before .before .before .before .before .before .before .before .before .before .before .before .before .before .before .before .before .before .before .before .before .before .before .before .transform-blocks .ensures .0 T sy) .1 (c .before .before .before .before .before .before .before .before .before .before .before .before .before .before .before .if2 .left)),
     )
 
--- src/lib.rt:187:5
+-- src/lib.rt:188:5
 transform-statements-walk-of-requires : (t : ℕ) → transform-statements-lts.Need-walk-of-requires (transform-statements-claims t) (transform-statements-at t) transform-statements.Post transform-statements-Inv-loop transform-statements-μ-loop
 transform-statements-walk-of-requires t c κs =
     search needs
 
--- src/lib.rt:155:1
+-- src/lib.rt:156:1
 transform-statements-same-length-5 : (t : ℕ) → transform-statements-lts.Need-same-length-5 (transform-statements-claims t) (transform-statements-at t) transform-statements.Post transform-statements-Inv-loop transform-statements-μ-loop
 transform-statements-same-length-5 t c =
     c .before .before .before .before .before .loop .inv .0 ∙ c .before .before .before .before .before .before .before .before .before .before .before .before .before .before .up-to-blocks .kept .1 .1 .1 .1 .1 .1 .1 .1 .0
 
--- src/lib.rt:155:1
+-- src/lib.rt:156:1
 transform-statements-same-length-6 : (t : ℕ) → transform-statements-lts.Need-same-length-6 (transform-statements-claims t) (transform-statements-at t) transform-statements.Post transform-statements-Inv-loop transform-statements-μ-loop
 transform-statements-same-length-6 t c =
     c .before .before .before .before .before .loop .inv .1 ∙ c .before .before .before .before .before .before .before .before .before .before .before .before .before .before .up-to-blocks .kept .1 .1 .1 .1 .1 .1 .1 .1 .1 .0
 
--- src/lib.rt:155:1
+-- src/lib.rt:156:1
 transform-statements-same-length-7 : (t : ℕ) → transform-statements-lts.Need-same-length-7 (transform-statements-claims t) (transform-statements-at t) transform-statements.Post transform-statements-Inv-loop transform-statements-μ-loop
 transform-statements-same-length-7 t c =
     c .before .before .before .before .before .loop .inv .2 ∙ c .before .before .before .before .before .before .before .before .before .before .before .before .before .before .up-to-blocks .kept .1 .1 .1 .1 .1 .1 .1 .1 .1 .1 .0
 
--- src/lib.rt:155:1
+-- src/lib.rt:156:1
 transform-statements-same-length-8 : (t : ℕ) → transform-statements-lts.Need-same-length-8 (transform-statements-claims t) (transform-statements-at t) transform-statements.Post transform-statements-Inv-loop transform-statements-μ-loop
 transform-statements-same-length-8 t c =
     c .before .before .before .before .before .loop .inv .3 ∙ c .before .before .before .before .before .before .before .before .before .before .before .before .before .before .up-to-blocks .kept .1 .1 .1 .1 .1 .1 .1 .1 .1 .1 .1 .0
 
--- src/lib.rt:155:1
+-- src/lib.rt:156:1
 transform-statements-returns-2 : (t : ℕ) → transform-statements-lts.Need-returns-2 (transform-statements-claims t) (transform-statements-at t) transform-statements.Post transform-statements-Inv-loop transform-statements-μ-loop
 transform-statements-returns-2 t c =
     let e = c .walk-of .ensures in
@@ -687,38 +687,38 @@ transform-statements-returns-2 t c =
       safe-over _ _ _ _ _ safe _ e,
     )
 
--- src/lib.rt:117:9
+-- src/lib.rt:118:9
 transform-while-transform-block-requires : (t : ℕ) → transform-while-lts.Need-transform-block-requires (transform-while-claims t) (transform-while-at t) transform-while.Post
 transform-while-transform-block-requires t c κs =
     (omega (arith, c .before .before .before .before .before .before .before .before .before .before .before .before .pre .0), (c .before .before .before .before .before .before .before .before .before .before .before .before .pre .1 .0, c .before .before .before .before .before .before .before .before .before .before .before .before .pre .1 .1, c .before .before .before .before .before .before .before .before .before .before .before .before .pre .1 .2))
 
--- src/lib.rt:119:9
+-- src/lib.rt:120:9
 transform-while-same-length : (t : ℕ) → transform-while-lts.Need-same-length (transform-while-claims t) (transform-while-at t) transform-while.Post
 transform-while-same-length t c = c .before .before .before .before .before .before .before .before .before .before .transform-block .kept .1 .1 .1 .1 .1 .1 .1 .0
 
--- src/lib.rt:119:9
+-- src/lib.rt:120:9
 transform-while-same-length-2 : (t : ℕ) → transform-while-lts.Need-same-length-2 (transform-while-claims t) (transform-while-at t) transform-while.Post
 transform-while-same-length-2 t c = c .before .before .before .before .before .before .before .before .before .before .transform-block .kept .1 .1 .1 .1 .1 .1 .1 .1 .0
 
--- src/lib.rt:119:9
+-- src/lib.rt:120:9
 transform-while-same-length-3 : (t : ℕ) → transform-while-lts.Need-same-length-3 (transform-while-claims t) (transform-while-at t) transform-while.Post
 transform-while-same-length-3 t c = c .before .before .before .before .before .before .before .before .before .before .transform-block .kept .1 .1 .1 .1 .1 .1 .1 .1 .1 .0
 
--- src/lib.rt:119:9
+-- src/lib.rt:120:9
 transform-while-same-length-4 : (t : ℕ) → transform-while-lts.Need-same-length-4 (transform-while-claims t) (transform-while-at t) transform-while.Post
 transform-while-same-length-4 t c = c .before .before .before .before .before .before .before .before .before .before .transform-block .kept .1 .1 .1 .1 .1 .1 .1 .1 .1 .1 .0
 
--- src/lib.rt:119:9
+-- src/lib.rt:120:9
 transform-while-returns : (t : ℕ) → transform-while-lts.Need-returns (transform-while-claims t) (transform-while-at t) transform-while.Post
 transform-while-returns t c =
     (λ T sy. loop-first T _ (λ k. omega (arith, c .before .before .before .before .before .before .before .before .before .before .before .before .before .before .before .before .before .before .before .before .before .before .shared-slice-known .given k)) _ _ _ _ _ _ _ (c .before .before .before .before .before .before .before .before .before .before .transform-block .ensures .0 T sy) (c .if1 .taken), faulty _ _ _ _ (c .if1 .taken))
 
--- src/lib.rt:123:36
+-- src/lib.rt:124:36
 transform-while-walk-of-requires : (t : ℕ) → transform-while-lts.Need-walk-of-requires (transform-while-claims t) (transform-while-at t) transform-while.Post
 transform-while-walk-of-requires t c κs =
     search needs
 
--- src/lib.rt:123:5
+-- src/lib.rt:124:5
 transform-while-merged-requires : (t : ℕ) → transform-while-lts.Need-merged-requires (transform-while-claims t) (transform-while-at t) transform-while.Post
 transform-while-merged-requires t c κs =
     let U = tablesOf (c .before .before .before .before .before .before .before .before .before .before .before .before .before .before .before .before .before .before .before .before .before .before .before .before .before .before .args .s .now) (c .before .before .before .before .before .before .before .before .before .before .before .before .before .before .before .before .before .before .before .before .before .before .before .before .before .before .args .ns .now) (c .before .before .before .before .before .before .before .before .before .before .before .before .before .before .before .before .before .before .before .before .before .before .before .before .before .before .args .ts .now) (c .before .before .before .before .before .before .before .before .before .before .before .before .before .before .before .before .before .before .before .before .before .before .before .before .before .before .args .xs .now) (c .before .before .before .before .before .before .before .before .before .before .before .before .before .before .before .before .before .before .before .before .before .before .before .before .before .before .args .env .globals) (c .before .before .before .before .before .before .before .before .before .before .before .before .before .before .before .before .before .before .before .before .before .before .before .before .before .before .args .env .first) in
@@ -731,23 +731,23 @@ transform-while-merged-requires t c κs =
       branches-of _ _ _ same (c .before .before .before .before .before .before .before .before .before .before .before .before .before .transform-block .ensures .1 .framed one .sound) (c .before .before .before .before .before .before .before .before .before .before .before .before .before .before .before .before .before .before .before .before .before .before .before .before .before .before .pre .1 .1 .framed .sound) bs,
     )
 
--- src/lib.rt:100:1
+-- src/lib.rt:101:1
 transform-while-same-length-5 : (t : ℕ) → transform-while-lts.Need-same-length-5 (transform-while-claims t) (transform-while-at t) transform-while.Post
 transform-while-same-length-5 t c = c .before .before .before .before .before .before .before .before .before .before .before .before .before .before .transform-block .kept .1 .1 .1 .1 .1 .1 .1 .0
 
--- src/lib.rt:100:1
+-- src/lib.rt:101:1
 transform-while-same-length-6 : (t : ℕ) → transform-while-lts.Need-same-length-6 (transform-while-claims t) (transform-while-at t) transform-while.Post
 transform-while-same-length-6 t c = c .before .before .before .before .before .before .before .before .before .before .before .before .before .before .transform-block .kept .1 .1 .1 .1 .1 .1 .1 .1 .0
 
--- src/lib.rt:100:1
+-- src/lib.rt:101:1
 transform-while-same-length-7 : (t : ℕ) → transform-while-lts.Need-same-length-7 (transform-while-claims t) (transform-while-at t) transform-while.Post
 transform-while-same-length-7 t c = c .before .before .before .before .before .before .before .before .before .before .before .before .before .before .transform-block .kept .1 .1 .1 .1 .1 .1 .1 .1 .1 .0
 
--- src/lib.rt:100:1
+-- src/lib.rt:101:1
 transform-while-same-length-8 : (t : ℕ) → transform-while-lts.Need-same-length-8 (transform-while-claims t) (transform-while-at t) transform-while.Post
 transform-while-same-length-8 t c = c .before .before .before .before .before .before .before .before .before .before .before .before .before .before .transform-block .kept .1 .1 .1 .1 .1 .1 .1 .1 .1 .1 .0
 
--- src/lib.rt:100:1
+-- src/lib.rt:101:1
 transform-while-returns-2 : (t : ℕ) → transform-while-lts.Need-returns-2 (transform-while-claims t) (transform-while-at t) transform-while.Post
 transform-while-returns-2 t c =
     let U = tablesOf (c .before .before .before .before .before .before .before .before .before .before .before .before .before .before .before .before .before .before .before .before .before .before .before .before .before .before .before .args .s .now) (c .before .before .before .before .before .before .before .before .before .before .before .before .before .before .before .before .before .before .before .before .before .before .before .before .before .before .before .args .ns .now) (c .before .before .before .before .before .before .before .before .before .before .before .before .before .before .before .before .before .before .before .before .before .before .before .before .before .before .before .args .ts .now) (c .before .before .before .before .before .before .before .before .before .before .before .before .before .before .before .before .before .before .before .before .before .before .before .before .before .before .before .args .xs .now) (c .before .before .before .before .before .before .before .before .before .before .before .before .before .before .before .before .before .before .before .before .before .before .before .before .before .before .before .args .env .globals) (c .before .before .before .before .before .before .before .before .before .before .before .before .before .before .before .before .before .before .before .before .before .before .before .before .before .before .before .args .env .first) in
