@@ -67,7 +67,7 @@ struct ownership_report {
 uint32_t ownership_reports(const uint32_t *numbers, size_t numbers_len, size_t count,
                            struct ownership_report *reports, size_t reports_len);
 
-/* Reads an image and answers 0 or its fault of reading, 1 to 11; lends nothing and walks nothing: of libimage.a (rt staticlib image). */
+/* Reads an image and answers 0 or its fault of reading, 1 to 11; needs no memory lent and walks nothing: of libimage.a (rt staticlib image). */
 uint64_t image_fault(const uint8_t *image, size_t image_len);
 
 #ifdef __cplusplus

@@ -14,7 +14,7 @@ use Rattle.rules.specs.Stack.{Static, Stack, Shape, shape, staticOf, has
 use Rattle.rules.specs.Rules.{holding, Drop, dropOf, Decided, excludes, register, tailDrops, decide, entered, Fresh, PlainIn, decideIn}
 use Rattle.rules.specs.Run.{Path, Task, code, returning, assigning, deleting, closing, assigned, Config, at, arrived, start, Moment, momentCode, momentTask, moment, Reached, holds, dropped, concerns, admits, concerned, Lost, Demand3}
 use Rattle.rules.proofs.Spots.{dropsAt}
-use Rattle.rules.proofs.Bools.{and-r, and-i, leb-refl}
+use Rattle.rules.proofs.Bools.{and-l, and-r, and-i, leb-refl}
 use Rattle.rules.proofs.Relate.{rel-shape}
 use Rattle.rules.proofs.Shapes.{shape-frame}
 use Rattle.rules.proofs.Order.{Under, under-refl, over-refl}
@@ -153,11 +153,17 @@ module _ (T : Tables) (params : List Param) (root : Decided) where
         (and-r (admits T (λ s. concerns (l .there .place) s) (staticOf n (shape (k′ .σ)))) (holds n (k′ .σ))
         (subst So (k′ .spec n) (subst (λ (x : List Drop). So (dropped n x)) (sym same) t))))
 
+    concerned-of : (m : Moment) (n : ℕ) (k : Known m) → So (dropped n (m .drops)) → So (concerned T m n)
+    concerned-of m n k t =
+        subst (λ (Γ : Shape). So (admits T (λ s. concerns (m .place) s) (staticOf n Γ))) (rel-shape (k .under))
+        (and-l (admits T (λ s. concerns (m .place) s) (staticOf n (shape (k .σ)))) (holds n (k .σ)) (subst So (k .spec n) t))
+
     pub demand : Demand3 T params root
     demand =
         record {
           heldAtDelete = λ choices p n t x K H cs s. good-deletes (at (deleting (dropOf p n t ∷ x) ∷ K) H cs) (good-steps T params root s (begin choices)) .0;
           passedOver = λ m r n cn h. (λ nd. lost-of m n (known-at m r) cn nd, λ l. kept-of m n (known-at m r) l);
+          concernedOnly = λ m r n t. concerned-of m n (known-at m r) t;
         }
 
 module _ (T : Tables) where

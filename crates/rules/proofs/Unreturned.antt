@@ -16,14 +16,14 @@ use Rattle.lookup.specs.Signature.{modifierIn, modifierOf, isConsuming, globalO
 use Rattle.body.specs.Expr.{Expr, countWidth, through}
 use Rattle.body.specs.Stmt.{Tree, Block, done, exprStmt, variable, assign, return, bareReturn, block, ifElse, ifThen, while, jump}
 use Rattle.rules.specs.Questions.{auto, isTempOf, isMoveOf, consumes, globalIn}
-use Rattle.rules.specs.Expr.{nobody}
+use Rattle.rules.specs.Expr.{nobody, called}
 use Rattle.rules.specs.Stack.{Stack}
 use Rattle.rules.specs.Effects.{takes, handed, finish, effects, exprStmtEffects, takeOver, assignEffects, assignTakes}
-use Rattle.rules.specs.Rules.{holding, Decided, localsOf, entered}
+use Rattle.rules.specs.Rules.{holding, dropOf, Decided, localsOf, entered}
 use Rattle.rules.specs.Report.{forget}
 use Rattle.rules.specs.Run.{returning, deleting, Config, at, Steps, arrived, onward, start, Moment, moment, Reached, holds, atReturn, Lost, Demand3}
 use Rattle.rules.specs.AsReturned.{Marked, gathered, ReturnedBody}
-use Rattle.rules.proofs.Nodes.{literal, tables, param}
+use Rattle.rules.proofs.Nodes.{ident, literal, tables, param}
 use Rattle.rules.proofs.Count.{after, after-steps}
 
 abbrev pub taking : Entry
@@ -113,3 +113,14 @@ pub not-returned : ReturnedBody tables taking returning-only (returning-only .co
 not-returned r =
     not-demanded (subst (λ (c : Decided). Demand3 tables (param 1 ∷ []) c)
     (Option·some-injective _ _ (sym (r .shown) ∙ no-return (r .marked) (r .given))) (r .plain ((tt, tt), tt)))
+
+-- nor is the returned value to be deleted: `return v;` with a delete of `v` put before it
+abbrev deletes-returned : Decided
+deletes-returned = return 11 (ident 12 1 1) 1 (dropOf 0 1 1 ∷ []) (done [])
+
+pub returned-kept : Demand3 tables (param 1 ∷ []) deletes-returned → ⊥
+unfolding sameBytes startsWith firstFrom andThen orElse inside structNamed structShaped structOfGeneric structOfTy structOf hasDestructor shouldAutoDelete classOfTy classOf auto countWidth through isTempOf isMoveOf consumes globalIn takes handed finish effects
+returned-kept d =
+    let c = start tables (param 1 ∷ []) deletes-returned [] in
+    d .concernedOnly (record { path = []; place = atReturn (called 1 12); drops = dropOf 0 1 1 ∷ []; held = held })
+    (record { choices = []; config = after tables 1 c; steps = after-steps tables 1 c; stands = refl }) 1 tt

@@ -1,9 +1,8 @@
 -- Demand 3 of the body as it is returned. Its statements bear marks: which were submitted, which are put in, which have a delete put
 -- round their result. With the marks forgotten it is what is given back; what was put in, gathered into decisions, is what runs ask about.
-use Prim.Native.Nat.{ℕ}
 use mathlib.Core.Path.{_≡_}
 use mathlib.Core.Bool.{true, false, cond}
-use mathlib.Core.List.{List, [], _∷_}
+use mathlib.Core.List.{[], _∷_}
 use mathlib.Core.Option.{Option, some, Option·map, bind}
 use lib.Dec.{eqb}
 use Rattle.tables.specs.Signature.{Entry}

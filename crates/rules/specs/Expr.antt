@@ -4,12 +4,9 @@ use mathlib.Core.Bool.{Bool, true, false, cond}
 use lib.Dec.{eqb}
 use Rattle.body.specs.Expr.{Head, Expr, Exprs, node, none, more, headOf, through, noopUnary}
 
--- HirExpr::ty and HirExpr::span, of the node as it stands
+-- HirExpr::ty, of the node as it stands
 abbrev pub tyOf : Expr → ℕ
 tyOf e = headOf e .ty
-
-abbrev pub spanOf : Expr → ℕ
-spanOf e = headOf e .span
 
 -- an Ident (name, span), a ThisLiteral (span), a FieldAccess (span, target, name), a Delete (child), a Call (callee)
 pub data View : Type 0 where

@@ -183,3 +183,5 @@ pub record Demand3 (T : Tables) (params : List Param) (body : Decided) : Type 0 
   -- a held local of a type with a destructor is passed over exactly if another run reaches the place without holding it
   pub passedOver : (m : Moment) → Reached T params body m → (n : ℕ) → So (concerned T m n) → So (holds n (m .held))
       → (So (not (dropped n (m .drops))) ↔ Lost T params body m n)
+  -- nothing else is deleted: an inserted delete is of a local of a type with a destructor that its place concerns
+  pub concernedOnly : (m : Moment) → Reached T params body m → (n : ℕ) → So (dropped n (m .drops)) → So (concerned T m n)
