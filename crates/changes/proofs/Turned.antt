@@ -45,9 +45,6 @@ Began s left ns c ns′ r =
     × Steady s left ns′ r × (r .begun ≡ true) × (r .left ≡ c .left) × (length ns′ ≡ 26) × (ahead s r ≤ ahead s c)
 
 module _ (s : List ℕ) (left : ℕ) (ns : List ℕ) (c : Cursor) (st : Steady s left ns c) where
-  pub begun-already : c .begun ≡ true → length ns ≡ 26 → Began s left ns c ns c
-  begun-already on room = (λ T all σ₀ p₀ m₀ σ out errs warns lefts g. g, st, on, refl, room, omega arith)
-
   module _ (free : c .taken ≡ Nobody) (some : 0 < c .left) (off : c .begun ≡ false) (ns′ : List ℕ) where
     start-at : topOf (opens ns′) 1 ≡ rootOf (frontAt s (c .place .at) .values) → length (opens ns′) ≡ 26
         → Began s left ns c ns′ (withinOf (c .left) 1 (frontAt s (c .place .at) .first) (c .place))
@@ -162,14 +159,14 @@ stood-as {T} {s} {left} {d} {all} {σ₀} {p₀} {m₀} {ns} {w} {y} σ {m} ch c
     subst (λ (x : Change). Stood T s left d all σ₀ p₀ m₀ ns w (applied x σ) m) f (subst (λ (x : Cursor). Stood T s left d all σ₀ p₀ m₀ ns x (applied ch σ) m) (sym e) g)
 
 -- turns that are something
-pub marks-something : (c : Cursor) (n k p : ℕ) (o : Bool) (r : Came) → r ≡ record { cursor = c; turn = Mark n k p o } → {a b : ℕ} → r .turn ≡ Nothing → a < b
-marks-something c n k p o r er e = let y : r .turn ≡ Mark n k p o = ap (λ (x : Came). x .turn) er in let z : _≡_ {A = ℕ} 0 1 = cc in absurd (omega arith)
+pub no-mark : (n k p : ℕ) (o : Bool) → Mark n k p o ≡ Nothing → ⊥
+no-mark n k p o e = let z : _≡_ {A = ℕ} 0 1 = cc in omega arith
 
-pub some-mark : (n k p : ℕ) (o : Bool) {a b : ℕ} → Mark n k p o ≡ Nothing → a < b
-some-mark n k p o e = let z : _≡_ {A = ℕ} 0 1 = cc in absurd (omega arith)
+pub no-end : Over ≡ Nothing → ⊥
+no-end e = let z : _≡_ {A = ℕ} 0 1 = cc in omega arith
 
-pub some-end : {a b : ℕ} → Over ≡ Nothing → a < b
-some-end e = let z : _≡_ {A = ℕ} 0 1 = cc in absurd (omega arith)
+pub marks-something : (c : Cursor) (n k p : ℕ) (o : Bool) (r : Came) → r ≡ record { cursor = c; turn = Mark n k p o } → r .turn ≡ Nothing → ⊥
+marks-something c n k p o r er e = no-mark n k p o (sym (ap (λ (x : Came). x .turn) er) ∙ e)
 
 -- what the loop over statements keeps
 module _ (s names types structs : List ℕ) (globals first left : ℕ) (ln lt ld : List ℕ) (at : ℕ → Status) (n mark : ℕ) (ns₀ : List ℕ) (c₀ : Cursor) (out₀ errs₀ warns₀ lefts₀ : List ℕ) where
@@ -215,8 +212,5 @@ scanned-ahead s b w old os v q on ew g n k p o e =
     let f : fuel s (v .nodes) (v .at) < fuel s (b .nodes) (b .at) = subst (λ (x : Change). CameTo x (v .nodes) (fuel s (b .nodes) (b .at)) (fuel s (v .nodes) (v .at))) e (g .came) in
     rw ew (rw on (omega arith))
 
-pub acted-ahead : (s : List ℕ) (r b : Cursor) → r .begun ≡ false → b .begun ≡ true → r .left + 1 ≡ b .left → ahead s r < ahead s b
-acted-ahead s r b off on l = let o = owes-most (r .taken) in rw (off, on) (omega arith)
-
-pub nothing-over : {t : Turn} → t ≡ Nothing → t ≡ Over → ⊥
-nothing-over e f = let z : _≡_ {A = ℕ} 0 1 = cc in omega arith
+pub acted-ahead : (s : List ℕ) (r b : Cursor) → r .begun ≡ false → r .left + 1 ≡ b .left → ahead s r < ahead s b
+acted-ahead s r b off l = let o = owes-most (r .taken) in rw off (omega arith)

@@ -1,6 +1,6 @@
 // The statements of a block over lent arrays, up to the next change of the stack.
 // Throughout, ns, ts and xs are where the names, types and structs stand in the image s, and ln, lt, ld, lk and lf the names, types,
-// depths, kinds and first places of the n locals, rows the rows of further places from `cur` on, all lent, and mark their mark.
+// depths, kinds and first places of the locals, rows the rows of further places, all lent; env has the numbers of the walk.
 ghost use mathlib.Core.Path.{_≡_};
 ghost use mathlib.Core.Bool.{true, false};
 ghost use mathlib.Core.List.{List};
@@ -15,11 +15,12 @@ ghost use Rattle.returns.specs.Front.{frontAt};
 ghost use Rattle.statements.specs.Act.{Positions, Tabled};
 ghost use Rattle.writing.specs.Memory.{Memory, memory};
 ghost use Rattle.fronts.specs.Walks.{blocked};
-ghost use Rattle.resumed.specs.States.{stateAt, AllKept};
+ghost use Rattle.resumed.specs.States.{stateAt, AllKept, Holds};
 ghost use Rattle.resumed.specs.Resumed.{opens};
 ghost use Rattle.statements.specs.declared.Named.the-variants.{Nobody};
 ghost use Rattle.changes.specs.declared.Turn.the-variants.{Nothing, Over, Mark};
 ghost use Rattle.changes.specs.Turns.{Lends, retold, betweenOf, withinOf, cameOf, Stood, After, Steady, SomeSteady, Fit, ahead};
+use resumed::Env;
 use statements::Act;
 use statements::Change;
 use statements::Named;
@@ -144,51 +145,32 @@ fn acted<'a>(
     ns: &[usize],
     ts: &[usize],
     xs: &[usize],
+    env: Env,
     ln: &'a [u16; 64],
     lt: &'a [u16; 64],
     ld: &'a [u8; 64],
-    lk: &'a [u8; 64],
-    lf: &'a [u32; 64],
-    n: usize,
-    mark: u64,
-    rows: &[u32],
-    cur: usize,
-    width: usize,
-    left: usize,
     c: Cursor,
     out: &mut [u8],
     warns: &mut [u32],
     lefts: &mut [u32],
 ) -> Came
-    requires { ⌜ Positions (now s) (now ns) (now ts) (now xs) × AllKept (now lk) (now lf) (now rows) cur width n × (left ≤ 12)
-        × SomeSteady (now s) left c × (c .begun ≡ true) × (c .nodes ≡ 0) ⌝ }
+    requires { ⌜ Positions (now s) (now ns) (now ts) (now xs) × (env .locals ≤ 64) × (env .left ≤ 12)
+        × SomeSteady (now s) (env .left) c × (c .begun ≡ true) × (c .nodes ≡ 0) ⌝ }
     ensures { λ r. ⌜ ((T : Tables) → Tabled (now (s .entry)) (now (ns .entry)) (now (ts .entry)) (now (xs .entry)) T
-        → (σ : Scope Status) → Lends T mark (now (ln .entry)) (now (lt .entry)) (now (ld .entry)) (stateAt (now (lk .entry)) (now (lf .entry)) (now (rows .entry)) cur width) n σ
+        → (at : ℕ → Status) (σ : Scope Status) → Lends T (env .mark) (now (ln .entry)) (now (lt .entry)) (now (ld .entry)) at (env .locals) σ
         → (all : ℕ) (σ₀ : Scope Status) (p₀ : Place) (m₀ : Memory) (nodes errs : List ℕ)
-        → Stood T (now (s .entry)) left (12 - left) all σ₀ p₀ m₀ nodes c σ (memory (now (out .entry)) errs (now (warns .entry)) (now (lefts .entry)))
-        → After T (now (s .entry)) left (12 - left) all σ₀ p₀ m₀ nodes (r .cursor) σ (memory (now (out .exit)) errs (now (warns .exit)) (now (lefts .exit))) (r .turn)) ⌝ }
-    ensures { λ r. ⌜ ((nodes : List ℕ) → Fit (now (s .entry)) left nodes (r .cursor) (r .turn)) × (r .cursor .left + 1 ≡ c .left) × (r .cursor .begun ≡ false) ⌝ }
+        → Stood T (now (s .entry)) (env .left) (12 - env .left) all σ₀ p₀ m₀ nodes c σ (memory (now (out .entry)) errs (now (warns .entry)) (now (lefts .entry)))
+        → After T (now (s .entry)) (env .left) (12 - env .left) all σ₀ p₀ m₀ nodes (r .cursor) σ (memory (now (out .exit)) errs (now (warns .exit)) (now (lefts .exit))) (r .turn)) ⌝ }
+    ensures { λ r. ⌜ ((nodes : List ℕ) → Fit (now (s .entry)) (env .left) nodes (r .cursor) (r .turn)) × (r .cursor .left + 1 ≡ c .left) × (r .cursor .begun ≡ false) ⌝ }
 {
     let p = c.place;
     let at = p.at;
     let tag = s[at];
     let end = c.at;
-    let a = new_acts::statement(
-        s,
-        ns,
-        ts,
-        xs,
-        ln,
-        lt,
-        ld,
-        n,
-        mark,
-        told(p, 0),
-        end,
-        out,
-        warns,
-        lefts,
-    );
+    let n = env.locals;
+    let m = env.mark;
+    let q = told(p, 0);
+    let a = new_acts::statement(s, ns, ts, xs, ln, lt, ld, n, m, q, end, out, warns, lefts);
     let y = a.place;
     let z = told(y, p.errors);
     let change = a.change;
@@ -205,6 +187,29 @@ fn owed(c: Cursor, name: u16, span: u32) -> Came
     Came {
         cursor: b,
         turn: Turn::Mark(name, 1, span, false),
+    }
+}
+
+// What comes before the next statement: a temporary still to be taken over, or the end; nothing where there is neither.
+fn due(c: Cursor) -> Came
+    ensures { λ r. ⌜ ((s : List ℕ) (left : ℕ) (nodes : List ℕ) → Steady s left nodes c → Fit s left nodes (r .cursor) (r .turn)
+        × (r .turn ≡ Nothing → (c .taken ≡ Nobody) × (0 < c .left)) × ((r .turn ≡ Nothing → ⊥) → (r .turn ≡ Over → ⊥) → ahead s (r .cursor) < ahead s c)
+        × ((T : Tables) (all : ℕ) (σ₀ : Scope Status) (p₀ : Place) (m₀ : Memory) (σ : Scope Status) (m : Memory)
+        → Stood T s left (12 - left) all σ₀ p₀ m₀ nodes c σ m → After T s left (12 - left) all σ₀ p₀ m₀ nodes (r .cursor) σ m (r .turn))) ⌝ }
+{
+    let taken = c.taken;
+    if let Named::Called(name, span) = taken {
+        return owed(c, name, span);
+    }
+    if c.left == 0 {
+        return Came {
+            cursor: c,
+            turn: Turn::Over,
+        };
+    }
+    Came {
+        cursor: c,
+        turn: Turn::Nothing,
     }
 }
 
@@ -226,109 +231,57 @@ fn begun(s: &[u8], left: usize, nodes: &mut [u64; 26], c: Cursor) -> Cursor
     within(c.left, 1, f.first, p)
 }
 
-// The next statement, or what is left of its values, up to a change of the stack; nothing where it changes none.
-fn one_turn<'a>(
+// The values of the statement that is begun, scanned on up to a change of the stack; nothing where they are through.
+fn scanned<'a>(
     s: &[u8],
     ns: &[usize],
     ts: &[usize],
     xs: &[usize],
-    globals: usize,
-    first: usize,
-    left: usize,
+    env: Env,
     ln: &'a [u16; 64],
-    lt: &'a [u16; 64],
-    ld: &'a [u8; 64],
     lk: &'a [u8; 64],
     lf: &'a [u32; 64],
-    n: usize,
-    mark: u64,
     rows: &[u32],
-    cur: usize,
-    width: usize,
     nodes: &mut [u64; 26],
     c: Cursor,
-    out: &mut [u8],
     errs: &mut [u32],
-    warns: &mut [u32],
-    lefts: &mut [u32],
 ) -> Came
-    requires { ⌜ Lent (now s) (now ns) (now ts) (now xs) globals first × AllKept (now lk) (now lf) (now rows) cur width n × (left ≤ 12)
-        × Steady (now s) left (now nodes) c × (length (now nodes) ≡ 26) ⌝ }
-    ensures { λ r. ⌜ ((T : Tables) → Says (now (s .entry)) (now (ns .entry)) (now (ts .entry)) (now (xs .entry)) globals first T
-        → (σ : Scope Status) → Lends T mark (now (ln .entry)) (now (lt .entry)) (now (ld .entry)) (stateAt (now (lk .entry)) (now (lf .entry)) (now (rows .entry)) cur width) n σ
-        → (all : ℕ) (σ₀ : Scope Status) (p₀ : Place) (m₀ : Memory)
-        → Stood T (now (s .entry)) left (12 - left) all σ₀ p₀ m₀ (now (nodes .entry)) c σ (memory (now (out .entry)) (now (errs .entry)) (now (warns .entry)) (now (lefts .entry)))
-        → After T (now (s .entry)) left (12 - left) all σ₀ p₀ m₀ (now (nodes .exit)) (r .cursor) σ (memory (now (out .exit)) (now (errs .exit)) (now (warns .exit)) (now (lefts .exit))) (r .turn)) ⌝ }
-    ensures { λ r. ⌜ Fit (now (s .entry)) left (now (nodes .exit)) (r .cursor) (r .turn) × (length (now (nodes .exit)) ≡ 26) × (r .turn ≡ Nothing → r .cursor .left < c .left)
-        × ((r .turn ≡ Over → ⊥) → ahead (now (s .entry)) (r .cursor) < ahead (now (s .entry)) c) ⌝ }
+    requires { ⌜ Lent (now s) (now ns) (now ts) (now xs) (env .globals) (env .first) × AllKept (now lk) (now lf) (now rows) (env .cur) (env .width) (env .locals)
+        × Steady (now s) (env .left) (now nodes) c × (c .begun ≡ true) ⌝ }
+    ensures { λ r. ⌜ ((T : Tables) → Says (now (s .entry)) (now (ns .entry)) (now (ts .entry)) (now (xs .entry)) (env .globals) (env .first) T
+        → (σ : Scope Status) → Holds (now (ln .entry)) (stateAt (now (lk .entry)) (now (lf .entry)) (now (rows .entry)) (env .cur) (env .width)) (env .locals) σ
+        → (all : ℕ) (σ₀ : Scope Status) (p₀ : Place) (m₀ : Memory) (out warns lefts : List ℕ)
+        → Stood T (now (s .entry)) (env .left) (12 - env .left) all σ₀ p₀ m₀ (now (nodes .entry)) c σ (memory out (now (errs .entry)) warns lefts)
+        → After T (now (s .entry)) (env .left) (12 - env .left) all σ₀ p₀ m₀ (now (nodes .exit)) (r .cursor) σ (memory out (now (errs .exit)) warns lefts) (r .turn)) ⌝ }
+    ensures { λ r. ⌜ Fit (now (s .entry)) (env .left) (now (nodes .exit)) (r .cursor) (r .turn) × (length (now (nodes .exit)) ≡ 26)
+        × (r .turn ≡ Nothing → (r .cursor .begun ≡ true) × (r .cursor .nodes ≡ 0) × (r .cursor .left ≡ c .left))
+        × ((r .turn ≡ Nothing → ⊥) → ahead (now (s .entry)) (r .cursor) < ahead (now (s .entry)) c) ⌝ }
 {
-    let taken = c.taken;
-    if let Named::Called(name, span) = taken {
-        return owed(c, name, span);
-    }
-    if c.left == 0 {
-        return Came {
-            cursor: c,
-            turn: Turn::Over,
-        };
-    }
-    let b = begun(s, left, nodes, c);
-    let p = b.place;
-    let v = resumed::scan_on(
-        s,
-        ns,
-        ts,
-        xs,
-        globals,
-        first,
-        ln,
-        lk,
-        lf,
-        n,
-        rows,
-        cur,
-        width,
-        nodes,
-        b.nodes,
-        b.at,
-        errs,
-        p.errors,
-    );
+    let p = c.place;
+    let k = c.nodes;
+    let at = c.at;
+    let n = p.errors;
+    let v = resumed::scan_on(s, ns, ts, xs, env, ln, lk, lf, rows, nodes, k, at, errs, n);
     let q = told(p, v.told);
-    let w = within(b.left, v.nodes, v.at, q);
+    let w = within(c.left, v.nodes, v.at, q);
     let change = v.change;
-    if let resumed::Change::Mark(name, kind, span, alive) = change {
-        return Came {
+    match change {
+        resumed::Change::Nothing => Came {
+            cursor: w,
+            turn: Turn::Nothing,
+        },
+        resumed::Change::Mark(name, kind, span, alive) => Came {
             cursor: w,
             turn: Turn::Mark(name, kind, span, alive),
-        };
+        },
     }
-    acted(
-        s,
-        ns,
-        ts,
-        xs,
-        ln,
-        lt,
-        ld,
-        lk,
-        lf,
-        n,
-        mark,
-        rows,
-        cur,
-        width,
-        left,
-        w,
-        out,
-        warns,
-        lefts,
-    )
 }
 
-fn is_nothing(turn: Turn) -> bool
-    ensures { λ r. ⌜ (r ≡ true → turn ≡ Nothing) × (r ≡ false → turn ≡ Nothing → ⊥) ⌝ }
+// Whether nothing is to be done.
+fn is_nothing(came: Came) -> bool
+    ensures { λ r. ⌜ (r ≡ true → came .turn ≡ Nothing) × (r ≡ false → came .turn ≡ Nothing → ⊥) ⌝ }
 {
+    let turn = came.turn;
     match turn {
         Turn::Nothing => true,
         Turn::Over => false,
@@ -344,19 +297,13 @@ pub fn next_change<'a>(
     ns: &[usize],
     ts: &[usize],
     xs: &[usize],
-    globals: usize,
-    first: usize,
-    left: usize,
+    env: Env,
     ln: &'a [u16; 64],
     lt: &'a [u16; 64],
     ld: &'a [u8; 64],
     lk: &'a [u8; 64],
     lf: &'a [u32; 64],
-    n: usize,
-    mark: u64,
     rows: &[u32],
-    cur: usize,
-    width: usize,
     nodes: &mut [u64; 26],
     cursor: Cursor,
     out: &mut [u8],
@@ -364,45 +311,30 @@ pub fn next_change<'a>(
     warns: &mut [u32],
     lefts: &mut [u32],
 ) -> Came
-    requires { ⌜ Lent (now s) (now ns) (now ts) (now xs) globals first × AllKept (now lk) (now lf) (now rows) cur width n × (left ≤ 12)
-        × Steady (now s) left (now nodes) cursor × (length (now nodes) ≡ 26) ⌝ }
-    ensures { λ r. ⌜ ((T : Tables) → Says (now (s .entry)) (now (ns .entry)) (now (ts .entry)) (now (xs .entry)) globals first T
-        → (σ : Scope Status) → Lends T mark (now (ln .entry)) (now (lt .entry)) (now (ld .entry)) (stateAt (now (lk .entry)) (now (lf .entry)) (now (rows .entry)) cur width) n σ
+    requires { ⌜ Lent (now s) (now ns) (now ts) (now xs) (env .globals) (env .first) × AllKept (now lk) (now lf) (now rows) (env .cur) (env .width) (env .locals)
+        × (env .left ≤ 12) × Steady (now s) (env .left) (now nodes) cursor × (length (now nodes) ≡ 26) ⌝ }
+    ensures { λ r. ⌜ ((T : Tables) → Says (now (s .entry)) (now (ns .entry)) (now (ts .entry)) (now (xs .entry)) (env .globals) (env .first) T
+        → (σ : Scope Status)
+        → Lends T (env .mark) (now (ln .entry)) (now (lt .entry)) (now (ld .entry)) (stateAt (now (lk .entry)) (now (lf .entry)) (now (rows .entry)) (env .cur) (env .width)) (env .locals) σ
         → (all : ℕ) (σ₀ : Scope Status) (p₀ : Place) (m₀ : Memory)
-        → Stood T (now (s .entry)) left (12 - left) all σ₀ p₀ m₀ (now (nodes .entry)) cursor σ (memory (now (out .entry)) (now (errs .entry)) (now (warns .entry)) (now (lefts .entry)))
-        → After T (now (s .entry)) left (12 - left) all σ₀ p₀ m₀ (now (nodes .exit)) (r .cursor) σ (memory (now (out .exit)) (now (errs .exit)) (now (warns .exit)) (now (lefts .exit))) (r .turn)) ⌝ }
-    ensures { λ r. ⌜ Fit (now (s .entry)) left (now (nodes .exit)) (r .cursor) (r .turn) × (length (now (nodes .exit)) ≡ 26) × (r .turn ≡ Nothing → ⊥)
+        → Stood T (now (s .entry)) (env .left) (12 - env .left) all σ₀ p₀ m₀ (now (nodes .entry)) cursor σ (memory (now (out .entry)) (now (errs .entry)) (now (warns .entry)) (now (lefts .entry)))
+        → After T (now (s .entry)) (env .left) (12 - env .left) all σ₀ p₀ m₀ (now (nodes .exit)) (r .cursor) σ (memory (now (out .exit)) (now (errs .exit)) (now (warns .exit)) (now (lefts .exit))) (r .turn)) ⌝ }
+    ensures { λ r. ⌜ Fit (now (s .entry)) (env .left) (now (nodes .exit)) (r .cursor) (r .turn) × (length (now (nodes .exit)) ≡ 26) × (r .turn ≡ Nothing → ⊥)
         × ((r .turn ≡ Over → ⊥) → ahead (now (s .entry)) (r .cursor) < ahead (now (s .entry)) cursor) ⌝ }
 {
     let mut c = cursor;
     loop {
-        let r = one_turn(
-            s,
-            ns,
-            ts,
-            xs,
-            globals,
-            first,
-            left,
-            ln,
-            lt,
-            ld,
-            lk,
-            lf,
-            n,
-            mark,
-            rows,
-            cur,
-            width,
-            nodes,
-            c,
-            out,
-            errs,
-            warns,
-            lefts,
-        );
-        let turn = r.turn;
-        if !is_nothing(turn) {
+        let o = due(c);
+        if !is_nothing(o) {
+            return o;
+        }
+        let b = begun(s, env.left, nodes, c);
+        let w = scanned(s, ns, ts, xs, env, ln, lk, lf, rows, nodes, b, errs);
+        if !is_nothing(w) {
+            return w;
+        }
+        let r = acted(s, ns, ts, xs, env, ln, lt, ld, w.cursor, out, warns, lefts);
+        if !is_nothing(r) {
             return r;
         }
         c = r.cursor;

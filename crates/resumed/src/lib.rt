@@ -32,6 +32,18 @@ pub enum Change {
     Mark(u16, u8, u32, bool),
 }
 
+// The numbers of a walk: how many globals there are and where the first stands; the depth that is left for blocks; how many locals there
+// are, and their mark; where their rows start, and the places that a row has room for.
+pub struct Env {
+    pub globals: usize,
+    pub first: usize,
+    pub left: usize,
+    pub locals: usize,
+    pub mark: u64,
+    pub cur: usize,
+    pub width: usize,
+}
+
 // How many numbers of the list of errors there are after an effect, and the change.
 pub struct Answer {
     pub told: usize,
@@ -450,25 +462,21 @@ pub fn scan_on<'a>(
     ns: &[usize],
     ts: &[usize],
     xs: &[usize],
-    globals: usize,
-    first: usize,
+    env: Env,
     ln: &'a [u16; 64],
     lk: &'a [u8; 64],
     lf: &'a [u32; 64],
-    n: usize,
     rows: &[u32],
-    cur: usize,
-    width: usize,
     nodes: &mut [u64; 26],
     count: usize,
     at: usize,
     errs: &mut [u32],
     told: usize,
 ) -> Scanned
-    requires { ⌜ Lent (now s) (now ns) (now ts) (now xs) globals first × AllKept (now lk) (now lf) (now rows) cur width n
+    requires { ⌜ Lent (now s) (now ns) (now ts) (now xs) (env .globals) (env .first) × AllKept (now lk) (now lf) (now rows) (env .cur) (env .width) (env .locals)
         × Ready (now s) (opens (now nodes)) count at × (told + 12 * fuel (now s) count at < 4294967000) ⌝ }
-    ensures { λ r. ⌜ ((T : Tables) → Says (now (s .entry)) (now (ns .entry)) (now (ts .entry)) (now (xs .entry)) globals first T
-        → (σ : Scope Status) → Holds (now (ln .entry)) (stateAt (now (lk .entry)) (now (lf .entry)) (now (rows .entry)) cur width) n σ
+    ensures { λ r. ⌜ ((T : Tables) → Says (now (s .entry)) (now (ns .entry)) (now (ts .entry)) (now (xs .entry)) (env .globals) (env .first) T
+        → (σ : Scope Status) → Holds (now (ln .entry)) (stateAt (now (lk .entry)) (now (lf .entry)) (now (rows .entry)) (env .cur) (env .width)) (env .locals) σ
         → Onward T (now (s .entry)) (opens (now (nodes .entry))) count at σ (now (errs .entry)) told
         (opens (now (nodes .exit))) (r .nodes) (r .at) (applied (r .change) σ) (now (errs .exit)) (r .told))
         × Going (now (s .entry)) (opens (now (nodes .entry))) count at told (opens (now (nodes .exit))) r ⌝ }
@@ -477,10 +485,13 @@ pub fn scan_on<'a>(
     let mut p = at;
     let mut t = told;
     while 0 < depth {
-        let r = step_on(s, ns, ts, xs, globals, first, nodes, depth, p);
+        let r = step_on(s, ns, ts, xs, env.globals, env.first, nodes, depth, p);
         depth = depth - 1 + r.held;
         p = r.at;
         let effect = r.effect;
+        let n = env.locals;
+        let cur = env.cur;
+        let width = env.width;
         let a = effect_on(effect, ln, lk, lf, n, rows, cur, width, errs, t);
         t = a.told;
         let change = a.change;
