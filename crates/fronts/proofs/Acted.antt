@@ -42,7 +42,7 @@ use Rattle.steps.proofs.Faults.{real-none, real-own}
 use Rattle.steps.proofs.Shaped.{shape-values, nested-own}
 use Rattle.fronts.specs.declared.Walk.{Walk}
 use Rattle.writing.specs.Memory.{Memory, memory}
-use Rattle.fronts.specs.Walks.{Ready, Safe, StmtDone, BlocksWalk, TagThere, IfWalks, TagWalks, Settles, blocked, FrontWalks, FrontSafe}
+use Rattle.fronts.specs.Walks.{Walked, Ready, Safe, StmtDone, BlocksWalk, TagThere, IfWalks, TagWalks, Settles, blocked, FrontWalks, FrontSafe}
 use Rattle.fronts.proofs.Wrotes.{within-on}
 use Rattle.fronts.proofs.Fronts.{plain-done, blocks-done}
 use Rattle.fronts.proofs.Block.{block-blocks}
@@ -134,7 +134,7 @@ module _ (s : List ℕ) (small : Bytes s) (t : Reading) (deep : t .exprDepth ≡
       either-block false false false ea eb ec h n = false-true h
 
   -- and what it says of the statement
-  module _ (T : Tables) (d : ℕ) (σ : Scope Status) (m : Memory) (r : Walk) (m′ : Memory) (w : TagWalks T s left d (getD s at 0) σ z m r m′) (c : Tree) where
+  module _ (T : Tables) (d : ℕ) (σ : Scope Status) (m : Memory) (r : Walked) (m′ : Memory) (w : TagWalks T s left d (getD s at 0) σ z m r m′) (c : Tree) where
     as-tree : (a b : Tree) → a ≡ b → BlocksWalk T b d σ z m r m′ next → BlocksWalk T a d σ z m r m′ next
     as-tree a b e h = subst (λ (y : Tree). BlocksWalk T y d σ z m r m′ next) (sym e) h
 
@@ -210,10 +210,10 @@ module _ (T : Tables) (s : List ℕ) (small : Bytes s) (left : ℕ) (st : Stack)
     told c = evaluated-errors s t deep left (p .at) x next read small c T (view st) errs (p .errors) errs₁ e ev
 
     -- a statement with blocks
-    pub with-blocks : (r : Walk) (m′ : Memory) → TagWalks T s left d (getD s (p .at) 0) (view (e .stack)) z (memory out₁ errs₁ warns₁ lefts₁) r m′
+    pub with-blocks : (r : Walked) (m′ : Memory) → TagWalks T s left d (getD s (p .at) 0) (view (e .stack)) z (memory out₁ errs₁ warns₁ lefts₁) r m′
         → blocked (getD s (p .at) 0) ≡ true → (c : Tree)
         → (r .fault ≡ numberOf (ownFault T (before x c) d (view st)))
-        × (ownFault T (before x c) d (view st) ≡ none → StmtDone T (before x c) d (view st) p (memory out errs warns lefts) (r .place) m′ (view (r .stack)) next)
+        × (ownFault T (before x c) d (view st) ≡ none → StmtDone T (before x c) d (view st) p (memory out errs warns lefts) (r .place) m′ (r .locals) next)
     with-blocks r m′ w has c =
         let b = tag-walks s small t deep left (p .at) x next read z front-behind T d (view (e .stack)) (memory out₁ errs₁ warns₁ lefts₁) r m′ w c has in
         let g = subst (λ (τ : Scope Status). BlocksWalk T (before x c) d τ z (memory out₁ errs₁ warns₁ lefts₁) r m′ next) (located c) b in

@@ -21,9 +21,8 @@ use Rattle.rules.specs.Walk.{walkFault}
 use Rattle.writing.proofs.Stores.{two-length, four-length}
 use Rattle.steps.specs.Own.{numberOf}
 use Rattle.statements.specs.declared.Place.{Place}
-use Rattle.fronts.specs.declared.Walk.{Walk}
 use Rattle.writing.specs.Memory.{Memory}
-use Rattle.fronts.specs.Walks.{BlockDone, BlocksWalk}
+use Rattle.fronts.specs.Walks.{Walked, BlockDone, BlocksWalk}
 
 -- where a block ends
 pub block-end : (s : List ℕ) → Bytes s → (t : Reading) (left at : ℕ) (b : Block) (next : ℕ) → blockAt t s left at ≡ ok b next → next ≡ at + (6 + codeBytes (b .code))
@@ -38,7 +37,7 @@ block-end s small t left at b next e =
 
 module _ (T : Tables) (s : List ℕ) (small : Bytes s) (t : Reading) (left d : ℕ) (σ : Scope Status) (p : Place) (m : Memory) where
   -- a Block statement
-  pub block-blocks : (b : Block) (r : Walk) (m′ : Memory) (next : ℕ) → (r .fault ≡ numberOf (walkFault version1 T (b .code) (suc d) σ))
+  pub block-blocks : (b : Block) (r : Walked) (m′ : Memory) (next : ℕ) → (r .fault ≡ numberOf (walkFault version1 T (b .code) (suc d) σ))
       × (walkFault version1 T (b .code) (suc d) σ ≡ none → BlockDone T b (suc d) σ p m r m′ next) → (c : Tree) → BlocksWalk T (block (b .span) (b .code) c) d σ p m r m′ next
   block-blocks b r m′ next h c = record {
     fault = h .0;

@@ -20,18 +20,16 @@ use Rattle.rules.specs.Report.{Report, errors, warnings, lefts}
 use Rattle.rules.specs.Verdict.{entriesOf}
 use Rattle.writing.specs.Stored.{Stored}
 use Rattle.validation.specs.Quiet.{toldAll}
-use Rattle.scope.specs.View.{view}
 use Rattle.steps.specs.Statement.{valuesOf, frontSize, frontDrops, frontReports, settle}
 use Rattle.steps.specs.Own.{nothing, both, blocksSize, blocksOwn, valued, frontOwn, ownFault, blockless}
 use Rattle.steps.proofs.Lists.{Errors, errors-append, warnings-append, lefts-append, all-errors, front-errors}
 use Rattle.steps.proofs.Before.{stmt-end}
 use Rattle.steps.proofs.Plain.{blockless-own, blockless-after, blockless-size}
 use Rattle.statements.specs.declared.Place.{Place}
-use Rattle.fronts.specs.declared.Walk.{Walk}
 use Rattle.statements.specs.declared.Act.{Act}
 use Rattle.statements.specs.Act.{Acts}
 use Rattle.writing.specs.Memory.{Memory}
-use Rattle.fronts.specs.Walks.{Wrote, StmtDone, BlocksWalk}
+use Rattle.fronts.specs.Walks.{Walked, Wrote, StmtDone, BlocksWalk}
 use Rattle.fronts.proofs.Wrotes.{stored-as, wrote-both, wrote-nothing, wrote-as}
 
 and-none : (a b : Bool) → a ≡ b → a ≡ (b && true)
@@ -107,8 +105,8 @@ module _ (T : Tables) (c : Tree) (d : ℕ) (σ : Scope Status) (p q : Place) (a 
   }
 
   -- a statement with blocks
-  pub blocks-done : (r : Walk) (m′ : Memory) (next : ℕ) → BlocksWalk T c d (valued T c σ) (a .place) after-it r m′ next → ownFault T c d σ ≡ none
-      → StmtDone T c d σ p before-it (r .place) m′ (view (r .stack)) next
+  pub blocks-done : (r : Walked) (m′ : Memory) (next : ℕ) → BlocksWalk T c d (valued T c σ) (a .place) after-it r m′ next → ownFault T c d σ ≡ none
+      → StmtDone T c d σ p before-it (r .place) m′ (r .locals) next
   blocks-done r m′ next g clear =
       let b = g .done clear in
       record {

@@ -27,7 +27,7 @@ use Rattle.fronts.specs.declared.Walk.{Walk}
 use Rattle.fronts.specs.declared.Quietly.{Quietly}
 use Rattle.fronts.specs.declared.Reached.{Reached}
 use Rattle.writing.specs.Memory.{Memory}
-use Rattle.fronts.specs.Walks.{Safe, Leads, LeadsAll, StmtsThere, StmtWalks, StmtsWalk, QuietWalks, blocked, FrontWalks, FrontSafe, Reaches, ReachSafe}
+use Rattle.fronts.specs.Walks.{Walked, walkedOf, Safe, Leads, LeadsAll, StmtsThere, StmtWalks, StmtsWalk, QuietWalks, blocked, FrontWalks, FrontSafe, Reaches, ReachSafe}
 use Rattle.fronts.proofs.Leads.{next-of, leads-start, leads-next, leads-fault, leads-end}
 
 -- the first fault is that of both
@@ -65,17 +65,17 @@ module _ (T : Tables) (s : List ℕ) (small : Bytes s) (left d total : ℕ) (σ�
         let a = w .walks did t deep (k .x) (k .next) (k .read) (k .rest) in
         leads-next T s small t left d total c σ₀ p₀ m₀ end n σ p m lt l k (r .place) m′ σ (a .0) (a .1)
 
-    pub all-loud : 0 < n → (r : Walk) (m′ : Memory) → r .fault ≤ 0 → StmtWalks T s left d σ p m r m′ → LeadsAll T s left d total σ₀ p₀ m₀ (n - 1) (view (r .stack)) (r .place) m′
+    pub all-loud : 0 < n → (r : Walked) (m′ : Memory) → r .fault ≤ 0 → StmtWalks T s left d σ p m r m′ → LeadsAll T s left d total σ₀ p₀ m₀ (n - 1) (r .locals) (r .place) m′
     all-loud lt r m′ z w t deep c end e =
         let l = g t deep c end e in
         let k = next-of T s small t left d total c σ₀ p₀ m₀ end n σ p m lt l in
         let a = w .walks t deep (k .x) (k .next) (k .read) (k .rest) in
         let f = a .0 in
         let clear = real-none (ownFault T (before (k .x) (k .rest)) d σ) (real-own T (before (k .x) (k .rest)) d σ) (sym f ∙ omega arith) in
-        leads-next T s small t left d total c σ₀ p₀ m₀ end n σ p m lt l k (r .place) m′ (view (r .stack)) clear (a .1 clear)
+        leads-next T s small t left d total c σ₀ p₀ m₀ end n σ p m lt l k (r .place) m′ (r .locals) clear (a .1 clear)
 
     -- a fault is the first
-    pub all-fault : 0 < n → (r : Walk) (m′ : Memory) → 0 < r .fault → StmtWalks T s left d σ p m r m′ → StmtsWalk T s left d total σ₀ p₀ m₀ r m′
+    pub all-fault : 0 < n → (r : Walked) (m′ : Memory) → 0 < r .fault → StmtWalks T s left d σ p m r m′ → StmtsWalk T s left d total σ₀ p₀ m₀ r m′
     all-fault lt r m′ z w = record {
       walks = λ t deep c end e.
           let l = g t deep c end e in
@@ -88,7 +88,7 @@ module _ (T : Tables) (s : List ℕ) (small : Bytes s) (left d total : ℕ) (σ�
           (f, λ h. let y = f ∙ ap numberOf h in absurd (omega arith));
     }
 
-    pub all-end : n ≤ 0 → (r : Walk) → r .fault ≡ 0 → r .place ≡ p → view (r .stack) ≡ σ → StmtsWalk T s left d total σ₀ p₀ m₀ r m
+    pub all-end : n ≤ 0 → (r : Walked) → r .fault ≡ 0 → r .place ≡ p → r .locals ≡ σ → StmtsWalk T s left d total σ₀ p₀ m₀ r m
     all-end z r ef ep es = record {
       walks = λ t deep c end e.
           let l = g t deep c end e in
@@ -96,7 +96,7 @@ module _ (T : Tables) (s : List ℕ) (small : Bytes s) (left d total : ℕ) (σ�
           let l0 = subst (λ (k : ℕ). Leads T s t left d total c σ₀ p₀ m₀ k σ p m end) zero l in
           let over = leads-end T s t left d total c σ₀ p₀ m₀ end σ p m l0 .0 in (
             ef ∙ ap numberOf (sym (l0 .fault ∙ ap (λ (x : Tree). walkFault version1 T x d σ) over ∙ no-walk T d σ)),
-            λ h. subst (λ (x : Place). Leads T s t left d total c σ₀ p₀ m₀ 0 (view (r .stack)) x m end) (sym ep)
+            λ h. subst (λ (x : Place). Leads T s t left d total c σ₀ p₀ m₀ 0 (r .locals) x m end) (sym ep)
                 (subst (λ (x : Scope Status). Leads T s t left d total c σ₀ p₀ m₀ 0 x p m end) (sym es) l0),
           );
     }
@@ -105,7 +105,7 @@ module _ (T : Tables) (s : List ℕ) (small : Bytes s) (left d total : ℕ) (σ�
     pub reach-end : n ≤ 0 → (st : Stack) → view st ≡ σ → (r : Reached) → r ≡ record { fault = 0; tag = 0; left = 0; place = p; stack = st } → Reaches T s left d total σ₀ p₀ m₀ r m
     reach-end z st es r e =
         subst (λ (v : Reached). Reaches T s left d total σ₀ p₀ m₀ v m) (sym e) (record {
-          over = λ h. all-end z (record { fault = 0; sure = false; place = p; stack = st }) refl refl es;
+          over = λ h. all-end z (record { fault = 0; sure = false; place = p; locals = view st }) refl refl es;
           onward = λ h. absurd (omega arith);
         })
 
@@ -114,7 +114,7 @@ module _ (T : Tables) (s : List ℕ) (small : Bytes s) (left d total : ℕ) (σ�
     reach-fault lt w m′ lw f safe k r e =
         let whole = f .whole (plain (blocked (getD s (p .at) 0)) refl) in
         subst (λ (v : Reached). Reaches T s left d total σ₀ p₀ m₀ v m′) (sym e) (record {
-          over = λ h. all-fault lt (record { fault = w .fault; sure = false; place = w .place; stack = w .stack }) m′ lw (record { walks = whole .walks });
+          over = λ h. all-fault lt (record { fault = w .fault; sure = false; place = w .place; locals = view (w .stack) }) m′ lw (record { walks = whole .walks });
           onward = λ h. absurd (omega arith);
         })
       where
@@ -196,8 +196,8 @@ fewer-turns w v h f = go (w .tag) (v .tag) h f
 
 -- the walk of all statements, where no blocks were reached
 pub reach-over : (T : Tables) (s : List ℕ) (left d total : ℕ) (σ₀ : Scope Status) (p₀ : Place) (m₀ : Memory) (r : Reached) (m : Memory) → Reaches T s left d total σ₀ p₀ m₀ r m → r .tag ≡ 0
-    → (w : Walk) → w ≡ record { fault = r .fault; sure = false; place = r .place; stack = r .stack } → StmtsWalk T s left d total σ₀ p₀ m₀ w m
-reach-over T s left d total σ₀ p₀ m₀ r m g z w e = subst (λ (v : Walk). StmtsWalk T s left d total σ₀ p₀ m₀ v m) (sym e) (g .over z)
+    → (w : Walk) → w ≡ record { fault = r .fault; sure = false; place = r .place; stack = r .stack } → StmtsWalk T s left d total σ₀ p₀ m₀ (walkedOf w) m
+reach-over T s left d total σ₀ p₀ m₀ r m g z w e = subst (λ (v : Walk). StmtsWalk T s left d total σ₀ p₀ m₀ (walkedOf v) m) (sym e) (g .over z)
 
 pub safe-over : (s : List ℕ) (left n : ℕ) (p : Place) (r : Reached) → ReachSafe s left n p r → (w : Walk) → w ≡ record { fault = r .fault; sure = false; place = r .place; stack = r .stack }
     → Safe s (12 - left) p w

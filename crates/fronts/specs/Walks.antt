@@ -34,6 +34,17 @@ use Rattle.fronts.specs.declared.Quietly.{Quietly}
 use Rattle.fronts.specs.declared.Reached.{Reached}
 use Rattle.steps.specs.Own.{numberOf, Own, returned, blocksOwn, blocksFault, blocksAfter, blockOwn, own, ownFault, ownAfter, valued}
 
+-- what a walk comes to: its fault or 0, whether it surely returns, where it stands, the locals
+pub record Walked : Type 0 where
+  pub fault : ℕ
+  pub sure : Bool
+  pub place : Place
+  pub locals : Scope Status
+
+-- what the code's struct says
+abbrev pub walkedOf : Walk → Walked
+walkedOf r = record { fault = r .fault; sure = r .sure; place = r .place; locals = view (r .stack) }
+
 -- from one place to another o was stored, its bytes as far as no block counts too many
 pub record Wrote (o : Own) (p : Place) (m : Memory) (q : Place) (m′ : Memory) : Type 0 where
   pub bytes : q .fits ≡ true → Stored (m .out) (p .written) (o .bytes) (m′ .out) (q .written)
@@ -52,22 +63,22 @@ pub record StmtDone (T : Tables) (c : Tree) (d : ℕ) (σ : Scope Status) (p : P
   pub locals : σ′ ≡ ownAfter T c d σ
 
 -- a statement of a block of depth d, whose own blocks have so much depth left, before whatever follows it
-pub record StmtWalks (T : Tables) (s : List ℕ) (left d : ℕ) (σ : Scope Status) (p : Place) (m : Memory) (r : Walk) (m′ : Memory) : Type 0 where
+pub record StmtWalks (T : Tables) (s : List ℕ) (left d : ℕ) (σ : Scope Status) (p : Place) (m : Memory) (r : Walked) (m′ : Memory) : Type 0 where
   pub walks : (t : Reading) → t .exprDepth ≡ 24 → (x : Stmt) (next : ℕ) → stmtIn t s left (p .at) ≡ ok x next → (c : Tree)
       → (r .fault ≡ numberOf (ownFault T (before x c) d σ))
-      × (ownFault T (before x c) d σ ≡ none → StmtDone T (before x c) d σ p m (r .place) m′ (view (r .stack)) next)
+      × (ownFault T (before x c) d σ ≡ none → StmtDone T (before x c) d σ p m (r .place) m′ (r .locals) next)
 
 -- a block without a fault
-pub record BlockDone (T : Tables) (b : Block) (d : ℕ) (σ : Scope Status) (p : Place) (m : Memory) (r : Walk) (m′ : Memory) (next : ℕ) : Type 0 where
+pub record BlockDone (T : Tables) (b : Block) (d : ℕ) (σ : Scope Status) (p : Place) (m : Memory) (r : Walked) (m′ : Memory) (next : ℕ) : Type 0 where
   pub wrote : Wrote (blockOwn T (b .span) (b .code) d (p .at) σ) p m (r .place) m′
   pub inserted : r .place .inserted ≡ p .inserted
   pub last : r .place .last ≡ p .last
   pub at : r .place .at ≡ next
-  pub locals : view (r .stack) ≡ exit states T (b .code) d σ
+  pub locals : r .locals ≡ exit states T (b .code) d σ
   pub sure : r .sure ≡ sureFrom (b .code) false
 
 -- a block of depth d with so much depth left
-pub record BlockWalks (T : Tables) (s : List ℕ) (left d : ℕ) (σ : Scope Status) (p : Place) (m : Memory) (r : Walk) (m′ : Memory) : Type 0 where
+pub record BlockWalks (T : Tables) (s : List ℕ) (left d : ℕ) (σ : Scope Status) (p : Place) (m : Memory) (r : Walked) (m′ : Memory) : Type 0 where
   pub walks : (t : Reading) → t .exprDepth ≡ 24 → (b : Block) (next : ℕ) → blockAt t s left (p .at) ≡ ok b next
       → (r .fault ≡ numberOf (walkFault version1 T (b .code) d σ))
       × (walkFault version1 T (b .code) d σ ≡ none → BlockDone T b d σ p m r m′ next)
@@ -104,20 +115,20 @@ pub record Leads (T : Tables) (s : List ℕ) (t : Reading) (left d total : ℕ) 
   pub last : n < total → (x : Stmt) × (e : ℕ) × (stmtIn t s left (p .last) ≡ ok x e) × (f ≡ sureFrom (before x (done tt)) false)
 
 -- so many statements of a block of depth d, whose own blocks have so much depth left
-pub record StmtsWalk (T : Tables) (s : List ℕ) (left d total : ℕ) (σ : Scope Status) (p : Place) (m : Memory) (r : Walk) (m′ : Memory) : Type 0 where
+pub record StmtsWalk (T : Tables) (s : List ℕ) (left d total : ℕ) (σ : Scope Status) (p : Place) (m : Memory) (r : Walked) (m′ : Memory) : Type 0 where
   pub walks : (t : Reading) → t .exprDepth ≡ 24 → (c : Tree) (end : ℕ) → stmtsAt t s left total (p .at) ≡ ok c end
       → (r .fault ≡ numberOf (walkFault version1 T c d σ))
-      × (walkFault version1 T c d σ ≡ none → Leads T s t left d total c σ p m 0 (view (r .stack)) (r .place) m′ end)
+      × (walkFault version1 T c d σ ≡ none → Leads T s t left d total c σ p m 0 (r .locals) (r .place) m′ end)
 
 -- the blocks of the statement c of a block of depth d, without a fault
-pub record BlocksDone (T : Tables) (c : Tree) (d : ℕ) (σ : Scope Status) (p : Place) (m : Memory) (r : Walk) (m′ : Memory) (next : ℕ) : Type 0 where
+pub record BlocksDone (T : Tables) (c : Tree) (d : ℕ) (σ : Scope Status) (p : Place) (m : Memory) (r : Walked) (m′ : Memory) (next : ℕ) : Type 0 where
   pub wrote : Wrote (blocksOwn T c d (p .at) σ) p m (r .place) m′
   pub inserted : r .place .inserted ≡ p .inserted
   pub last : r .place .last ≡ p .last
   pub at : r .place .at ≡ next
-  pub locals : view (r .stack) ≡ blocksAfter T c d σ
+  pub locals : r .locals ≡ blocksAfter T c d σ
 
-pub record BlocksWalk (T : Tables) (c : Tree) (d : ℕ) (σ : Scope Status) (p : Place) (m : Memory) (r : Walk) (m′ : Memory) (next : ℕ) : Type 0 where
+pub record BlocksWalk (T : Tables) (c : Tree) (d : ℕ) (σ : Scope Status) (p : Place) (m : Memory) (r : Walked) (m′ : Memory) (next : ℕ) : Type 0 where
   pub fault : r .fault ≡ numberOf (blocksFault T c d σ)
   pub done : blocksFault T c d σ ≡ none → BlocksDone T c d σ p m r m′ next
 
@@ -144,18 +155,18 @@ pub record TagThere (s : List ℕ) (left at tag : ℕ) : Type 0 where
   pub others : (tag ≡ 7 → ⊥) → BlockThere s left at
 
 -- the blocks of an IfElse, of a While, of a statement of a tag, whatever was read there
-pub record IfWalks (T : Tables) (s : List ℕ) (left d : ℕ) (σ : Scope Status) (p : Place) (m : Memory) (r : Walk) (m′ : Memory) : Type 0 where
+pub record IfWalks (T : Tables) (s : List ℕ) (left d : ℕ) (σ : Scope Status) (p : Place) (m : Memory) (r : Walked) (m′ : Memory) : Type 0 where
   pub without : (t : Reading) → t .exprDepth ≡ 24 → (b : Block) (q : ℕ) → blockAt t s left (p .at) ≡ ok b q → getD s q 0 ≡ 0 → (sp : ℕ) (x : Expr) (c : Tree)
       → BlocksWalk T (ifThen sp x (b .span) (b .code) c) d σ p m r m′ (q + 1)
   pub with : (t : Reading) → t .exprDepth ≡ 24 → (b : Block) (q : ℕ) → blockAt t s left (p .at) ≡ ok b q → getD s q 0 ≡ 1
       → (u : Block) (next : ℕ) → blockAt t s left (q + 1) ≡ ok u next → (sp : ℕ) (x : Expr) (c : Tree)
       → BlocksWalk T (ifElse sp x (b .span) (b .code) (u .span) (u .code) c) d σ p m r m′ next
 
-pub record LoopWalks (T : Tables) (s : List ℕ) (left d : ℕ) (σ : Scope Status) (p : Place) (m : Memory) (r : Walk) (m′ : Memory) : Type 0 where
+pub record LoopWalks (T : Tables) (s : List ℕ) (left d : ℕ) (σ : Scope Status) (p : Place) (m : Memory) (r : Walked) (m′ : Memory) : Type 0 where
   pub walks : (t : Reading) → t .exprDepth ≡ 24 → (b : Block) (q : ℕ) → blockAt t s left (p .at) ≡ ok b q → (sp : ℕ) (x : Expr) (c : Tree)
       → BlocksWalk T (while sp x (b .span) (b .code) c) d σ p m r m′ q
 
-pub record TagWalks (T : Tables) (s : List ℕ) (left d tag : ℕ) (σ : Scope Status) (p : Place) (m : Memory) (r : Walk) (m′ : Memory) : Type 0 where
+pub record TagWalks (T : Tables) (s : List ℕ) (left d tag : ℕ) (σ : Scope Status) (p : Place) (m : Memory) (r : Walked) (m′ : Memory) : Type 0 where
   pub ifs : tag ≡ 7 → IfWalks T s left d σ p m r m′
   pub loops : tag ≡ 8 → LoopWalks T s left d σ p m r m′
   pub others : (tag ≡ 7 → ⊥) → (tag ≡ 8 → ⊥) → BlockWalks T s left (suc d) σ p m r m′
@@ -184,8 +195,8 @@ blocked tag = eqb tag 1 || (eqb tag 7 || eqb tag 8)
 
 -- a statement of a block of depth d up to its blocks: without blocks it is walked, with blocks it is once they are
 pub record FrontWalks (T : Tables) (s : List ℕ) (left d : ℕ) (σ : Scope Status) (p : Place) (m : Memory) (r : Walk) (m′ : Memory) : Type 0 where
-  pub whole : blocked (getD s (p .at) 0) ≡ false → StmtWalks T s left d σ p m r m′
-  pub front : blocked (getD s (p .at) 0) ≡ true → (w : Walk) (m″ : Memory)
+  pub whole : blocked (getD s (p .at) 0) ≡ false → StmtWalks T s left d σ p m (walkedOf r) m′
+  pub front : blocked (getD s (p .at) 0) ≡ true → (w : Walked) (m″ : Memory)
       → TagWalks T s left d (getD s (p .at) 0) (view (r .stack)) (r .place) m′ w m″ → StmtWalks T s left d σ p m w m″
 
 -- and what its blocks require
@@ -197,10 +208,10 @@ pub record FrontSafe (s : List ℕ) (left : ℕ) (p : Place) (r : Walk) : Type 0
 -- Behind statements of a block that lead to the blocks of one of them, or to the end or a fault: all are walked, or once these blocks
 -- are walked, the walk has led to the statements left.
 pub record Reaches (T : Tables) (s : List ℕ) (left d total : ℕ) (σ₀ : Scope Status) (p₀ : Place) (m₀ : Memory) (r : Reached) (m : Memory) : Type 0 where
-  pub over : r .tag ≡ 0 → StmtsWalk T s left d total σ₀ p₀ m₀ (record { fault = r .fault; sure = false; place = r .place; stack = r .stack }) m
-  pub onward : 0 < r .tag → (w : Walk) (m′ : Memory) → TagWalks T s left d (r .tag) (view (r .stack)) (r .place) m w m′
+  pub over : r .tag ≡ 0 → StmtsWalk T s left d total σ₀ p₀ m₀ (record { fault = r .fault; sure = false; place = r .place; locals = view (r .stack) }) m
+  pub onward : 0 < r .tag → (w : Walked) (m′ : Memory) → TagWalks T s left d (r .tag) (view (r .stack)) (r .place) m w m′
       → (0 < w .fault → StmtsWalk T s left d total σ₀ p₀ m₀ w m′)
-      × (w .fault ≤ 0 → LeadsAll T s left d total σ₀ p₀ m₀ (r .left) (view (w .stack)) (w .place) m′)
+      × (w .fault ≤ 0 → LeadsAll T s left d total σ₀ p₀ m₀ (r .left) (w .locals) (w .place) m′)
 
 -- what these blocks require, from a place with n statements before the end
 pub record ReachSafe (s : List ℕ) (left n : ℕ) (p : Place) (r : Reached) : Type 0 where
