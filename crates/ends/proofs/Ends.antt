@@ -21,7 +21,7 @@ use Rattle.drops.specs.declared.Which.the-variants.{Frame}
 use Rattle.drops.proofs.Laws.{none-put}
 use Rattle.writing.specs.Stored.{Stored}
 use Rattle.statements.specs.declared.Place.{Place}
-use Rattle.fronts.specs.declared.Walk.{Walk}
+use Rattle.fronts.specs.Walks.{Walked}
 use Rattle.ends.specs.Ends.{tail, LastReturns, Ends}
 
 -- so many deletes are stored
@@ -49,21 +49,21 @@ frame-left d depth st after e h sound is = record {
   nested = subst (λ (σ : Scope Status). Nested d (shape σ)) (sym (is ∙ ap (λ (k : ℕ). pop k (view st)) e)) (nested-leave d (view st) (h .nested));
 }
 
--- the walk that the code gives back
-abbrev endedAt : Place → Place → ℕ → Bool → Bool → Stack → Walk
+-- what the walk comes to
+abbrev endedAt : Place → Place → ℕ → Bool → Bool → Scope Status → Walked
 endedAt start p written fits sure after = record {
   fault = 0;
   sure = sure;
   place = record { at = p .at; last = start .last; written = written; errors = p .errors; warnings = p .warnings; lefts = p .lefts; inserted = start .inserted; fits = fits };
-  stack = after;
+  locals = after;
 }
 
 -- the end of a block, from its parts: total, span and depth as the code has them
 module _ (T : Tables) (s : List ℕ) (left d : ℕ) (σ : Scope Status) (start : Place) (gap : ℕ) (p : Place) (out : List ℕ) where
-  pub block-ends : {mid out′ : List ℕ} {total span depth written count next : ℕ} {sure fits : Bool} {after : Stack} → total ≡ two s (start .at + 4)
+  pub block-ends : {mid out′ : List ℕ} {total span depth written count next : ℕ} {sure fits : Bool} {after : Scope Status} → total ≡ two s (start .at + 4)
       → span ≡ four s (start .at) → depth ≡ d → LastReturns s (left - 1) total (p .last) sure
       → Puts out (p .written) (tail T sure depth span σ) mid written count → Stored mid gap (twoBytes ((total + p .inserted + count) % 65536)) out′ next
-      → fits ≡ (p .fits && leb (total + p .inserted + count) 65535) → view after ≡ pop depth σ
+      → fits ≡ (p .fits && leb (total + p .inserted + count) 65535) → after ≡ pop depth σ
       → Ends T s left d σ start gap p out (endedAt start p written fits sure after) out′
   block-ends {mid} {out′} {total} {span} {depth} {written} {count} {next} {sure} {fits} {after} et es ed last put stored fit is =
       let tails : tail T sure depth span σ ≡ tail T sure d (four s (start .at)) σ = rw (es, ed) in

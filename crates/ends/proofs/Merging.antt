@@ -13,6 +13,7 @@ use Rattle.scope.specs.declared.Stack.{Stack}
 use Rattle.scope.specs.declared.Next.{Next}
 use Rattle.steps.specs.Own.{numberOf}
 use Rattle.fronts.specs.declared.Walk.{Walk}
+use Rattle.fronts.specs.Walks.{walkedOf}
 use Rattle.ends.specs.Ends.{Merges, MergesAll}
 
 module _ (a b : Bool) (base then other : Stack) (h : Sound base × Branches then other) where
@@ -42,16 +43,16 @@ module _ (a : Bool) (base then : Stack) (w : Walk) (x : Next) (m : MergesAll a (
   numbered b e = ap (λ (c : Bool). numberOf (cond c (some 13) none)) (sym e)
 
   abbrev Both : Walk → Type 0
-  Both v = Merges a (view base) (view then) w v × (v .fault ≡ 0 → Sound (v .stack))
+  Both v = Merges a (view base) (view then) (walkedOf w) (walkedOf v) × (v .fault ≡ 0 → Sound (v .stack))
 
   pub merged-wide : x .ok ≡ false → r ≡ record { fault = 13; sure = false; place = w .place; stack = x .stack }
-      → Merges a (view base) (view then) w r × (r .fault ≡ 0 → Sound (r .stack))
+      → Merges a (view base) (view then) (walkedOf w) (walkedOf r) × (r .fault ≡ 0 → Sound (r .stack))
   merged-wide off e =
       subst Both (sym e)
       (record { fault = numbered true (not-false wide (sym (m .ok) ∙ off)); place = refl; locals = λ z. absurd (omega arith) }, λ z. absurd (omega arith))
 
   pub merged-fits : x .ok ≡ true → r ≡ record { fault = 0; sure = false; place = w .place; stack = x .stack }
-      → Merges a (view base) (view then) w r × (r .fault ≡ 0 → Sound (r .stack))
+      → Merges a (view base) (view then) (walkedOf w) (walkedOf r) × (r .fault ≡ 0 → Sound (r .stack))
   merged-fits on e =
       subst Both (sym e)
       (record { fault = numbered false (not-true wide (sym (m .ok) ∙ on)); place = refl; locals = λ z. m .is on .0 }, λ z. m .is on .1)

@@ -27,6 +27,7 @@ use Rattle.returns.specs.Returns.{StmtThere}
 use Rattle.statements.specs.declared.Place.{Place}
 use Rattle.statements.specs.Act.{Within}
 use Rattle.fronts.specs.declared.Walk.{Walk}
+use Rattle.fronts.specs.Walks.{Walked}
 use Rattle.steps.specs.Own.{numberOf}
 
 -- the deletes at the end of a block of depth d and span sp, unless it surely returns
@@ -34,7 +35,7 @@ abbrev pub tail : Tables → Bool → ℕ → ℕ → Scope Status → List Drop
 tail T sure d sp σ = cond sure [] (tailDrops states T d sp σ)
 
 -- the end of the block that began at a place, its count to be stored in the gap, of whatever statement was read last
-pub record Ends (T : Tables) (s : List ℕ) (left d : ℕ) (σ : Scope Status) (start : Place) (gap : ℕ) (p : Place) (out : List ℕ) (r : Walk) (out′ : List ℕ) : Type 0 where
+pub record Ends (T : Tables) (s : List ℕ) (left d : ℕ) (σ : Scope Status) (start : Place) (gap : ℕ) (p : Place) (out : List ℕ) (r : Walked) (out′ : List ℕ) : Type 0 where
   pub none-last : two s (start .at + 4) ≡ 0 → r .sure ≡ false
   pub some-last : 0 < two s (start .at + 4) → (t : Reading) → t .exprDepth ≡ 24 → (x : Stmt) (next : ℕ) → stmtIn t s (left - 1) (p .last) ≡ ok x next
       → r .sure ≡ sureFrom (before x (done tt)) false
@@ -50,13 +51,13 @@ pub record Ends (T : Tables) (s : List ℕ) (left d : ℕ) (σ : Scope Status) (
   pub warnings : r .place .warnings ≡ p .warnings
   pub lefts : r .place .lefts ≡ p .lefts
   pub fault : r .fault ≡ 0
-  pub locals : view (r .stack) ≡ pop d σ
+  pub locals : r .locals ≡ pop d σ
 
 -- merge_control_flow_states behind two branches, w being the walk behind the second
-pub record Merges (b : Bool) (σ τ : Scope Status) (w r : Walk) : Type 0 where
-  pub fault : r .fault ≡ numberOf (tooWide version1 (not b && not (w .sure)) (joins states τ (view (w .stack))))
+pub record Merges (b : Bool) (σ τ : Scope Status) (w r : Walked) : Type 0 where
+  pub fault : r .fault ≡ numberOf (tooWide version1 (not b && not (w .sure)) (joins states τ (w .locals)))
   pub place : r .place ≡ w .place
-  pub locals : r .fault ≡ 0 → view (r .stack) ≡ merge states b (w .sure) σ τ (view (w .stack))
+  pub locals : r .fault ≡ 0 → r .locals ≡ merge states b (w .sure) σ τ (w .locals)
 
 pub record MergesAll (a b : Bool) (σ τ υ : Scope Status) (r : Next) : Type 0 where
   pub ok : r .ok ≡ not ((not a && not b) && crowded version1 (joins states τ υ))

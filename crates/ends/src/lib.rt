@@ -11,6 +11,7 @@ ghost use Rattle.scope.specs.View.{view, Sound, Branches};
 ghost use Rattle.writing.specs.Stored.{Stored};
 ghost use Rattle.drops.specs.Drops.{deleteBytes, Askable, Tells};
 ghost use Rattle.returns.specs.Returns.{StmtThere};
+ghost use Rattle.fronts.specs.Walks.{walkedOf};
 ghost use Rattle.ends.specs.Ends.{EndThere, EndSafe, MergesAll, Merges, LastReturns, tail, Ends};
 use fronts::Walk;
 use scope::Next;
@@ -52,7 +53,7 @@ fn merge_control_flow_states(
 // The walk behind two branches, w being that behind the second; fault 13: a ninth place.
 pub fn merged(then_returns: bool, base: Stack, then: Stack, w: Walk) -> Walk
     requires { ⌜ Sound base × Branches then (w .stack) ⌝ }
-    ensures { λ r. ⌜ Merges «then_returns» (view base) (view then) w r × (r .fault ≡ 0 → Sound (r .stack)) ⌝ }
+    ensures { λ r. ⌜ Merges «then_returns» (view base) (view then) (walkedOf w) (walkedOf r) × (r .fault ≡ 0 → Sound (r .stack)) ⌝ }
 {
     let p = w.place;
     let other = w.stack;
@@ -135,7 +136,7 @@ pub fn end_block(
     out: &mut [u8],
 ) -> Walk
     requires { ⌜ Askable (now s) (now ts) (now xs) × EndThere (now s) left start gap p st ⌝ }
-    ensures { λ r. ⌜ ((T : Tables) → Tells (now (s .entry)) (now (ts .entry)) (now (xs .entry)) T → Ends T (now (s .entry)) left (suc (12 - left)) (view st) start gap p (now (out .entry)) r (now (out .exit)))
+    ensures { λ r. ⌜ ((T : Tables) → Tells (now (s .entry)) (now (ts .entry)) (now (xs .entry)) T → Ends T (now (s .entry)) left (suc (12 - left)) (view st) start gap p (now (out .entry)) (walkedOf r) (now (out .exit)))
         × EndSafe left p r ⌝ }
 {
     let depth = (13 - left) as u8;

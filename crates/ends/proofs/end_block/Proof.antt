@@ -16,67 +16,67 @@ use Rattle.ends.proofs.put_tail.Reads as put-tail-reads
 use Rattle.scope.proofs.Stack.leave_block.Reads as leave-block-reads
 use Rattle.writing.proofs.put_two.Reads as put-two-reads
 
--- src/lib.rt:141:18
+-- src/lib.rt:142:18
 sub-depth : tie.Need-sub-depth
 sub-depth c = search needs
 
--- src/lib.rt:141:17
+-- src/lib.rt:142:17
 cast-depth : tie.Need-cast-depth
 cast-depth c = search needs
 
--- src/lib.rt:142:35
+-- src/lib.rt:143:35
 add-two-at : tie.Need-add-two-at
 add-two-at c = search needs
 
--- src/lib.rt:142:9
+-- src/lib.rt:143:9
 two-at-requires : tie.Need-two-at-requires
 two-at-requires c κs = search needs
 
--- src/lib.rt:143:34
+-- src/lib.rt:144:34
 sub-ends-in-return : tie.Need-sub-ends-in-return
 sub-ends-in-return c = search needs
 
--- src/lib.rt:143:9
+-- src/lib.rt:144:9
 ends-in-return-requires : tie.Need-ends-in-return-requires
 ends-in-return-requires c κs = (c .before .before .before .before .before .before .pre .1 .within .small, λ h. c .before .before .before .before .before .before .pre .1 .last (omega (arith, h, c .two-at .ensures .0)))
 
--- src/lib.rt:144:9
+-- src/lib.rt:145:9
 span-at-requires : tie.Need-span-at-requires
 span-at-requires c κs = search needs
 
--- src/lib.rt:145:9
+-- src/lib.rt:146:9
 put-tail-requires : tie.Need-put-tail-requires
 put-tail-requires c κs = search needs
 
--- src/lib.rt:146:17
+-- src/lib.rt:147:17
 add-count : tie.Need-add-count
 add-count c = omega (arith, c .before .before .before .before .before .before .before .two-at .ensures .1, c .before .before .before .before .before .before .before .before .before .before .before .before .before .pre .1 .within .inserted, c .before .before .before .before .before .before .before .before .before .before .before .before .before .pre .1 .within .inside, c .before .before .before .before .before .before .before .before .before .before .before .before .before .pre .1 .within .small)
 
--- src/lib.rt:146:17
+-- src/lib.rt:147:17
 add-count-2 : tie.Need-add-count-2
 add-count-2 c = omega (arith, c .before .before .before .before .before .before .before .before .two-at .ensures .1, c .before .before .before .before .before .before .before .before .before .before .before .before .before .before .pre .1 .within .inserted, c .before .before .before .before .before .before .before .before .before .before .before .before .before .before .pre .1 .within .inside, c .before .before .before .before .before .before .before .before .before .before .before .before .before .before .pre .1 .within .small, c .before .before .before .before .put-tail .ensures .2)
 
--- src/lib.rt:147:32
+-- src/lib.rt:148:32
 cast-put-two : tie.Need-cast-put-two
 cast-put-two c = search needs
 
--- src/lib.rt:147:5
+-- src/lib.rt:148:5
 put-two-requires : tie.Need-put-two-requires
 put-two-requires c κs = omega (arith, c .before .before .before .before .before .before .before .before .before .before .before .before .before .before .before .pre .1 .gap-low)
 
--- src/lib.rt:156:15
+-- src/lib.rt:157:15
 fitting-requires : tie.Need-fitting-requires
 fitting-requires c κs = search needs
 
--- src/lib.rt:158:9
+-- src/lib.rt:159:9
 leave-block-requires : tie.Need-leave-block-requires
 leave-block-requires c κs = subst (λ (k : ℕ). Framed k (c .before .before .before .before .before .before .before .before .before .before .before .before .before .before .before .before .before .before .before .args .st)) (sym (depth-is (c .before .before .before .before .before .before .before .before .before .before .before .before .before .before .before .before .before .before .before .args .left) (c .before .before .before .before .before .before .before .before .before .before .before .before .before .before .before .before .before .before .before .pre .1 .low) (c .before .before .before .before .before .before .before .before .before .before .before .before .before .before .before .before .before .before .before .pre .1 .high))) (c .before .before .before .before .before .before .before .before .before .before .before .before .before .before .before .before .before .before .before .pre .1 .framed)
 
--- src/lib.rt:126:1
+-- src/lib.rt:127:1
 same-length : tie.Need-same-length
 same-length c = search needs
 
--- src/lib.rt:126:1
+-- src/lib.rt:127:1
 returns : tie.Need-returns
 returns c =
     let deep = depth-is (c .before .before .before .before .before .before .before .before .before .before .before .before .before .before .before .before .before .before .before .before .args .left) (c .before .before .before .before .before .before .before .before .before .before .before .before .before .before .before .before .before .before .before .before .pre .1 .low) (c .before .before .before .before .before .before .before .before .before .before .before .before .before .before .before .before .before .before .before .before .pre .1 .high) in (

@@ -5,11 +5,11 @@ use Rattle.ends.proofs.fitting.Tie as tie
 use Rattle.ends.proofs.fitting.Reads as reads
 use Rattle.ends.proofs.fitting.Lts as lts
 
--- src/lib.rt:120:9
+-- src/lib.rt:121:9
 returns : tie.Need-returns
 returns c = rw (c .if1 .taken) refl
 
--- src/lib.rt:116:1
+-- src/lib.rt:117:1
 returns-2 : tie.Need-returns-2
 returns-2 c = search needs
 
