@@ -29,9 +29,8 @@ use Rattle.writing.proofs.Stores.{both-stored, patched, two-length}
 use Rattle.steps.specs.Own.{returned}
 use Rattle.steps.proofs.Steps.{inserts-bytes, inserts-size, inserts-fit}
 use Rattle.statements.specs.declared.Place.{Place}
-use Rattle.fronts.specs.declared.Walk.{Walk}
 use Rattle.writing.specs.Memory.{Memory}
-use Rattle.fronts.specs.Walks.{Leads, BlockDone}
+use Rattle.fronts.specs.Walks.{Walked, Leads, BlockDone}
 use Rattle.ends.specs.Ends.{tail, Ends}
 use Rattle.fronts.proofs.Wrotes.{and-left, stored-as}
 use Rattle.fronts.proofs.Leads.{leads-end}
@@ -73,7 +72,7 @@ pub record Inside (s : List ℕ) (p q : Place) (gap : ℕ) : Type 0 where
   pub fits : q .fits ≡ p .fits
 
 module _ (T : Tables) (s : List ℕ) (t : Reading) (deep : t .exprDepth ≡ 24) (left d : ℕ) (b : Block) (n : ℕ) (σ σ′ : Scope Status)
-    (p q p′ : Place) (m m₁ m₂ : Memory) (gap : ℕ) (r : Walk) (out′ : List ℕ)
+    (p q p′ : Place) (m m₁ m₂ : Memory) (gap : ℕ) (r : Walked) (out′ : List ℕ)
     (parts : BlockParts t s left (p .at) b n) (inside : Inside s p q gap)
     (head : Stored (m .out) (p .written) (fourBytes (four s (p .at))) (m₁ .out) gap)
     (g : Leads T s t (left - 1) d (two s (p .at + 4)) (b .code) σ q m₁ 0 σ′ p′ m₂ n)

@@ -19,27 +19,25 @@ use Rattle.rules.specs.Stack.{Stack as Scope}
 use Rattle.rules.specs.Rules.{states, sureFrom, joins, merge, exit}
 use Rattle.rules.specs.Report.{codeBytes}
 use Rattle.rules.specs.Walk.{tooWide, walkFault}
-use Rattle.scope.specs.View.{view}
 use Rattle.steps.specs.Own.{numberOf, Own, byte, both, blockOwn, blocksFault}
 use Rattle.returns.specs.Returns.{BlockThere}
 use Rattle.statements.specs.declared.Place.{Place}
-use Rattle.fronts.specs.declared.Walk.{Walk}
 use Rattle.writing.specs.Memory.{Memory}
-use Rattle.fronts.specs.Walks.{Wrote, BlockDone, BlocksWalk}
+use Rattle.fronts.specs.Walks.{Walked, Wrote, BlockDone, BlocksWalk}
 use Rattle.ends.specs.Ends.{Merges}
 use Rattle.fronts.proofs.Wrotes.{wrote-both}
 use Rattle.fronts.proofs.Turns.{else-number}
 
 -- the flag at a place, and the second block of an IfElse if there is one, from a stack
-pub record ElseDone (o : Own) (p : Place) (m : Memory) (r : Walk) (m′ : Memory) (next : ℕ) (σ : Scope Status) (b : Bool) : Type 0 where
+pub record ElseDone (o : Own) (p : Place) (m : Memory) (r : Walked) (m′ : Memory) (next : ℕ) (σ : Scope Status) (b : Bool) : Type 0 where
   pub wrote : Wrote o p m (r .place) m′
   pub inserted : r .place .inserted ≡ p .inserted
   pub last : r .place .last ≡ p .last
   pub at : r .place .at ≡ next
-  pub locals : view (r .stack) ≡ σ
+  pub locals : r .locals ≡ σ
   pub sure : r .sure ≡ b
 
-pub record ElseWalks (T : Tables) (s : List ℕ) (left d : ℕ) (σ : Scope Status) (p : Place) (m : Memory) (r : Walk) (m′ : Memory) : Type 0 where
+pub record ElseWalks (T : Tables) (s : List ℕ) (left d : ℕ) (σ : Scope Status) (p : Place) (m : Memory) (r : Walked) (m′ : Memory) : Type 0 where
   pub without : getD s (p .at) 0 ≡ 0 → (r .fault ≡ 0) × ElseDone (byte 0) p m r m′ (p .at + 1) σ false
   pub with : getD s (p .at) 0 ≡ 1 → (t : Reading) → t .exprDepth ≡ 24 → (b : Block) (next : ℕ) → blockAt t s left (p .at + 1) ≡ ok b next
       → (r .fault ≡ numberOf (walkFault version1 T (b .code) d σ))
@@ -67,7 +65,7 @@ else-left (some n) y e = e
 module _ (T : Tables) (s : List ℕ) (small : Bytes s) (t : Reading) (left d : ℕ) (σ : Scope Status) (p : Place) (m : Memory) where
   -- a fault of the first block is that of the statement
   pub first-fault : (c : Tree) (b : Block) (y : Option ℕ) → blocksFault T c d σ ≡ orElse (walkFault version1 T (b .code) (suc d) σ) y
-      → (r : Walk) (m′ : Memory) (next : ℕ) → r .fault ≡ numberOf (walkFault version1 T (b .code) (suc d) σ) → 0 < r .fault → BlocksWalk T c d σ p m r m′ next
+      → (r : Walked) (m′ : Memory) (next : ℕ) → r .fault ≡ numberOf (walkFault version1 T (b .code) (suc d) σ) → 0 < r .fault → BlocksWalk T c d σ p m r m′ next
   first-fault c b y is r m′ next e lt = record {
     fault = else-number (walkFault version1 T (b .code) (suc d) σ) y (r .fault) lt e ∙ ap numberOf (sym is);
     done = λ z.
@@ -77,33 +75,33 @@ module _ (T : Tables) (s : List ℕ) (small : Bytes s) (t : Reading) (left d : �
   }
 
   -- both blocks, walked without a fault
-  module _ (b : Block) (v : Walk) (m₁ : Memory) (q : ℕ) (clear : walkFault version1 T (b .code) (suc d) σ ≡ none) (a : BlockDone T b (suc d) σ p m v m₁ q) where
+  module _ (b : Block) (v : Walked) (m₁ : Memory) (q : ℕ) (clear : walkFault version1 T (b .code) (suc d) σ ≡ none) (a : BlockDone T b (suc d) σ p m v m₁ q) where
     -- merged behind the second: what it was told as o, its locals τ and whether it returns
-    merge-locals : (w r : Walk) (τ : Scope Status) (f : Bool) → view (w .stack) ≡ τ → w .sure ≡ f → Merges (v .sure) σ (view (v .stack)) w r → r .fault ≡ 0
-        → view (r .stack) ≡ merge states (sureFrom (b .code) false) f σ (exit states T (b .code) (suc d) σ) τ
+    merge-locals : (w r : Walked) (τ : Scope Status) (f : Bool) → w .locals ≡ τ → w .sure ≡ f → Merges (v .sure) σ (v .locals) w r → r .fault ≡ 0
+        → r .locals ≡ merge states (sureFrom (b .code) false) f σ (exit states T (b .code) (suc d) σ) τ
     merge-locals w r τ f ev es g z =
         g .locals z
-        ∙ ap (λ (x : Bool). merge states x (w .sure) σ (view (v .stack)) (view (w .stack))) (a .sure)
-        ∙ ap (λ (x : Bool). merge states (sureFrom (b .code) false) x σ (view (v .stack)) (view (w .stack))) es
-        ∙ ap (λ (x : Scope Status). merge states (sureFrom (b .code) false) f σ x (view (w .stack))) (a .locals)
+        ∙ ap (λ (x : Bool). merge states x (w .sure) σ (v .locals) (w .locals)) (a .sure)
+        ∙ ap (λ (x : Bool). merge states (sureFrom (b .code) false) x σ (v .locals) (w .locals)) es
+        ∙ ap (λ (x : Scope Status). merge states (sureFrom (b .code) false) f σ x (w .locals)) (a .locals)
         ∙ ap (λ (x : Scope Status). merge states (sureFrom (b .code) false) f σ (exit states T (b .code) (suc d) σ) x) ev
 
-    merge-fault : (w r : Walk) (τ : Scope Status) (f : Bool) → view (w .stack) ≡ τ → w .sure ≡ f → Merges (v .sure) σ (view (v .stack)) w r
+    merge-fault : (w r : Walked) (τ : Scope Status) (f : Bool) → w .locals ≡ τ → w .sure ≡ f → Merges (v .sure) σ (v .locals) w r
         → r .fault ≡ numberOf (tooWide version1 (not (sureFrom (b .code) false) && not f) (joins states (exit states T (b .code) (suc d) σ) τ))
     merge-fault w r τ f ev es g =
         g .fault
-        ∙ ap (λ (x : Bool). numberOf (tooWide version1 (not x && not (w .sure)) (joins states (view (v .stack)) (view (w .stack))))) (a .sure)
-        ∙ ap (λ (x : Bool). numberOf (tooWide version1 (not (sureFrom (b .code) false) && not x) (joins states (view (v .stack)) (view (w .stack))))) es
-        ∙ ap (λ (x : Scope Status). numberOf (tooWide version1 (not (sureFrom (b .code) false) && not f) (joins states x (view (w .stack))))) (a .locals)
+        ∙ ap (λ (x : Bool). numberOf (tooWide version1 (not x && not (w .sure)) (joins states (v .locals) (w .locals)))) (a .sure)
+        ∙ ap (λ (x : Bool). numberOf (tooWide version1 (not (sureFrom (b .code) false) && not x) (joins states (v .locals) (w .locals)))) es
+        ∙ ap (λ (x : Scope Status). numberOf (tooWide version1 (not (sureFrom (b .code) false) && not f) (joins states x (w .locals)))) (a .locals)
         ∙ ap (λ (x : Scope Status). numberOf (tooWide version1 (not (sureFrom (b .code) false) && not f) (joins states (exit states T (b .code) (suc d) σ) x))) ev
 
     -- what is stored is stored by both
-    merge-wrote : (o : Own) (w r : Walk) (m₂ : Memory) (next : ℕ) (τ : Scope Status) (f : Bool) → ElseDone o (v .place) m₁ w m₂ next τ f → r .place ≡ w .place
+    merge-wrote : (o : Own) (w r : Walked) (m₂ : Memory) (next : ℕ) (τ : Scope Status) (f : Bool) → ElseDone o (v .place) m₁ w m₂ next τ f → r .place ≡ w .place
         → Wrote (both (blockOwn T (b .span) (b .code) (suc d) (p .at) σ) o) p m (r .place) m₂
     merge-wrote o w r m₂ next τ f e ep =
         subst (λ (x : Place). Wrote (both (blockOwn T (b .span) (b .code) (suc d) (p .at) σ) o) p m x m₂) (sym ep) (wrote-both (a .wrote) (e .wrote))
 
-    module _ (w r : Walk) (m₂ : Memory) (g : Merges (v .sure) σ (view (v .stack)) w r) where
+    module _ (w r : Walked) (m₂ : Memory) (g : Merges (v .sure) σ (v .locals) w r) where
       pub if-then : (sp : ℕ) (x : Expr) (c : Tree) → ElseDone (byte 0) (v .place) m₁ w m₂ (v .place .at + 1) σ false
           → BlocksWalk T (ifThen sp x (b .span) (b .code) c) d σ p m r m₂ (q + 1)
       if-then sp x c e =
@@ -147,7 +145,7 @@ module _ (T : Tables) (s : List ℕ) (small : Bytes s) (t : Reading) (left d : �
           }
 
     -- a fault of the second block
-    pub second-fault : (sp : ℕ) (x : Expr) (u : Block) (c : Tree) (r : Walk) (m₂ : Memory) (next : ℕ) → r .fault ≡ numberOf (walkFault version1 T (u .code) (suc d) σ) → 0 < r .fault
+    pub second-fault : (sp : ℕ) (x : Expr) (u : Block) (c : Tree) (r : Walked) (m₂ : Memory) (next : ℕ) → r .fault ≡ numberOf (walkFault version1 T (u .code) (suc d) σ) → 0 < r .fault
         → BlocksWalk T (ifElse sp x (b .span) (b .code) (u .span) (u .code) c) d σ p m r m₂ next
     second-fault sp x u c r m₂ next e lt =
         let joined = joins states (exit states T (b .code) (suc d) σ) (exit states T (u .code) (suc d) σ) in
@@ -162,14 +160,14 @@ module _ (T : Tables) (s : List ℕ) (small : Bytes s) (t : Reading) (left d : �
         }
 
     -- a loop joins whether its body returns or not
-    pub loop-blocks : (sp : ℕ) (x : Expr) (c : Tree) (w r : Walk) → w .place ≡ v .place → view (w .stack) ≡ σ → w .sure ≡ false → Merges false σ (view (v .stack)) w r
+    pub loop-blocks : (sp : ℕ) (x : Expr) (c : Tree) (w r : Walked) → w .place ≡ v .place → w .locals ≡ σ → w .sure ≡ false → Merges false σ (v .locals) w r
         → BlocksWalk T (while sp x (b .span) (b .code) c) d σ p m r m₁ q
     loop-blocks sp x c w r ew ev es g =
         let υ = joins states (exit states T (b .code) (suc d) σ) σ in
         let fault : r .fault ≡ numberOf (blocksFault T (while sp x (b .span) (b .code) c) d σ) =
         g .fault
-        ∙ ap (λ (y : Bool). numberOf (tooWide version1 (not false && not y) (joins states (view (v .stack)) (view (w .stack))))) es
-        ∙ ap (λ (y : Scope Status). numberOf (tooWide version1 true (joins states y (view (w .stack))))) (a .locals)
+        ∙ ap (λ (y : Bool). numberOf (tooWide version1 (not false && not y) (joins states (v .locals) (w .locals)))) es
+        ∙ ap (λ (y : Scope Status). numberOf (tooWide version1 true (joins states y (w .locals)))) (a .locals)
         ∙ ap (λ (y : Scope Status). numberOf (tooWide version1 true (joins states (exit states T (b .code) (suc d) σ) y))) ev
         ∙ ap numberOf (sym (else-next (walkFault version1 T (b .code) (suc d) σ) (tooWide version1 true υ) clear)) in
         record {
@@ -181,8 +179,8 @@ module _ (T : Tables) (s : List ℕ) (small : Bytes s) (t : Reading) (left d : �
             at = ap (λ (y : Place). y .at) (g .place ∙ ew) ∙ a .at;
             locals =
                 g .locals (fault ∙ ap numberOf z)
-                ∙ ap (λ (y : Bool). merge states false y σ (view (v .stack)) (view (w .stack))) es
-                ∙ ap (λ (y : Scope Status). joins states y (view (w .stack))) (a .locals)
+                ∙ ap (λ (y : Bool). merge states false y σ (v .locals) (w .locals)) es
+                ∙ ap (λ (y : Scope Status). joins states y (w .locals)) (a .locals)
                 ∙ ap (λ (y : Scope Status). joins states (exit states T (b .code) (suc d) σ) y) ev;
           };
         }

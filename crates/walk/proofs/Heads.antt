@@ -36,7 +36,7 @@ use Rattle.steps.proofs.Faults.{real-none}
 use Rattle.fronts.specs.declared.Env.{Env}
 use Rattle.fronts.specs.declared.Walk.{Walk}
 use Rattle.writing.specs.Memory.{Memory, memory}
-use Rattle.fronts.specs.Walks.{Ready, Safe, Leads, StmtsThere, StmtsWalk, BlockWalks}
+use Rattle.fronts.specs.Walks.{Walked, Ready, Safe, Leads, StmtsThere, StmtsWalk, BlockWalks}
 use Rattle.ends.specs.Ends.{EndSafe, Ends}
 use Rattle.fronts.proofs.Wrotes.{within-on}
 use Rattle.walk.proofs.Blocks.{Inside, block-done}
@@ -84,7 +84,7 @@ stmts-in s left left′ at total at′ el et ep b =
     }
 
 -- the walk of a block's statements, said of the block: depths and places as the code has them
-module _ (T : Tables) (s : List ℕ) (left left′ total : ℕ) (σ : Scope Status) (p q : Place) (gap : ℕ) (w : Walk) (m m₁ m₂ : Memory)
+module _ (T : Tables) (s : List ℕ) (left left′ total : ℕ) (σ : Scope Status) (p q : Place) (gap : ℕ) (w : Walked) (m m₁ m₂ : Memory)
     (low : 0 < left) (high : left ≤ 12) (el : left′ ≡ left - 1) (et : total ≡ two s (p .at + 4)) (eq : q ≡ headed p gap)
     (sw : StmtsWalk T s left′ (12 - left′) total σ q m₁ w m₂) where
   -- a walk of the statements of depth suc (12 - left)
@@ -94,7 +94,7 @@ module _ (T : Tables) (s : List ℕ) (left left′ total : ℕ) (σ : Scope Stat
   inner : (t : Reading) → t .exprDepth ≡ 24 → (b : Block) (n : ℕ) → blockAt t s left (p .at) ≡ ok b n
       → (w .fault ≡ numberOf (walkFault version1 T (b .code) (suc (12 - left)) σ))
       × (walkFault version1 T (b .code) (suc (12 - left)) σ ≡ none
-      → Leads T s t (left - 1) (suc (12 - left)) (two s (p .at + 4)) (b .code) σ (headed p gap) m₁ 0 (view (w .stack)) (w .place) m₂ n)
+      → Leads T s t (left - 1) (suc (12 - left)) (two s (p .at + 4)) (b .code) σ (headed p gap) m₁ 0 (w .locals) (w .place) m₂ n)
   inner t deep b n e =
       let g = block-parts t s left (p .at) b n e in
       let sw1 = subst (λ (l : ℕ). StmtsWalk T s l (12 - left′) total σ q m₁ w m₂) el sw in
@@ -120,9 +120,9 @@ module _ (T : Tables) (s : List ℕ) (left left′ total : ℕ) (σ : Scope Stat
       let l = i .1 clear .last few in
       record { t = h .t; deep = h .deep; x = l .0; next = l .1; read = l .2 }
 
-  pub head-walks : (small : Bytes s) (room : p .at + 6 ≤ length s) (eg : gap ≡ p .written + 4) → w .fault ≤ 0 → (r : Walk) (out′ : List ℕ)
+  pub head-walks : (small : Bytes s) (room : p .at + 6 ≤ length s) (eg : gap ≡ p .written + 4) → w .fault ≤ 0 → (r : Walked) (out′ : List ℕ)
       → Stored (m .out) (p .written) (fourBytes (four s (p .at))) (m₁ .out) gap
-      → Ends T s left (suc (12 - left)) (view (w .stack)) p gap (w .place) (m₂ .out) r out′
+      → Ends T s left (suc (12 - left)) (w .locals) p gap (w .place) (m₂ .out) r out′
       → m₁ .errs ≡ m .errs → m₁ .warns ≡ m .warns → m₁ .lefts ≡ m .lefts
       → BlockWalks T s left (suc (12 - left)) σ p m r (memory out′ (m₂ .errs) (m₂ .warns) (m₂ .lefts))
   head-walks small room eg z r out′ head ends a₁ a₂ a₃ = record {
@@ -131,7 +131,7 @@ module _ (T : Tables) (s : List ℕ) (left left′ total : ℕ) (σ : Scope Stat
         let f = i .0 in
         let clear = real-none (walkFault version1 T (b .code) (suc (12 - left)) σ) (real-walk version1 T (b .code) (suc (12 - left)) σ) (sym f ∙ omega arith) in (
           ends .fault ∙ ap numberOf (sym clear),
-          λ nil. block-done T s t deep left (suc (12 - left)) b n σ (view (w .stack)) p (headed p gap) (w .place) m m₁ m₂ gap r out′
+          λ nil. block-done T s t deep left (suc (12 - left)) b n σ (w .locals) p (headed p gap) (w .place) m m₁ m₂ gap r out′
               (block-parts t s left (p .at) b n e) (head-inside s p gap room eg) head (i .1 clear) ends (memory out′ (m₂ .errs) (m₂ .warns) (m₂ .lefts)) a₁ a₂ a₃ refl refl refl refl,
         );
   }

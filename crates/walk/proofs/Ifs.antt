@@ -32,7 +32,7 @@ use Rattle.steps.proofs.Shaped.{shape-block}
 use Rattle.steps.proofs.Plain.{length-shape}
 use Rattle.fronts.specs.declared.Walk.{Walk}
 use Rattle.writing.specs.Memory.{Memory, memory}
-use Rattle.fronts.specs.Walks.{Wrote, Ready, Safe, BlockDone, BlockWalks, IfThere, IfWalks, LoopWalks}
+use Rattle.fronts.specs.Walks.{Walked, walkedOf, Wrote, Ready, Safe, BlockDone, BlockWalks, IfThere, IfWalks, LoopWalks}
 use Rattle.ends.specs.Ends.{Merges}
 use Rattle.writing.proofs.Stores.{none-stored}
 use Rattle.fronts.proofs.Wrotes.{and-none, wrote-both, within-on}
@@ -66,26 +66,26 @@ module _ (s : List ℕ) (p q : Place) (written b : ℕ) (out out₁ : List ℕ) 
 module _ (T : Tables) (s : List ℕ) (left d : ℕ) (σ : Scope Status) (p q : Place) (written : ℕ) (out out₁ errs warns lefts : List ℕ) (eq : q ≡ flagged p written)
     (x : Stored out (p .written) (getD s (p .at) 0 ∷ []) out₁ written) where
   -- no second block
-  pub else-none : getD s (p .at) 0 ≡ 0 → (r : Walk) (st : Stack) → r ≡ record { fault = 0; sure = false; place = q; stack = st } → view st ≡ σ
+  pub else-none : getD s (p .at) 0 ≡ 0 → (r : Walked) → r ≡ record { fault = 0; sure = false; place = q; locals = σ }
       → ElseWalks T s left d σ p (memory out errs warns lefts) r (memory out₁ errs warns lefts)
-  else-none z r st er es = record {
+  else-none z r er = record {
     without = λ h. (
-      ap (λ (w : Walk). w .fault) er,
+      ap (λ (w : Walked). w .fault) er,
       record {
-        wrote = subst (λ (y : Place). Wrote (byte 0) p (memory out errs warns lefts) y (memory out₁ errs warns lefts)) (sym (ap (λ (w : Walk). w .place) er))
+        wrote = subst (λ (y : Place). Wrote (byte 0) p (memory out errs warns lefts) y (memory out₁ errs warns lefts)) (sym (ap (λ (w : Walked). w .place) er))
             (flag-wrote s p q written 0 out out₁ errs warns lefts eq (subst (λ (k : ℕ). Stored out (p .written) (k ∷ []) out₁ written) z x));
-        inserted = ap (λ (w : Walk). w .place .inserted) er ∙ ap (λ (y : Place). y .inserted) eq;
-        last = ap (λ (w : Walk). w .place .last) er ∙ ap (λ (y : Place). y .last) eq;
-        at = ap (λ (w : Walk). w .place .at) er ∙ ap (λ (y : Place). y .at) eq;
-        locals = ap (λ (w : Walk). view (w .stack)) er ∙ es;
-        sure = ap (λ (w : Walk). w .sure) er;
+        inserted = ap (λ (w : Walked). w .place .inserted) er ∙ ap (λ (y : Place). y .inserted) eq;
+        last = ap (λ (w : Walked). w .place .last) er ∙ ap (λ (y : Place). y .last) eq;
+        at = ap (λ (w : Walked). w .place .at) er ∙ ap (λ (y : Place). y .at) eq;
+        locals = ap (λ (w : Walked). w .locals) er;
+        sure = ap (λ (w : Walked). w .sure) er;
       },
     );
     with = λ h. absurd (omega arith);
   }
 
   -- the second block
-  pub else-block : (getD s (p .at) 0 ≡ 0 → ⊥) → (r : Walk) (m′ : Memory) → BlockWalks T s left d σ q (memory out₁ errs warns lefts) r m′
+  pub else-block : (getD s (p .at) 0 ≡ 0 → ⊥) → (r : Walked) (m′ : Memory) → BlockWalks T s left d σ q (memory out₁ errs warns lefts) r m′
       → ElseWalks T s left d σ p (memory out errs warns lefts) r m′
   else-block nz r m′ w = record {
     without = λ h. absurd (nz h);
@@ -111,7 +111,7 @@ module _ (T : Tables) (s : List ℕ) (left d : ℕ) (σ : Scope Status) (p q : P
 pub then-there : (s : List ℕ) (left at : ℕ) → IfThere s left at → BlockThere s left at
 then-there s left at i = let h = i .there in record { t = h .t; deep = h .deep; b = h .b; next = h .flag; read = h .body }
 
-module _ (T : Tables) (s : List ℕ) (small : Bytes s) (left d : ℕ) (σ : Scope Status) (p : Place) (m : Memory) (v : Walk) (m₁ : Memory) (bw : BlockWalks T s left (suc d) σ p m v m₁) where
+module _ (T : Tables) (s : List ℕ) (small : Bytes s) (left d : ℕ) (σ : Scope Status) (p : Place) (m : Memory) (v : Walked) (m₁ : Memory) (bw : BlockWalks T s left (suc d) σ p m v m₁) where
   -- a fault of the first block
   pub if-first : 0 < v .fault → IfWalks T s left d σ p m v m₁
   if-first lt = record {
@@ -132,7 +132,7 @@ module _ (T : Tables) (s : List ℕ) (small : Bytes s) (left d : ℕ) (σ : Scop
     first-done : (t : Reading) (deep : t .exprDepth ≡ 24) (b : Block) (q : ℕ) → blockAt t s left (p .at) ≡ ok b q → BlockDone T b (suc d) σ p m v m₁ q
     first-done t deep b q e = bw .walks t deep b q e .1 (first-clear t deep b q e)
 
-    pub loop-walks : (w r : Walk) → w .place ≡ v .place → view (w .stack) ≡ σ → w .sure ≡ false → Merges false σ (view (v .stack)) w r → LoopWalks T s left d σ p m r m₁
+    pub loop-walks : (w r : Walked) → w .place ≡ v .place → w .locals ≡ σ → w .sure ≡ false → Merges false σ (v .locals) w r → LoopWalks T s left d σ p m r m₁
     loop-walks w r ew ev es g = record {
       walks = λ t deep b q e sp x c.
           loop-blocks T s small t left d σ p m b v m₁ q (first-clear t deep b q e) (first-done t deep b q e) sp x c w r ew ev es g;
@@ -151,7 +151,7 @@ module _ (T : Tables) (s : List ℕ) (small : Bytes s) (left d : ℕ) (σ : Scop
               record { t = h .t; deep = h .deep; b = o .0; next = o .1; read = subst (λ (k : ℕ). blockAt (h .t) s left (k + 1) ≡ ok (o .0) (o .1)) (sym at) (o .2) };
         }
 
-    module _ (w : Walk) (m₂ : Memory) (ew : ElseWalks T s left (suc d) σ (v .place) m₁ w m₂) where
+    module _ (w : Walked) (m₂ : Memory) (ew : ElseWalks T s left (suc d) σ (v .place) m₁ w m₂) where
       flag-at : (t : Reading) (deep : t .exprDepth ≡ 24) (b : Block) (q : ℕ) → blockAt t s left (p .at) ≡ ok b q → {k : ℕ} → getD s q 0 ≡ k → getD s (v .place .at) 0 ≡ k
       flag-at t deep b q e {k} h = subst (λ (i : ℕ). getD s i 0 ≡ k) (sym (first-done t deep b q e .at)) h
 
@@ -168,7 +168,7 @@ module _ (T : Tables) (s : List ℕ) (small : Bytes s) (left d : ℕ) (σ : Scop
             (ew .with (flag-at t deep b q e h) t deep u next (other-at t deep b q e u next e′) .0) lt;
       }
 
-      pub if-walks : w .fault ≤ 0 → (r : Walk) → Merges (v .sure) σ (view (v .stack)) w r → IfWalks T s left d σ p m r m₂
+      pub if-walks : w .fault ≤ 0 → (r : Walked) → Merges (v .sure) σ (v .locals) w r → IfWalks T s left d σ p m r m₂
       if-walks y r g = record {
         without = λ t deep b q e h sp x c.
             if-then T s small t left d σ p m b v m₁ q (first-clear t deep b q e) (first-done t deep b q e) w r m₂ g sp x c (ew .without (flag-at t deep b q e h) .1);
@@ -189,21 +189,21 @@ shape-count a b e =
     let w = ap length e in
     omega arith
 
-module _ (T : Tables) (s : List ℕ) (left d : ℕ) (σ : Scope Status) (nested : Nested d (shape σ)) (p : Place) (m : Memory) (v : Walk) (m₁ : Memory)
+module _ (T : Tables) (s : List ℕ) (left d : ℕ) (σ : Scope Status) (nested : Nested d (shape σ)) (p : Place) (m : Memory) (v : Walked) (m₁ : Memory)
     (bw : BlockWalks T s left (suc d) σ p m v m₁) (z : v .fault ≤ 0) where
-  pub block-shape : BlockThere s left (p .at) → shape (view (v .stack)) ≡ shape σ
+  pub block-shape : BlockThere s left (p .at) → shape (v .locals) ≡ shape σ
   block-shape h =
       let g = bw .walks (h .t) (h .deep) (h .b) (h .next) (h .read) in
       let f = g .0 in
       let clear = real-none (walkFault version1 T (h .b .code) (suc d) σ) (real-walk version1 T (h .b .code) (suc d) σ) (sym f ∙ omega arith) in
       ap shape (g .1 clear .locals) ∙ shape-block T (h .b .code) d σ nested
 
-module _ (T : Tables) (s : List ℕ) (left d : ℕ) (σ : Scope Status) (nested : Nested d (shape σ)) (p : Place) (m : Memory) (w : Walk) (m₁ : Memory)
+module _ (T : Tables) (s : List ℕ) (left d : ℕ) (σ : Scope Status) (nested : Nested d (shape σ)) (p : Place) (m : Memory) (w : Walked) (m₁ : Memory)
     (ew : ElseWalks T s left (suc d) σ p m w m₁) (z : w .fault ≤ 0) where
-  pub else-shape : ElseThere s left (p .at) → shape (view (w .stack)) ≡ shape σ
+  pub else-shape : ElseThere s left (p .at) → shape (w .locals) ≡ shape σ
   else-shape h = go (getD s (p .at) 0) refl
     where
-      go : (k : ℕ) → getD s (p .at) 0 ≡ k → shape (view (w .stack)) ≡ shape σ
+      go : (k : ℕ) → getD s (p .at) 0 ≡ k → shape (w .locals) ≡ shape σ
       go zero e = ap shape (ew .without e .1 .locals)
       go (suc k) e =
           let b = h .with (omega arith) in
@@ -214,13 +214,13 @@ module _ (T : Tables) (s : List ℕ) (left d : ℕ) (σ : Scope Status) (nested 
           ap shape (g .1 clear .locals) ∙ shape-block T (b .b .code) d σ nested
 
 -- behind two branches
-pub merge-safe : (s : List ℕ) (d : ℕ) (σ τ : Scope Status) (b : Bool) (p : Place) (w r : Walk) → Nested d (shape σ) → shape τ ≡ shape σ → shape (view (w .stack)) ≡ shape σ
-    → Merges b σ τ w r → (r .fault ≡ 0 → Sound (r .stack)) → Grows s p (w .place) → Safe s d p r
+pub merge-safe : (s : List ℕ) (d : ℕ) (σ τ : Scope Status) (b : Bool) (p : Place) (w : Walked) (r : Walk) → Nested d (shape σ) → shape τ ≡ shape σ → shape (w .locals) ≡ shape σ
+    → Merges b σ τ w (walkedOf r) → (r .fault ≡ 0 → Sound (r .stack)) → Grows s p (w .place) → Safe s d p r
 merge-safe s d σ τ b p w r nested et ew g sound on = record {
   grows = λ z. subst (Grows s p) (sym (g .place)) on;
   framed = λ z. record {
     sound = sound z;
-    nested = subst (Nested d) (sym (ap shape (g .locals z) ∙ shape-merge states b (w .sure) σ τ (view (w .stack)) (shape σ) refl et ew)) nested;
+    nested = subst (Nested d) (sym (ap shape (g .locals z) ∙ shape-merge states b (w .sure) σ τ (w .locals) (shape σ) refl et ew)) nested;
   };
 }
 

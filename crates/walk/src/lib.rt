@@ -8,7 +8,7 @@ ghost use Rattle.effects.specs.Asked.{Lent, Says};
 ghost use Rattle.scope.specs.View.{view};
 ghost use Rattle.returns.specs.Returns.{BlockThere};
 ghost use Rattle.writing.specs.Memory.{memory};
-ghost use Rattle.fronts.specs.Walks.{Ready, Safe, IfThere, TagThere, StmtsThere, IfWalks, LoopWalks, TagWalks, StmtsWalk, BlockWalks};
+ghost use Rattle.fronts.specs.Walks.{walkedOf, Ready, Safe, IfThere, TagThere, StmtsThere, IfWalks, LoopWalks, TagWalks, StmtsWalk, BlockWalks};
 use fronts::Env;
 use fronts::Reached;
 use fronts::Walk;
@@ -75,7 +75,7 @@ fn transform_if(
 ) -> Walk
     requires { ⌜ Lent (now s) (now ns) (now ts) (now xs) (env .globals) (env .first) × Ready (now s) (env .left) p st × IfThere (now s) (env .left) (p .at) ⌝ }
     ensures { λ r. ⌜ ((T : Tables) → Says (now (s .entry)) (now (ns .entry)) (now (ts .entry)) (now (xs .entry)) (env .globals) (env .first) T
-        → IfWalks T (now (s .entry)) (env .left) (12 - env .left) (view st) p (memory (now (out .entry)) (now (errs .entry)) (now (warns .entry)) (now (lefts .entry))) r (memory (now (out .exit)) (now (errs .exit)) (now (warns .exit)) (now (lefts .exit)))) × Safe (now (s .entry)) (12 - env .left) p r ⌝ }
+        → IfWalks T (now (s .entry)) (env .left) (12 - env .left) (view st) p (memory (now (out .entry)) (now (errs .entry)) (now (warns .entry)) (now (lefts .entry))) (walkedOf r) (memory (now (out .exit)) (now (errs .exit)) (now (warns .exit)) (now (lefts .exit)))) × Safe (now (s .entry)) (12 - env .left) p r ⌝ }
 {
     let then = transform_block(s, ns, ts, xs, env, p, st, out, errs, warns, lefts);
     if 0 < then.fault {
@@ -113,7 +113,7 @@ fn transform_while(
 ) -> Walk
     requires { ⌜ Lent (now s) (now ns) (now ts) (now xs) (env .globals) (env .first) × Ready (now s) (env .left) p st × BlockThere (now s) (env .left) (p .at) ⌝ }
     ensures { λ r. ⌜ ((T : Tables) → Says (now (s .entry)) (now (ns .entry)) (now (ts .entry)) (now (xs .entry)) (env .globals) (env .first) T
-        → LoopWalks T (now (s .entry)) (env .left) (12 - env .left) (view st) p (memory (now (out .entry)) (now (errs .entry)) (now (warns .entry)) (now (lefts .entry))) r (memory (now (out .exit)) (now (errs .exit)) (now (warns .exit)) (now (lefts .exit)))) × Safe (now (s .entry)) (12 - env .left) p r ⌝ }
+        → LoopWalks T (now (s .entry)) (env .left) (12 - env .left) (view st) p (memory (now (out .entry)) (now (errs .entry)) (now (warns .entry)) (now (lefts .entry))) (walkedOf r) (memory (now (out .exit)) (now (errs .exit)) (now (warns .exit)) (now (lefts .exit)))) × Safe (now (s .entry)) (12 - env .left) p r ⌝ }
 {
     let turn = transform_block(s, ns, ts, xs, env, p, st, out, errs, warns, lefts);
     if 0 < turn.fault {
@@ -141,7 +141,7 @@ fn transform_blocks(
 ) -> Walk
     requires { ⌜ Lent (now s) (now ns) (now ts) (now xs) (env .globals) (env .first) × Ready (now s) (env .left) p st × TagThere (now s) (env .left) (p .at) tag ⌝ }
     ensures { λ r. ⌜ ((T : Tables) → Says (now (s .entry)) (now (ns .entry)) (now (ts .entry)) (now (xs .entry)) (env .globals) (env .first) T
-        → TagWalks T (now (s .entry)) (env .left) (12 - env .left) tag (view st) p (memory (now (out .entry)) (now (errs .entry)) (now (warns .entry)) (now (lefts .entry))) r (memory (now (out .exit)) (now (errs .exit)) (now (warns .exit)) (now (lefts .exit)))) × Safe (now (s .entry)) (12 - env .left) p r ⌝ }
+        → TagWalks T (now (s .entry)) (env .left) (12 - env .left) tag (view st) p (memory (now (out .entry)) (now (errs .entry)) (now (warns .entry)) (now (lefts .entry))) (walkedOf r) (memory (now (out .exit)) (now (errs .exit)) (now (warns .exit)) (now (lefts .exit)))) × Safe (now (s .entry)) (12 - env .left) p r ⌝ }
 {
     if tag == 7 {
         return transform_if(s, ns, ts, xs, env, p, st, out, errs, warns, lefts);
@@ -169,7 +169,7 @@ fn transform_statements(
 ) -> Walk
     requires { ⌜ Lent (now s) (now ns) (now ts) (now xs) (env .globals) (env .first) × Ready (now s) (env .left) p st × StmtsThere (now s) (env .left) total (p .at) ⌝ }
     ensures { λ r. ⌜ ((T : Tables) → Says (now (s .entry)) (now (ns .entry)) (now (ts .entry)) (now (xs .entry)) (env .globals) (env .first) T
-        → StmtsWalk T (now (s .entry)) (env .left) (12 - env .left) total (view st) p (memory (now (out .entry)) (now (errs .entry)) (now (warns .entry)) (now (lefts .entry))) r (memory (now (out .exit)) (now (errs .exit)) (now (warns .exit)) (now (lefts .exit)))) × Safe (now (s .entry)) (12 - env .left) p r ⌝ }
+        → StmtsWalk T (now (s .entry)) (env .left) (12 - env .left) total (view st) p (memory (now (out .entry)) (now (errs .entry)) (now (warns .entry)) (now (lefts .entry))) (walkedOf r) (memory (now (out .exit)) (now (errs .exit)) (now (warns .exit)) (now (lefts .exit)))) × Safe (now (s .entry)) (12 - env .left) p r ⌝ }
 {
     let mut w = fronts::up_to_blocks(s, ns, ts, xs, env, total, p, st, out, errs, warns, lefts);
     while 0 < w.tag {
@@ -204,7 +204,7 @@ pub fn transform_block(
 ) -> Walk
     requires { ⌜ Lent (now s) (now ns) (now ts) (now xs) (env .globals) (env .first) × Ready (now s) (env .left) p st × BlockThere (now s) (env .left) (p .at) ⌝ }
     ensures { λ r. ⌜ ((T : Tables) → Says (now (s .entry)) (now (ns .entry)) (now (ts .entry)) (now (xs .entry)) (env .globals) (env .first) T
-        → BlockWalks T (now (s .entry)) (env .left) (suc (12 - env .left)) (view st) p (memory (now (out .entry)) (now (errs .entry)) (now (warns .entry)) (now (lefts .entry))) r (memory (now (out .exit)) (now (errs .exit)) (now (warns .exit)) (now (lefts .exit)))) × Safe (now (s .entry)) (12 - env .left) p r ⌝ }
+        → BlockWalks T (now (s .entry)) (env .left) (suc (12 - env .left)) (view st) p (memory (now (out .entry)) (now (errs .entry)) (now (warns .entry)) (now (lefts .entry))) (walkedOf r) (memory (now (out .exit)) (now (errs .exit)) (now (warns .exit)) (now (lefts .exit)))) × Safe (now (s .entry)) (12 - env .left) p r ⌝ }
 {
     let gap = writing::copy_bytes(s, p.at, p.at + 4, out, p.written);
     let total = fields::two_at(s, p.at + 4);

@@ -14,7 +14,7 @@ use Rattle.statements.specs.Act.{Within}
 use Rattle.fronts.specs.declared.Env.{Env}
 use Rattle.fronts.specs.declared.Walk.{Walk}
 use Rattle.writing.specs.Memory.{Memory, memory}
-use Rattle.fronts.specs.Walks.{Reaches, ReachSafe}
+use Rattle.fronts.specs.Walks.{walkedOf, Reaches, ReachSafe}
 use Rattle.fronts.proofs.Wrotes.{grows-both, within-on}
 use Rattle.fronts.proofs.Turns.{all-start, all-rest, safe-on, turns, fewer-turns, reach-over, safe-over, faulty}
 use Rattle.walk.proofs.Heads.{span-stored, span-length, head-grows, head-ready, stmts-in, head-fault, last-there, head-walks, asked-of, told-of, block-safe, depth-inner, env-lent, env-says, framed-at}
@@ -467,7 +467,7 @@ transform-if-returns-2 t c =
     let bs = block-shape U _ _ _ _ nest _ _ _ _ bw (c .before .before .before .before .before .before .before .before .before .before .before .if1 .left) (then-there _ _ _ (c .before .before .before .before .before .before .before .before .before .before .before .before .before .before .before .before .before .before .before .before .before .before .before .before .before .before .before .before .before .before .before .before .before .before .pre .1 .2)) in
     let on = flag-grows _ _ _ _ _ _ _ (c .before .before .before .before .moved-on .ensures) (c .before .before .before .before .before .before .before .put .ensures) (else-there U _ (λ k. omega (arith, c .before .before .before .before .before .before .before .before .before .before .before .before .before .before .before .before .before .before .before .before .before .before .before .before .before .before .before .before .before .before .before .before .before .shared-slice-known .given k)) _ _ _ _ _ _ _ (c .before .before .before .before .before .before .before .before .before .before .before .before .before .before .before .before .before .before .before .before .before .transform-block .ensures .0 U (said _ _ _ _ _ _)) (c .before .before .before .before .before .before .before .before .before .before .before .if1 .left) (c .before .before .before .before .before .before .before .before .before .before .before .before .before .before .before .before .before .before .before .before .before .before .before .before .before .before .before .before .before .before .before .before .before .before .pre .1 .2) .inside) in
     let same = ap (λ (v : Walk). v .stack) (c .before .walk-of .ensures) in (
-      λ T sy. if-walks T _ (λ k. omega (arith, c .before .before .before .before .before .before .before .before .before .before .before .before .before .before .before .before .before .before .before .before .before .before .before .before .before .before .before .before .before .before .before .before .before .shared-slice-known .given k)) _ _ _ _ _ _ _ (c .before .before .before .before .before .before .before .before .before .before .before .before .before .before .before .before .before .before .before .before .before .transform-block .ensures .0 T sy) (c .before .before .before .before .before .before .before .before .before .before .before .if1 .left) _ _ (else-none T _ _ _ _ _ _ _ _ _ _ _ _ (c .before .before .before .before .moved-on .ensures) (c .before .before .before .before .before .before .before .put .ensures) (c .before .before .if2 .taken) _ _ (c .before .walk-of .ensures) refl) (omega (arith, ap (λ (v : Walk). v .fault) (c .before .walk-of .ensures))) _ (c .merged .ensures .0),
+      λ T sy. if-walks T _ (λ k. omega (arith, c .before .before .before .before .before .before .before .before .before .before .before .before .before .before .before .before .before .before .before .before .before .before .before .before .before .before .before .before .before .before .before .before .before .shared-slice-known .given k)) _ _ _ _ _ _ _ (c .before .before .before .before .before .before .before .before .before .before .before .before .before .before .before .before .before .before .before .before .before .transform-block .ensures .0 T sy) (c .before .before .before .before .before .before .before .before .before .before .before .if1 .left) _ _ (else-none T _ _ _ _ _ _ _ _ _ _ _ _ (c .before .before .before .before .moved-on .ensures) (c .before .before .before .before .before .before .before .put .ensures) (c .before .before .if2 .taken) _ (ap walkedOf (c .before .walk-of .ensures))) (omega (arith, ap (λ (v : Walk). v .fault) (c .before .walk-of .ensures))) _ (c .merged .ensures .0),
       merge-safe _ _ _ _ _ _ _ _ nest bs (ap (λ (v : Stack). shape (view v)) same) (c .merged .ensures .0) (c .merged .ensures .1)
           (grows-to (ap (λ (v : Walk). v .place) (c .before .walk-of .ensures)) (grows-both (c .before .before .before .before .before .before .before .before .before .before .before .before .before .before .before .before .before .before .before .before .before .transform-block .ensures .1 .grows one) on)),
     )
