@@ -40,7 +40,7 @@ use Rattle.statements.specs.Act.{Within, Grows}
 use Rattle.statements.proofs.Slices.{written-slice}
 use Rattle.fronts.specs.declared.Walk.{Walk}
 use Rattle.writing.specs.Memory.{Memory, memory}
-use Rattle.fronts.specs.Walks.{Wrote, BlockDone, BlockWalks, Ready, Safe}
+use Rattle.fronts.specs.Walks.{Walked, walkedOf, Wrote, BlockDone, BlockWalks, Ready, Safe}
 use Rattle.fronts.proofs.Block.{block-end}
 use Rattle.fronts.proofs.Changes.{few-seen}
 use Rattle.fronts.proofs.Wrotes.{stored-as}
@@ -137,7 +137,7 @@ module _ (s : List ℕ) (small : Bytes s) (i : Image) (e : decode version1 s ≡
       let f : tooMany version1 σ ≡ none = few-locals σ (subst (λ τ. length τ ≤ 64) v (few-seen st g)) in
       ap (λ x. orElse x (walkFault version1 (i .tables) (i .body .code) 1 σ)) f
 
-  module _ (st : Stack) (sound : Sound st) (v : view st ≡ σ) (written : ℕ) (m m₁ m₂ m₃ : Memory) (r : Walk) (left : ℕ) (el : left ≡ 12)
+  module _ (st : Stack) (sound : Sound st) (v : view st ≡ σ) (written : ℕ) (m m₁ m₂ m₃ : Memory) (r : Walked) (left : ℕ) (el : left ≡ 12)
       (front : Stored (m .out) 4 (slice 4 body s) (m₁ .out) written) (p : Place) (ep : p ≡ begin body written)
       (w : BlockWalks (i .tables) s left (suc (12 - left)) (view st) p m₁ r m₂) where
     walked : (r .fault ≡ numberOf (walkFault version1 (i .tables) (i .body .code) 1 σ))
@@ -226,12 +226,12 @@ module _ (s ns ts xs : List ℕ) (small : Bytes s) (env : Env) (entry body : ℕ
     locals-are = entered .is _ _ (h .i .entry) body (h .entered) (h .i .tables)
 
     module _ (errs warns lefts errs₂ warns₂ lefts₂ out₂ : List ℕ) (r : Walk)
-        (w : (T : Tables) → Says s ns ts xs (env .globals) (env .first) T → BlockWalks T s (env .left) (suc (12 - env .left)) (view st) p (memory out₁ errs warns lefts) r (memory out₂ errs₂ warns₂ lefts₂)) where
-      abbrev walks-it : BlockWalks (h .i .tables) s (env .left) (suc (12 - env .left)) (view st) p (memory out₁ errs warns lefts) r (memory out₂ errs₂ warns₂ lefts₂)
+        (w : (T : Tables) → Says s ns ts xs (env .globals) (env .first) T → BlockWalks T s (env .left) (suc (12 - env .left)) (view st) p (memory out₁ errs warns lefts) (walkedOf r) (memory out₂ errs₂ warns₂ lefts₂)) where
+      abbrev walks-it : BlockWalks (h .i .tables) s (env .left) (suc (12 - env .left)) (view st) p (memory out₁ errs warns lefts) (walkedOf r) (memory out₂ errs₂ warns₂ lefts₂)
       walks-it = w (h .i .tables) (h .says)
 
       found : (m₃ : Memory) → r .fault ≡ numberOf (imageFault version1 (h .i))
-      found m₃ = image-fault s small (h .i) (h .read) body (h .walked) st (entered .framed .sound) locals-are written (memory out errs warns lefts) _ _ m₃ r (env .left) (h .left) front p ep walks-it
+      found m₃ = image-fault s small (h .i) (h .read) body (h .walked) st (entered .framed .sound) locals-are written (memory out errs warns lefts) _ _ m₃ (walkedOf r) (env .left) (h .left) front p ep walks-it
 
       walks-as : (m₃ : Memory) → (imageFault version1 (h .i) ≡ none → ImageDone (h .i) (memory out errs warns lefts) (r .place) m₃) → ImageWalks s (memory out errs warns lefts) r m₃
       walks-as m₃ g = record {
@@ -247,7 +247,7 @@ module _ (s ns ts xs : List ℕ) (small : Bytes s) (env : Env) (entry body : ℕ
           → ImageWalks s (memory out errs warns lefts) r (memory out₃ errs₂ warns₂ lefts₂)
       image-walked d safe z out₃ n last =
           walks-as (memory out₃ errs₂ warns₂ lefts₂) (λ f.
-          image-done s small (h .i) (h .read) body (h .walked) st (entered .framed .sound) locals-are written (memory out errs warns lefts) _ (memory out₂ errs₂ warns₂ lefts₂) (memory out₃ errs₂ warns₂ lefts₂) r
+          image-done s small (h .i) (h .read) body (h .walked) st (entered .framed .sound) locals-are written (memory out errs warns lefts) _ (memory out₂ errs₂ warns₂ lefts₂) (memory out₃ errs₂ warns₂ lefts₂) (walkedOf r)
           (env .left) (h .left) front p ep walks-it f (end-low r d safe z) n last refl refl refl refl refl refl)
 
 pub measured : (s : List ℕ) {m m′ : Memory} {r : Walk} → ImageWalks s m r m′ → Measures s r
