@@ -17,7 +17,6 @@ use Rattle.rules.specs.State.{State as Status}
 use Rattle.rules.specs.Stack.{Stack as Scope}
 use Rattle.rules.specs.Walk.{tooMany, walkFault}
 use Rattle.rules.specs.Verdict.{entriesOf}
-use Rattle.scope.specs.View.{view}
 use Rattle.writing.specs.Stored.{Stored}
 use Rattle.returns.specs.Front.{frontAt}
 use Rattle.statements.specs.declared.Place.{Place}
@@ -26,9 +25,8 @@ use Rattle.statements.specs.Act.{changeIn, takenIn, Acts, ActsThere}
 use Rattle.steps.specs.Statement.{valuesOf, frontSize, settle}
 use Rattle.steps.specs.Own.{numberOf, valued, ownFault, ownAfter, restOf, blocksFault}
 use Rattle.steps.proofs.Plain.{blockless-fault}
-use Rattle.fronts.specs.declared.Walk.{Walk}
 use Rattle.writing.specs.Memory.{Memory, memory}
-use Rattle.fronts.specs.Walks.{StmtDone, StmtWalks, StmtsWalk, BlocksWalk, TagWalks, LeadsAll, blocked}
+use Rattle.fronts.specs.Walks.{Walked, StmtDone, StmtWalks, StmtsWalk, BlocksWalk, TagWalks, LeadsAll, blocked}
 use Rattle.fronts.proofs.Fronts.{plain-done, blocks-done}
 use Rattle.fronts.proofs.Leads.{next-of, leads-next, leads-fault}
 use Rattle.fronts.proofs.Turns.{else-number, all-fault, all-loud}
@@ -136,9 +134,9 @@ module _ (T : Tables) (s : List ℕ) (small : Bytes s) (left all : ℕ) (σ₀ :
           s small t left x next read r refl plain τ settled
 
     -- with blocks
-    own-blocks : blocked (getD s (c .place .at) 0) ≡ true → (w : Walk) (m′ : Memory) → TagWalks T s left (12 - left) (getD s (c .place .at) 0) σ behind (memory out₁ errs warns₁ lefts₁) w m′
+    own-blocks : blocked (getD s (c .place .at) 0) ≡ true → (w : Walked) (m′ : Memory) → TagWalks T s left (12 - left) (getD s (c .place .at) 0) σ behind (memory out₁ errs warns₁ lefts₁) w m′
         → (r : Tree) → (w .fault ≡ numberOf (ownFault T (before x r) (12 - left) (mi .old)))
-        × (ownFault T (before x r) (12 - left) (mi .old) ≡ none → StmtDone T (before x r) (12 - left) (mi .old) here (memory out (mi .errs) warns lefts) (w .place) m′ (view (w .stack)) next)
+        × (ownFault T (before x r) (12 - left) (mi .old) ≡ none → StmtDone T (before x r) (12 - left) (mi .old) here (memory out (mi .errs) warns lefts) (w .place) m′ (w .locals) next)
     own-blocks has w m′ tw r =
         let b = tag-walks s small t deep left (c .place .at) x next read behind ended T d σ (memory out₁ errs warns₁ lefts₁) w m′ tw r has in
         let h = subst (λ (τ : Scope Status). BlocksWalk T (before x r) d τ behind (memory out₁ errs warns₁ lefts₁) w m′ next) (located r) b in (
@@ -166,8 +164,8 @@ module _ (T : Tables) (s : List ℕ) (small : Bytes s) (left all : ℕ) (σ₀ :
         ∙ ap numberOf (sym (leads-fault T s small t left d all cc σ₀ p₀ m₀ end (c .left) (mi .old) here (memory out (mi .errs) warns lefts) (mi .some) l k))
 
   -- and behind one with blocks, once they are walked
-  pub acted-blocks : blocked (getD s (c .place .at) 0) ≡ true → (w : Walk) (m′ : Memory) → TagWalks T s left (12 - left) (getD s (c .place .at) 0) σ behind (memory out₁ errs warns₁ lefts₁) w m′
-      → (0 < w .fault → StmtsWalk T s left (12 - left) all σ₀ p₀ m₀ w m′) × (w .fault ≤ 0 → LeadsAll T s left (12 - left) all σ₀ p₀ m₀ (c .left - 1) (view (w .stack)) (w .place) m′)
+  pub acted-blocks : blocked (getD s (c .place .at) 0) ≡ true → (w : Walked) (m′ : Memory) → TagWalks T s left (12 - left) (getD s (c .place .at) 0) σ behind (memory out₁ errs warns₁ lefts₁) w m′
+      → (0 < w .fault → StmtsWalk T s left (12 - left) all σ₀ p₀ m₀ w m′) × (w .fault ≤ 0 → LeadsAll T s left (12 - left) all σ₀ p₀ m₀ (c .left - 1) (w .locals) (w .place) m′)
   acted-blocks has w m′ tw =
       let whole : StmtWalks T s left d (mi .old) here (memory out (mi .errs) warns lefts) w m′ = record { walks = λ t deep x next read r. own-blocks t deep x next read has w m′ tw r } in (
         λ lw. all-fault T s small left d all σ₀ p₀ m₀ (c .left) (mi .old) here (memory out (mi .errs) warns lefts) (mi .leads) (mi .some) w m′ lw whole,

@@ -14,7 +14,6 @@ use Rattle.rules.specs.State.{State as Status}
 use Rattle.rules.specs.Stack.{local, mark, Stack as Scope}
 use Rattle.rules.specs.Rules.{states, register}
 use Rattle.rules.specs.Walk.{tooMany, walkFault}
-use Rattle.scope.specs.View.{view}
 use Rattle.scan.specs.Scan.{Stage, Stacked, Ready, fuel, rootOf, topOf}
 use Rattle.scan.specs.declared.Open.{Open}
 use Rattle.state.specs.Kinds.{said, put}
@@ -26,9 +25,8 @@ use Rattle.statements.specs.declared.Change.{Change}
 use Rattle.statements.specs.declared.Change.the-variants as change
 use Rattle.statements.specs.declared.Place.{Place}
 use Rattle.statements.specs.Act.{takenIn, Within}
-use Rattle.fronts.specs.declared.Walk.{Walk}
 use Rattle.writing.specs.Memory.{Memory, memory}
-use Rattle.fronts.specs.Walks.{LeadsAll, StmtsWalk, StmtsThere, TagThere, TagWalks, blocked}
+use Rattle.fronts.specs.Walks.{Walked, LeadsAll, StmtsWalk, StmtsThere, TagThere, TagWalks, blocked}
 use Rattle.resumed.specs.Changes.{Standing}
 use Rattle.resumed.specs.Resumed.{opens, Onward}
 use Rattle.new_acts.specs.Marks.{HoldsAll, Marked}
@@ -94,8 +92,8 @@ module _ (T : Tables) (s : List ℕ) (left d all : ℕ) (σ₀ : Scope Status) (
       (tooMany version1 (register states n t d σ) ≡ none → Stood ns c (register states n t d σ) m)
       × (0 < numberOf (tooMany version1 (register states n t d σ)) → Faulty (numberOf (tooMany version1 (register states n t d σ))))
   After ns c σ m (Blocks tag) =
-      (w : Walk) (m′ : Memory) → TagWalks T s left d tag σ (c .place) m w m′
-      → (0 < w .fault → StmtsWalk T s left d all σ₀ p₀ m₀ w m′) × (w .fault ≤ 0 → LeadsAll T s left d all σ₀ p₀ m₀ (c .left) (view (w .stack)) (w .place) m′)
+      (w : Walked) (m′ : Memory) → TagWalks T s left d tag σ (c .place) m w m′
+      → (0 < w .fault → StmtsWalk T s left d all σ₀ p₀ m₀ w m′) × (w .fault ≤ 0 → LeadsAll T s left d all σ₀ p₀ m₀ (c .left) (w .locals) (w .place) m′)
 
 -- what the code is given of the values that are scanned: statements were read at the place; the scan can go on to their end
 pub record Begun (s : List ℕ) (left : ℕ) (ns : List ℕ) (c : Cursor) : Type 0 where
