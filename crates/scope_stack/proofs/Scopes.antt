@@ -1,0 +1,264 @@
+-- Whole stacks: registrations, the end of a block, drops and rows elsewhere, as the rules say them.
+-- Assumes nothing.
+use Prim.Native.Nat.{ℕ, zero, suc, _+_, _-_, _*_, _≤_, _<_}
+use mathlib.Core.Path.{_≡_, refl, sym, ap, ap₂, _∙_, subst}
+use mathlib.Core.Bool.{Bool, true, false, cond, _&&_}
+use mathlib.Core.List.{List, [], _∷_}
+use mathlib.Core.Logic.{_⊎_, inl, inr, ⊎-elim}
+use borrow.Author.Tests.{eqb-true, eqb-false, eq-eqb, ne-eqb}
+use native.Mathlib.Omega.{arith}
+use lib.Bits.{bitAnd}
+use lib.Dec.{eqb}
+use lib.ListN.{length, getD}
+use Rattle.fields.proofs.Tests.{split, less, and-true}
+use Rattle.tables.specs.Tables.{Tables}
+use Rattle.rules.specs.Questions.{auto}
+use Rattle.rules.specs.State.{State as Status, deleted, moved, consumed, alive, isAlive, handState}
+use Rattle.rules.specs.Stack.{Static, Local, local, shape, inFrame, mark, pop, Stack as Scope}
+use Rattle.rules.specs.Rules.{states, register, Drop, dropOf, collect}
+use Rattle.rules.proofs.Bools.{eqb-self}
+use Rattle.state.specs.Kinds.{said, put}
+use Rattle.scope_stack.specs.declared.Locals.{Locals}
+use Rattle.scope_stack.specs.declared.States.{States}
+use Rattle.scope_stack.specs.declared.Entry.{Entry}
+use Rattle.scope_stack.specs.Word.{wordOf, Newest}
+use Rattle.scope_stack.specs.View.{stacked, staticAt, entryAt, aliveAt, rowOf, saidAt, stateAt, view, Known, Kept, Held, Rowed, Sound, Drops, dtorAt, dropAt, Nested, Grows, Marks, Named, Leaves, Extends}
+use Rattle.scope_stack.specs.Rows.{Copies, JoinsAll}
+use Rattle.scope_stack.proofs.Words.{word-both, word-zero}
+use Rattle.scope_stack.proofs.Stacked.{length-stacked, shape-same, stacked-more, stacked-none, agree, framed}
+use Rattle.scope_stack.proofs.Frames.{pop-keeps, mark-same, hand-put}
+use Rattle.scope_stack.proofs.Marked.{said-one, known-one, lives-at}
+use Rattle.scope_stack.proofs.Rowing.{known-same, said-same, row-before}
+
+-- an Alive slot
+pub alive-at : (t : States) (rows : List ℕ) (cur width i : ℕ) → getD (t .kinds) i 0 ≡ 0 → stateAt t rows cur width i ≡ alive
+alive-at t rows cur width i e = rw e
+
+-- rows that changed elsewhere
+module _ (l : Locals) (t : States) (rows new : List ℕ) (cur width : ℕ) (h : Rowed (l .count) t rows cur width) (room : length new ≡ length rows)
+    (same : (k : ℕ) → cur ≤ k → k < rowOf cur width (l .count) → getD new k 0 ≡ getD rows k 0) where
+  same-row : (i : ℕ) → i < l .count → (k : ℕ) → rowOf cur width i ≤ k → k ≤ rowOf cur width i + width → getD new k 0 ≡ getD rows k 0
+  same-row i li k lo hi = same k (omega arith) (omega (arith, row-before cur width i (l .count) li))
+
+  pub view-same : view l t new cur width ≡ view l t rows cur width
+  view-same = agree (l .count) (staticAt l) (staticAt l) (stateAt t new cur width) (stateAt t rows cur width) (λ k lk. refl)
+      (λ k lk. said-same rows new width (rowOf cur width k) room (same-row k lk) (entryAt t k) (h .known k))
+
+  pub rowed-same : Rowed (l .count) t new cur width
+  rowed-same = record {
+    known = λ i. ⊎-elim
+        (λ (q : i < l .count). known-same rows new width (rowOf cur width i) room (same-row i q) (getD (t .kinds) i 0) (h .known i))
+        (λ (q : l .count ≤ i). subst (Known new width (rowOf cur width i)) (sym (h .free i q)) (known-one new width (rowOf cur width i) 0 (omega arith)))
+        (less i (l .count));
+    free = h .free;
+  }
+
+-- rows that were copied
+module _ (l : Locals) (t : States) (rows new : List ℕ) (src dst width : ℕ) (h : Rowed (l .count) t rows src width) (c : Copies (l .count) width (t .kinds) rows src dst true new) where
+  pub view-copied : view l t new dst width ≡ view l t rows src width
+  view-copied = agree (l .count) (staticAt l) (staticAt l) (stateAt t new dst width) (stateAt t rows src width) (λ k lk. refl) (λ k lk. c .is refl k lk (getD (t .firsts) k 0))
+
+  pub rowed-copied : Rowed (l .count) t new dst width
+  rowed-copied = record {
+    known = λ i. ⊎-elim
+        (λ (q : i < l .count). c .known refl i q)
+        (λ (q : l .count ≤ i). subst (Known new width (rowOf dst width i)) (sym (h .free i q)) (known-one new width (rowOf dst width i) 0 (omega arith)))
+        (less i (l .count));
+    free = h .free;
+  }
+
+-- no local yet
+pub view-none : (l : Locals) (t : States) (rows : List ℕ) (cur width : ℕ) → l .count ≡ 0 → view l t rows cur width ≡ []
+view-none l t rows cur width e = stacked-none (staticAt l) (stateAt t rows cur width) (l .count) (omega arith)
+
+pub rowed-none : (n : ℕ) (t : States) (rows : List ℕ) (cur width : ℕ) → ((i : ℕ) → getD (t .kinds) i 0 ≡ 0) → Rowed n t rows cur width
+rowed-none n t rows cur width z = record {
+  known = λ i. subst (Known rows width (rowOf cur width i)) (sym (z i)) (known-one rows width (rowOf cur width i) 0 (omega arith));
+  free = λ i l. z i;
+}
+
+pub length-view : (l : Locals) (t : States) (rows : List ℕ) (cur width : ℕ) → length (view l t rows cur width) ≡ l .count
+length-view l t rows cur width = length-stacked (staticAt l) (stateAt t rows cur width) (l .count)
+
+-- frames are those of the locals, whatever their states
+pub nested-view : (d : ℕ) (l : Locals) (t u : States) (rows new : List ℕ) (cur at width : ℕ) → Nested d (shape (view l t rows cur width)) → Nested d (shape (view l u new at width))
+nested-view d l t u rows new cur at width = subst (Nested d) (shape-same (l .count) (staticAt l) (stateAt t rows cur width) (stateAt u new at width))
+
+-- what the code's kinds mark
+pub killed-deleted : (n p : ℕ) (σ : Scope Status) → mark n (put false (said 1 (p ∷ []))) σ ≡ mark n (states .killed deleted p) σ
+killed-deleted n p σ = refl
+
+pub killed-moved : (n p : ℕ) (σ : Scope Status) → mark n (put false (said 2 (p ∷ []))) σ ≡ mark n (states .killed moved p) σ
+killed-moved n p σ = refl
+
+pub killed-consumed : (n p : ℕ) (σ : Scope Status) → mark n (put false (said 3 (p ∷ []))) σ ≡ mark n (states .killed consumed p) σ
+killed-consumed n p σ = refl
+
+pub marked-alive : (n p : ℕ) (σ : Scope Status) → mark n (put false (said 0 (p ∷ []))) σ ≡ mark n (λ a. alive) σ
+marked-alive n p σ = refl
+
+pub handed : (n p : ℕ) (σ : Scope Status) → mark n (put true (said 2 (p ∷ []))) σ ≡ mark n (handState p) σ
+handed n p σ = mark-same n (put true (said 2 (p ∷ []))) (handState p) (hand-put p) σ
+
+-- what keeps a stack sound
+pub sound-mark : (l : Locals) (t r : States) (name : ℕ) (f : Status → Status) (rows : List ℕ) (cur width : ℕ) → Sound l t rows cur width → Held r → Marks l name f t r
+    → Sound l r rows cur width
+sound-mark l t r name f rows cur width s h m = record { kept = s .kept; held = h; rowed = m .rowed rows cur width (s .rowed) }
+
+pub sound-join : (l : Locals) (t u r : States) (rows new : List ℕ) (a b width told : ℕ) → Kept l → JoinsAll (l .count) width t u rows a b r new told → told ≡ 0 → Sound l r new a width
+sound-join l t u r rows new a b width told k j e = record { kept = k; held = j .held e; rowed = j .rowed e }
+
+-- a registration: the new local is Alive, and so are the others of its name in its frame, or they are marked so
+module _ (l r : Locals) (name ty depth : ℕ) (dtor : Bool) (g : Grows l name ty depth dtor r) (t : States) (rows : List ℕ) (cur width : ℕ)
+    (h : Rowed (l .count) t rows cur width) where
+  abbrev here : Static
+  here = record { name = name; ty = ty; depth = depth }
+
+  pub new-view : view r t rows cur width ≡ local here alive ∷ view l t rows cur width
+  new-view =
+      ap (λ (n : ℕ). stacked n (staticAt r) (stateAt t rows cur width)) (g .count) ∙ stacked-more (staticAt r) (stateAt t rows cur width) (l .count)
+      ∙ ap₂ (λ (s : Static) (σ : Scope Status). local s (stateAt t rows cur width (l .count)) ∷ σ) (g .new)
+      (agree (l .count) (staticAt r) (staticAt l) (stateAt t rows cur width) (stateAt t rows cur width) (g .older) (λ k lk. refl))
+      ∙ ap (λ (a : Status). local here a ∷ view l t rows cur width) (alive-at t rows cur width (l .count) (h .free (l .count) (omega arith)))
+
+  pub rowed-more : Rowed (r .count) t rows cur width
+  rowed-more = record { known = h .known; free = λ i li. h .free i (omega (arith, g .count)) }
+
+  pub sound-register : Held t → Sound r t rows cur width
+  sound-register held = record { kept = g .kept; held = held; rowed = rowed-more }
+
+  -- fault 12 is decided by the count
+  pub register-length : length (register states name ty depth (view l t rows cur width)) ≡ l .count + 1
+  register-length =
+      let z : suc (l .count) ≡ l .count + 1 = omega arith in
+      ap suc (ap length (framed name depth (λ (a : Status). alive) (staticAt l) (stateAt t rows cur width) (l .count)) ∙ length-stacked (staticAt l) _ (l .count)) ∙ z
+
+  pub registers-marked : (p : ℕ) (u : States) → Marks r name (put false (said 0 (p ∷ []))) t u → view r u rows cur width ≡ register states name ty depth (view l t rows cur width)
+  registers-marked p u m = m .is rows cur width rowed-more ∙ ap (mark name (λ (a : Status). alive)) new-view ∙ rw (eqb-self name)
+
+  frame-alive : ((i : ℕ) → i < 64 → aliveAt t i ≡ false → Named (r .names) (r .depths) name depth i → ⊥) → l .count ≤ 64 → (i : ℕ) → i < l .count → (b : Bool)
+      → (eqb (getD (l .names) i 0) name && eqb (getD (l .depths) i 0) depth) ≡ b → stateAt t rows cur width i ≡ cond b alive (stateAt t rows cur width i)
+  frame-alive calm small i li false e = refl
+  frame-alive calm small i li true e =
+      let both = and-true (eqb (getD (l .names) i 0) name) (eqb (getD (l .depths) i 0) depth) e in
+      let is : Named (r .names) (r .depths) name depth i =
+      (ap (λ (s : Static). s .name) (g .older i li) ∙ eqb-true _ _ (both .0), ap (λ (s : Static). s .depth) (g .older i li) ∙ eqb-true _ _ (both .1)) in
+      ⊎-elim
+      (λ (q : aliveAt t i ≡ true). alive-at t rows cur width i (eqb-true (getD (t .kinds) i 0) 0 q))
+      (λ (q : aliveAt t i ≡ false). absurd (calm i (omega arith) q is))
+      (split (aliveAt t i))
+
+  pub registers-fresh : ((i : ℕ) → i < 64 → aliveAt t i ≡ false → Named (r .names) (r .depths) name depth i → ⊥) → l .count ≤ 64
+      → view r t rows cur width ≡ register states name ty depth (view l t rows cur width)
+  registers-fresh calm small =
+      new-view ∙ ap (λ (σ : Scope Status). local here alive ∷ σ)
+      (agree (l .count) (staticAt l) (staticAt l) (stateAt t rows cur width)
+      (λ i. cond (eqb (getD (l .names) i 0) name && eqb (getD (l .depths) i 0) depth) alive (stateAt t rows cur width i)) (λ k lk. refl)
+      (λ k lk. frame-alive calm small k lk (eqb (getD (l .names) k 0) name && eqb (getD (l .depths) k 0) depth) refl)
+      ∙ sym (framed name depth (λ (a : Status). alive) (staticAt l) (stateAt t rows cur width) (l .count)))
+
+-- the locals of a block, one more
+pub extends-none : (d : ℕ) (l : Locals) → Extends d l l
+extends-none d l = record { most = omega arith; older = λ i li. refl; newer = λ i a b. absurd (omega arith) }
+
+pub extends-more : (d : ℕ) (l m r : Locals) (name ty : ℕ) (dtor : Bool) → Extends d l m → Grows m name ty d dtor r → Extends d l r
+extends-more d l m r name ty dtor e g = record {
+  most = omega (arith, e .most, g .count);
+  older = λ i li. g .older i (omega (arith, e .most)) ∙ e .older i li;
+  newer = λ i a b. ⊎-elim
+      (λ (q : i < m .count). ap (λ (s : Static). s .depth) (g .older i q) ∙ e .newer i a q)
+      (λ (q : m .count ≤ i). let z : i ≡ m .count = omega (arith, g .count) in ap (λ (x : ℕ). staticAt r x .depth) z ∙ ap (λ (s : Static). s .depth) (g .new))
+      (less i (m .count));
+}
+
+pop-newer : (f : ℕ → Static) (g : ℕ → Status) (d n k : ℕ) → ((i : ℕ) → n ≤ i → i < n + k → f i .depth ≡ d) → pop d (stacked (n + k) f g) ≡ pop d (stacked n f g)
+unfolding stacked
+pop-newer f g d n zero h = let z : n + 0 ≡ n = omega arith in rw z
+pop-newer f g d n (suc k) h =
+    let z : n + suc k ≡ suc (n + k) = omega arith in
+    let e : f (n + k) .depth ≡ d = h (n + k) (omega arith) (omega arith) in
+    rw (z, eq-eqb (f (n + k) .depth) d e) (pop-newer f g d n k (λ i a b. h i a (omega arith)))
+
+-- the end of a block of depth d, whose locals m are more than those l that it was entered with
+module _ (d : ℕ) (l m : Locals) (t r : States) (rows : List ℕ) (cur width : ℕ) (e : Extends (suc d) l m) (v : Leaves (l .count) (m .count) t r) where
+  pub leaves-pop : Nested d (shape (view l t rows cur width)) → view l r rows cur width ≡ pop (suc d) (view m t rows cur width)
+  leaves-pop nested =
+      let all : l .count + (m .count - l .count) ≡ m .count = omega (arith, e .most) in
+      agree (l .count) (staticAt l) (staticAt l) (stateAt r rows cur width) (stateAt t rows cur width) (λ k lk. refl)
+      (λ k lk. ap (saidAt rows (rowOf cur width k)) (v .older k lk))
+      ∙ sym (pop-keeps d (suc d) (view l t rows cur width) nested (omega arith))
+      ∙ ap (pop (suc d)) (agree (l .count) (staticAt l) (staticAt m) (stateAt t rows cur width) (stateAt t rows cur width) (λ k lk. sym (e .older k lk)) (λ k lk. refl))
+      ∙ sym (pop-newer (staticAt m) (stateAt t rows cur width) (suc d) (l .count) (m .count - l .count) (λ i a b. e .newer i a (omega arith)))
+      ∙ ap (λ (n : ℕ). pop (suc d) (stacked n (staticAt m) (stateAt t rows cur width))) all
+
+  pub leaves-rowed : Rowed (m .count) t rows cur width → Rowed (l .count) r rows cur width
+  leaves-rowed h = record { known = λ i. known i; free = λ i li. free i li }
+    where
+      free : (i : ℕ) → l .count ≤ i → getD (r .kinds) i 0 ≡ 0
+      free i li = ⊎-elim (λ (q : i < m .count). v .newer i li q) (λ (q : m .count ≤ i). ap (λ (x : Entry). x .kind) (v .past i q) ∙ h .free i q) (less i (m .count))
+
+      known : (i : ℕ) → Known rows width (rowOf cur width i) (getD (r .kinds) i 0)
+      known i =
+          ⊎-elim
+          (λ (q : i < l .count). subst (λ (x : Entry). Known rows width (rowOf cur width i) (x .kind)) (sym (v .older i q)) (h .known i))
+          (λ (q : l .count ≤ i). subst (Known rows width (rowOf cur width i)) (sym (free i q)) (known-one rows width (rowOf cur width i) 0 (omega arith)))
+          (less i (l .count))
+
+  pub sound-leave : Kept l → Sound m t rows cur width → Sound l r rows cur width
+  sound-leave k s = record { kept = k; held = v .held; rowed = leaves-rowed (s .rowed) }
+
+-- the mark of a stack
+pub the-mark : (T : Tables) (l : Locals) (t : States) → Kept l → Held t → Drops T l → bitAnd (t .words) (l .dtors) ≡ wordOf (l .count) (dropAt T l t)
+the-mark T l t k h d = ap₂ bitAnd (h .word) d ∙ word-both (l .count) 64 (aliveAt t) (dtorAt T l) (k .small)
+
+and-assoc : (a b c : Bool) → ((a && b) && c) ≡ (a && (b && c))
+and-assoc true b c = refl
+and-assoc false b c = refl
+
+clear-drop : (b : Bool) (d : Drop) (ds : List Drop) → cond (b && false) (d ∷ ds) ds ≡ ds
+clear-drop true d ds = refl
+clear-drop false d ds = refl
+
+-- drops by the mark: the newest set bit, then those below it
+module _ (T : Tables) (l : Locals) (t : States) (rows : List ℕ) (cur width : ℕ) (h : Rowed (l .count) t rows cur width) (q : Static → Bool) (p : ℕ) where
+  abbrev first : ℕ → Scope Status
+  first n = stacked n (staticAt l) (stateAt t rows cur width)
+
+  abbrev drop′ : ℕ → Drop
+  drop′ i = dropOf p (staticAt l i .name) (staticAt l i .ty)
+
+  drop-more : (n : ℕ) → collect states T q p (first (n + 1))
+      ≡ cond (q (staticAt l n) && dropAt T l t n) (drop′ n ∷ collect states T q p (first n)) (collect states T q p (first n))
+  drop-more n =
+      ap (collect states T q p) (stacked-more (staticAt l) (stateAt t rows cur width) n)
+      ∙ ap (λ (b : Bool). cond b (drop′ n ∷ collect states T q p (first n)) (collect states T q p (first n)))
+      (and-assoc (q (staticAt l n)) (isAlive (stateAt t rows cur width n)) (auto T (staticAt l n .ty))
+      ∙ ap (λ (b : Bool). q (staticAt l n) && (b && auto T (staticAt l n .ty))) (lives-at rows width (rowOf cur width n) (entryAt t n) (h .known n)))
+
+  drop-clear : (n k : ℕ) → ((i : ℕ) → n ≤ i → i < n + k → dropAt T l t i ≡ false) → collect states T q p (first (n + k)) ≡ collect states T q p (first n)
+  drop-clear n zero c = let z : n + 0 ≡ n = omega arith in rw z
+  drop-clear n (suc k) c =
+      let z : n + suc k ≡ (n + k) + 1 = omega arith in
+      let off : dropAt T l t (n + k) ≡ false = c (n + k) (omega arith) (omega arith) in
+      ap (λ (x : ℕ). collect states T q p (first x)) z ∙ drop-more (n + k)
+      ∙ ap (λ (b : Bool). cond (q (staticAt l (n + k)) && b) (drop′ (n + k) ∷ collect states T q p (first (n + k))) (collect states T q p (first (n + k)))) off
+      ∙ clear-drop (q (staticAt l (n + k))) (drop′ (n + k)) (collect states T q p (first (n + k))) ∙ drop-clear n k (λ i a b. c i a (omega arith))
+
+  pub drops-next : (n m j : ℕ) → Newest n (dropAt T l t) m j
+      → collect states T q p (first n) ≡ cond (q (staticAt l j)) (drop′ j ∷ collect states T q p (first j)) (collect states T q p (first j))
+  drops-next n m j w =
+      let all : (j + 1) + (n - (j + 1)) ≡ n = omega (arith, w .below) in
+      ap (λ (x : ℕ). collect states T q p (first x)) (sym all)
+      ∙ drop-clear (j + 1) (n - (j + 1)) (λ i a b. w .clear i (omega arith) (omega arith)) ∙ drop-more j
+      ∙ ap (λ (b : Bool). cond (q (staticAt l j) && b) (drop′ j ∷ collect states T q p (first j)) (collect states T q p (first j))) (w .set)
+      ∙ ap (λ (b : Bool). cond b (drop′ j ∷ collect states T q p (first j)) (collect states T q p (first j))) (and-one (q (staticAt l j)))
+    where
+      and-one : (b : Bool) → (b && true) ≡ b
+      and-one true = refl
+      and-one false = refl
+
+  pub drops-none : (n : ℕ) → wordOf n (dropAt T l t) ≡ 0 → collect states T q p (first n) ≡ []
+  drops-none n z =
+      let all : 0 + n ≡ n = omega arith in
+      ap (λ (x : ℕ). collect states T q p (first x)) (sym all) ∙ drop-clear 0 n (λ i a b. word-zero n (dropAt T l t) z i (omega arith))
+      ∙ ap (collect states T q p) (stacked-none (staticAt l) (stateAt t rows cur width) 0 (omega arith))

@@ -1,0 +1,69 @@
+use Prim.Native.Nat.{ℕ, _≤_, _<_, _-_}
+use mathlib.Core.Path.{_≡_, refl, sym, ap, _∙_}
+use mathlib.Core.Logic.{⊎-elim}
+use borrow.Author.Needs.{needs}
+use native.Mathlib.Omega.{arith}
+use Rattle.scope_stack.specs.View.{Leaves}
+use Rattle.scope_stack.proofs.Stores.{leaves-none, leaves-more}
+use Rattle.scope_stack.proofs.States.leave.Statement.{statement}
+use Rattle.scope_stack.proofs.States.leave.Tie as tie
+use Rattle.scope_stack.proofs.States.leave.Reads as reads
+use Rattle.scope_stack.proofs.States.leave.Lts as lts
+use Rattle.scope_stack.proofs.with_bit.Reads as with-bit-reads
+
+abbrev Inv-loop : tie.InvT-loop
+Inv-loop n m self₀ i₀ self i = (n ≤ i) × (i ≤ m) × Leaves n i self₀ self
+
+abbrev μ-loop : tie.MeasureT-loop
+μ-loop n m self₀ i₀ self i = m - i
+
+-- src/lib.rt:198:9
+loop-holds : tie.Need-loop-holds Inv-loop μ-loop
+loop-holds c = (search needs, search needs, leaves-none _ _ (c .pre .0))
+
+-- src/lib.rt:199:13
+element-write-self : tie.Need-element-write-self Inv-loop μ-loop
+element-write-self c = search needs
+
+-- src/lib.rt:200:26
+mul-self : tie.Need-mul-self Inv-loop μ-loop
+mul-self c = search needs
+
+element-write-self-2 : tie.Need-element-write-self-2 Inv-loop μ-loop
+element-write-self-2 c = search needs
+
+with-bit-requires : tie.Need-with-bit-requires Inv-loop μ-loop
+with-bit-requires c κs = search needs
+
+-- src/lib.rt:201:13
+add-i : tie.Need-add-i Inv-loop μ-loop
+add-i c = search needs
+
+-- src/lib.rt:198:9
+loop-less : tie.Need-loop-less Inv-loop μ-loop
+loop-less c = search needs
+
+-- src/lib.rt:198:9
+loop-again : tie.Need-loop-again Inv-loop μ-loop
+loop-again c = (search needs, search needs, leaves-more _ _ _ _ _ _ (c .before .before .loop .inv .2) (search needs) (search needs) refl (c .with-bit .ensures _ (c .before .before .loop .inv .2 .held .word)))
+
+-- src/lib.rt:193:5
+returns : tie.Need-returns Inv-loop μ-loop
+returns c = let end : c .before .loop .i ≡ c .before .before .args .m = omega (arith, c .before .loop .inv .1, c .loop-test .left) in
+    rw end at (c .before .loop .inv .2)
+
+pub leave-spec : {M : Type 1} → statement M
+leave-spec =
+    tie.close
+    (tie.spec
+    Inv-loop
+    μ-loop
+    loop-holds
+    element-write-self
+    mul-self
+    element-write-self-2
+    with-bit-requires
+    add-i
+    loop-less
+    loop-again
+    returns)

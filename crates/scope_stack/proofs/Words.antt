@@ -1,0 +1,263 @@
+-- Laws of words of marks.
+-- Assumes nothing.
+use Prim.Native.Nat.{ℕ, zero, suc, _+_, _-_, _*_, _^_, _≤_, _<_}
+use mathlib.Core.Path.{_≡_, refl, sym, ap, ap₂, _∙_, subst}
+use mathlib.Core.Bool.{Bool, true, false, cond, not, _&&_, _||_}
+use mathlib.Core.Logic.{_⊎_, inl, inr, ⊎-elim}
+use borrow.Author.Tests.{eqb-true, eqb-false, eq-eqb, ne-eqb, lt-ltb, le-ltb}
+use native.Mathlib.Nat.{pow-suc}
+use native.Mathlib.Omega.{arith}
+use lib.Bits.{bitAnd, bitOr, and-block, or-block}
+use lib.Count.{leadingZeros, leading-top}
+use lib.Dec.{eqb, ltb}
+use lib.Pow.{pow-pos, pow-mono}
+use Rattle.fields.proofs.Tests.{split, less}
+use Rattle.rules.proofs.Bools.{eqb-self}
+use Rattle.scope_stack.specs.Word.{wordOf, Top, Newest}
+
+at-or-below : (j n : ℕ) → j < suc n → (j ≡ n) ⊎ (j < n)
+at-or-below j n h = ⊎-elim (λ (l : j < n). inr l) (λ (l : n ≤ j). inl (omega arith)) (less j n)
+
+bit-lt : (b : Bool) (n w : ℕ) → w < 2 ^ n → cond b 1 0 * 2 ^ n + w < 2 ^ suc n
+bit-lt true n w h = omega (arith, pow-suc 2 n)
+bit-lt false n w h = omega (arith, pow-suc 2 n)
+
+pub word-lt : (n : ℕ) (p : ℕ → Bool) → wordOf n p < 2 ^ n
+unfolding wordOf
+word-lt zero p = omega arith
+word-lt (suc n) p = bit-lt (p n) n (wordOf n p) (word-lt n p)
+
+-- the same bits make the same word
+pub word-same : (n : ℕ) (p q : ℕ → Bool) → ((k : ℕ) → k < n → p k ≡ q k) → wordOf n p ≡ wordOf n q
+unfolding wordOf
+word-same zero p q h = refl
+word-same (suc n) p q h =
+    let rest : wordOf n p ≡ wordOf n q = word-same n p q (λ k l. h k (omega arith)) in
+    let top : p n ≡ q n = h n (omega arith) in
+    rw (top, rest)
+
+pub word-none : (n : ℕ) (p : ℕ → Bool) → ((k : ℕ) → k < n → p k ≡ false) → wordOf n p ≡ 0
+unfolding wordOf
+word-none zero p h = refl
+word-none (suc n) p h =
+    let rest : wordOf n p ≡ 0 = word-none n p (λ k l. h k (omega arith)) in
+    let top : p n ≡ false = h n (omega arith) in
+    rw (top, rest) (omega arith)
+
+and-bit : (a b : Bool) → bitAnd (cond a 1 0) (cond b 1 0) ≡ cond (a && b) 1 0
+and-bit true true = refl
+and-bit true false = refl
+and-bit false b = refl
+
+or-bit : (a b : Bool) → bitOr (cond a 1 0) (cond b 1 0) ≡ cond (a || b) 1 0
+or-bit true true = refl
+or-bit true false = refl
+or-bit false true = refl
+or-bit false false = refl
+
+pub word-and : (n : ℕ) (p q : ℕ → Bool) → bitAnd (wordOf n p) (wordOf n q) ≡ wordOf n (λ k. p k && q k)
+unfolding wordOf
+word-and zero p q = refl
+word-and (suc n) p q =
+    and-block n (cond (p n) 1 0) (cond (q n) 1 0) (wordOf n p) (wordOf n q) (word-lt n p) (word-lt n q)
+    ∙ ap₂ (λ (x y : ℕ). x * 2 ^ n + y) (and-bit (p n) (q n)) (word-and n p q)
+
+pub word-or : (n : ℕ) (p q : ℕ → Bool) → bitOr (wordOf n p) (wordOf n q) ≡ wordOf n (λ k. p k || q k)
+unfolding wordOf
+word-or zero p q = refl
+word-or (suc n) p q =
+    or-block n (cond (p n) 1 0) (cond (q n) 1 0) (wordOf n p) (wordOf n q) (word-lt n p) (word-lt n q)
+    ∙ ap₂ (λ (x y : ℕ). x * 2 ^ n + y) (or-bit (p n) (q n)) (word-or n p q)
+
+all-step : (b : Bool) (n x y : ℕ) → x + y ≡ 2 ^ n - 1 → (cond b 1 0 * 2 ^ n + x) + (cond (not b) 1 0 * 2 ^ n + y) ≡ 2 ^ suc n - 1
+all-step true n x y h = omega (arith, pow-suc 2 n, pow-pos n)
+all-step false n x y h = omega (arith, pow-suc 2 n, pow-pos n)
+
+-- every bit is set in one of a word and its complement
+pub word-all : (n : ℕ) (p : ℕ → Bool) → wordOf n p + wordOf n (λ k. not (p k)) ≡ 2 ^ n - 1
+unfolding wordOf
+word-all zero p = refl
+word-all (suc n) p = all-step (p n) n (wordOf n p) (wordOf n (λ k. not (p k))) (word-all n p)
+
+pub word-not : (n : ℕ) (p : ℕ → Bool) → (2 ^ n - 1) - wordOf n p ≡ wordOf n (λ k. not (p k))
+word-not n p = omega (arith, word-all n p)
+
+-- a bit past the others
+pub word-more : (n : ℕ) (p : ℕ → Bool) → p n ≡ true → wordOf (n + 1) p ≡ wordOf n p + 2 ^ n
+unfolding wordOf
+word-more n p e =
+    let s : n + 1 ≡ suc n = omega arith in
+    rw (s, e) (omega arith)
+
+pub word-skip : (n : ℕ) (p : ℕ → Bool) → p n ≡ false → wordOf (n + 1) p ≡ wordOf n p
+unfolding wordOf
+word-skip n p e =
+    let s : n + 1 ≡ suc n = omega arith in
+    rw (s, e) (omega arith)
+
+one-here : (n i : ℕ) → i ≡ n → cond (eqb n i) 1 0 * 2 ^ n + wordOf n (λ k. eqb k i) ≡ 2 ^ i
+one-here n i e =
+    let no : (k : ℕ) → k < n → eqb k i ≡ false = λ k l. let ne : k ≡ i → ⊥ = λ q. omega arith in ne-eqb k i ne in
+    let z : wordOf n (λ k. eqb k i) ≡ 0 = word-none n (λ k. eqb k i) no in
+    let t : eqb n i ≡ true = eq-eqb n i (sym e) in
+    let p : 2 ^ i ≡ 2 ^ n = ap (λ (x : ℕ). 2 ^ x) e in
+    rw (t, z) (omega arith)
+
+one-older : (n i : ℕ) → i < n → wordOf n (λ k. eqb k i) ≡ 2 ^ i → cond (eqb n i) 1 0 * 2 ^ n + wordOf n (λ k. eqb k i) ≡ 2 ^ i
+one-older n i l ih =
+    let ne : n ≡ i → ⊥ = λ q. omega arith in
+    rw (ne-eqb n i ne) (omega arith)
+
+-- one bit
+pub word-one : (n i : ℕ) → i < n → wordOf n (λ k. eqb k i) ≡ 2 ^ i
+unfolding wordOf
+word-one zero i h = absurd (omega arith)
+word-one (suc n) i h = ⊎-elim (λ (e : i ≡ n). one-here n i e) (λ (l : i < n). one-older n i l (word-one n i l)) (at-or-below i n h)
+
+-- a word with a bit set, and cleared
+choose-on : (b a : Bool) → (a || b) ≡ cond b true a
+choose-on true true = refl
+choose-on true false = refl
+choose-on false true = refl
+choose-on false false = refl
+
+choose-off : (b a : Bool) → (a && not b) ≡ cond b false a
+choose-off true true = refl
+choose-off true false = refl
+choose-off false true = refl
+choose-off false false = refl
+
+pub word-set : (i : ℕ) (p : ℕ → Bool) → i < 64 → bitOr (wordOf 64 p) (2 ^ i) ≡ wordOf 64 (λ k. cond (eqb k i) true (p k))
+word-set i p h =
+    ap (λ (x : ℕ). bitOr (wordOf 64 p) x) (sym (word-one 64 i h)) ∙ word-or 64 p (λ k. eqb k i)
+    ∙ word-same 64 (λ k. p k || eqb k i) (λ k. cond (eqb k i) true (p k)) (λ k l. choose-on (eqb k i) (p k))
+
+pub word-clear : (i : ℕ) (p : ℕ → Bool) → i < 64 → bitAnd (wordOf 64 p) (18446744073709551615 - 2 ^ i) ≡ wordOf 64 (λ k. cond (eqb k i) false (p k))
+word-clear i p h =
+    ap (λ (x : ℕ). bitAnd (wordOf 64 p) (18446744073709551615 - x)) (sym (word-one 64 i h))
+    ∙ ap (λ (x : ℕ). bitAnd (wordOf 64 p) x) (word-not 64 (λ k. eqb k i)) ∙ word-and 64 p (λ k. not (eqb k i))
+    ∙ word-same 64 (λ k. p k && not (eqb k i)) (λ k. cond (eqb k i) false (p k)) (λ k l. choose-off (eqb k i) (p k))
+
+-- the bit j alone is as high as the word
+top-step : (b : Bool) (n : ℕ) (p : ℕ → Bool) (m j : ℕ) → p n ≡ b → m ≡ cond b 1 0 * 2 ^ n + wordOf n p → 2 ^ j ≤ m → m < 2 ^ suc j
+    → (m ≡ wordOf n p → Newest n p m j) → Newest (suc n) p m j
+top-step true n p m j e is lo hi ih =
+    let w = word-lt n p in
+    let eq : j ≡ n =
+    ⊎-elim
+    (λ (l : j < n). absurd (let up : 2 ^ suc j ≤ 2 ^ n = pow-mono (omega arith) in omega arith))
+    (λ (l : n ≤ j). ⊎-elim
+    (λ (g : n < j). absurd (let up : 2 ^ suc n ≤ 2 ^ j = pow-mono (omega arith) in omega (arith, pow-suc 2 n)))
+    (λ (g : j ≤ n). omega arith) (less n j))
+    (less j n) in
+    record {
+      below = omega arith;
+      set = ap p eq ∙ e;
+      clear = λ k a b. absurd (omega arith);
+      high = lo;
+      rest = rw eq (omega arith);
+    }
+top-step false n p m j e is lo hi ih =
+    let here : m ≡ wordOf n p = omega arith in
+    let h = ih here in
+    record {
+      below = omega (arith, h .below);
+      set = h .set;
+      clear = λ k a b. ⊎-elim (λ (q : k ≡ n). ap p q ∙ e) (λ (l : k < n). h .clear k a l) (at-or-below k n b);
+      high = h .high;
+      rest = h .rest;
+    }
+
+pub top-word : (n : ℕ) (p : ℕ → Bool) (m j : ℕ) → m ≡ wordOf n p → 2 ^ j ≤ m → m < 2 ^ suc j → Newest n p m j
+unfolding wordOf
+top-word zero p m j is lo hi = absurd (omega (arith, pow-pos j))
+top-word (suc n) p m j is lo hi = top-step (p n) n p m j refl is lo hi (λ e. top-word n p m j e lo hi)
+
+pub top-of : (m : ℕ) → 0 < m → m < 2 ^ 64
+    → (leadingZeros 64 m ≤ 63) × (Top m (63 - leadingZeros 64 m) × ((n : ℕ) (p : ℕ → Bool) → m ≡ wordOf n p → Newest n p m (63 - leadingZeros 64 m)))
+top-of m h fits =
+    let t = leading-top 64 m h fits in
+    let e : 63 - leadingZeros 64 m ≡ t .0 = omega (arith, t .1) in
+    let s : suc (t .0) ≡ t .0 + 1 = omega arith in
+    (omega (arith, t .1), (rw e (record { low = t .2; high = rw s at (t .3); small = omega (arith, t .1) }), λ n p is. rw e (top-word n p m (t .0) is (t .2) (t .3))))
+
+-- the highest bit of a word of n bits is below n, and the rest of the word is shorter
+pub top-below : (m j n : ℕ) → Top m j → m < 2 ^ n → j < n
+top-below m j n t h =
+    ⊎-elim (λ (l : j < n). l) (λ (l : n ≤ j). absurd (let up : 2 ^ n ≤ 2 ^ j = pow-mono l in omega (arith, t .low))) (less j n)
+
+pub top-rest : (m j : ℕ) → Top m j → m - 2 ^ j < 2 ^ j
+top-rest m j t =
+    let s : j + 1 ≡ suc j = omega arith in
+    let d : 2 ^ (j + 1) ≡ 2 ^ j * 2 = ap (λ (k : ℕ). 2 ^ k) s ∙ pow-suc 2 j in
+    omega (arith, t .low, t .high, pow-pos j)
+
+pub word-full : (n : ℕ) (p : ℕ → Bool) → ((k : ℕ) → k < n → p k ≡ true) → 2 ^ n - 1 ≡ wordOf n p
+word-full n p h =
+    let none : wordOf n (λ k. not (p k)) ≡ 0 = word-none n (λ k. not (p k)) (λ k l. ap not (h k l)) in
+    omega (arith, word-all n p)
+
+zero-step : (b : Bool) (n w : ℕ) → cond b 1 0 * 2 ^ n + w ≡ 0 → (b ≡ false) × (w ≡ 0)
+zero-step true n w h = absurd (omega (arith, pow-pos n))
+zero-step false n w h = (refl, omega arith)
+
+-- no bit of 0 is set
+pub word-zero : (n : ℕ) (p : ℕ → Bool) → wordOf n p ≡ 0 → (k : ℕ) → k < n → p k ≡ false
+unfolding wordOf
+word-zero zero p e k l = absurd (omega arith)
+word-zero (suc n) p e k l =
+    let z = zero-step (p n) n (wordOf n p) e in
+    ⊎-elim (λ (q : k ≡ n). ap p q ∙ z .0) (λ (g : k < n). word-zero n p (z .1) k g) (at-or-below k n l)
+
+limit-step : (n m : ℕ) (q : ℕ → Bool) → n ≤ m → wordOf m (λ k. ltb k n && q k) ≡ wordOf n q → cond (ltb m n && q m) 1 0 * 2 ^ m + wordOf m (λ k. ltb k n && q k) ≡ wordOf n q
+limit-step n m q le ih = rw (le-ltb m n le) (omega arith)
+
+-- a longer word with no bit past the first n
+pub word-limit : (n m : ℕ) (q : ℕ → Bool) → n ≤ m → wordOf m (λ k. ltb k n && q k) ≡ wordOf n q
+unfolding wordOf
+word-limit n zero q le = let z : n ≡ 0 = omega arith in rw z
+word-limit n (suc m) q le =
+    ⊎-elim
+    (λ (h : n ≤ m). limit-step n m q h (word-limit n m q h))
+    (λ (h : m < n).
+    let z : suc m ≡ n = omega arith in
+    word-same (suc m) (λ k. ltb k n && q k) q (λ k l. let lt : k < n = omega arith in rw (lt-ltb k n lt)) ∙ ap (λ (x : ℕ). wordOf x q) z)
+    (⊎-elim (λ (h : m < n). inr h) (λ (h : n ≤ m). inl h) (less m n))
+
+and-limit : (a b c : Bool) → (a && (b && c)) ≡ (b && (a && c))
+and-limit true true c = refl
+and-limit true false c = refl
+and-limit false true c = refl
+and-limit false false c = refl
+
+-- the bits set in a word and in a shorter one
+pub word-both : (n m : ℕ) (p q : ℕ → Bool) → n ≤ m → bitAnd (wordOf m p) (wordOf n q) ≡ wordOf n (λ k. p k && q k)
+word-both n m p q le =
+    ap (λ (x : ℕ). bitAnd (wordOf m p) x) (sym (word-limit n m q le)) ∙ word-and m p (λ k. ltb k n && q k)
+    ∙ word-same m (λ k. p k && (ltb k n && q k)) (λ k. ltb k n && (p k && q k)) (λ k l. and-limit (p k) (ltb k n) (q k))
+    ∙ word-limit n m (λ k. p k && q k) le
+
+-- one bit of a word
+pub word-pick : (n i : ℕ) (p : ℕ → Bool) → i < n → bitAnd (wordOf n p) (2 ^ i) ≡ cond (p i) (2 ^ i) 0
+word-pick n i p l =
+    ap (λ (x : ℕ). bitAnd (wordOf n p) x) (sym (word-one n i l)) ∙ word-and n p (λ k. eqb k i) ∙ by-bit (p i) refl
+  where
+    at : (b : Bool) → p i ≡ b → (k : ℕ) → (p k && eqb k i) ≡ (b && eqb k i)
+    at b e k = ⊎-elim (λ (z : eqb k i ≡ true). rw (eqb-true k i z, e)) (λ (z : eqb k i ≡ false). rw z (none (p k) b)) (split (eqb k i))
+      where
+        none : (x y : Bool) → (x && false) ≡ (y && false)
+        none true true = refl
+        none true false = refl
+        none false true = refl
+        none false false = refl
+
+    by-bit : (b : Bool) → p i ≡ b → wordOf n (λ k. p k && eqb k i) ≡ cond (p i) (2 ^ i) 0
+    by-bit true e = word-same n (λ k. p k && eqb k i) (λ k. eqb k i) (λ k lk. at true e k) ∙ word-one n i l ∙ rw e
+    by-bit false e = word-none n (λ k. p k && eqb k i) (λ k lk. at false e k) ∙ rw e
+
+pick-test : (b : Bool) (x : ℕ) → 0 < x → not (eqb (cond b x 0) 0) ≡ b
+pick-test true x h = let ne : x ≡ 0 → ⊥ = λ z. omega arith in rw (ne-eqb x 0 ne)
+pick-test false x h = refl
+
+pub word-bit : (n i : ℕ) (p : ℕ → Bool) → i < n → not (eqb (bitAnd (wordOf n p) (2 ^ i)) 0) ≡ p i
+word-bit n i p l = ap (λ (x : ℕ). not (eqb x 0)) (word-pick n i p l) ∙ pick-test (p i) (2 ^ i) (pow-pos i)

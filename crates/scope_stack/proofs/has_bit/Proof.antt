@@ -1,0 +1,23 @@
+use Prim.Native.Nat.{ℕ, _≤_, _<_, _+_, _-_, _^_}
+use mathlib.Core.Path.{_≡_, refl, sym, ap, ap₂, _∙_}
+use mathlib.Core.Bool.{not}
+use lib.Bits.{bitAnd}
+use lib.Dec.{eqb}
+use Rattle.scope_stack.proofs.Words.{word-bit}
+use borrow.Author.Needs.{needs}
+use Rattle.scope_stack.proofs.has_bit.Statement.{statement}
+use Rattle.scope_stack.proofs.has_bit.Tie as tie
+use Rattle.scope_stack.proofs.has_bit.Reads as reads
+use Rattle.scope_stack.proofs.has_bit.Lts as lts
+use Rattle.scope_stack.proofs.bit.Reads as bit-reads
+
+-- src/lib.rt:138:9
+bit-requires : tie.Need-bit-requires
+bit-requires c κs = search needs
+
+-- src/lib.rt:134:1
+returns : tie.Need-returns
+returns c = λ n p le l e. ap₂ (λ (x y : ℕ). not (eqb (bitAnd x y) 0)) e (c .bit .ensures) ∙ word-bit n (c .before .args .i) p l
+
+pub has-bit-spec : {M : Type 1} → statement M
+has-bit-spec = tie.close (tie.spec bit-requires returns)

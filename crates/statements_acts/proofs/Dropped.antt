@@ -1,0 +1,175 @@
+-- Laws of deletes by a mark.
+-- Assumes nothing.
+use Prim.Native.Nat.{ℕ, zero, suc, _+_, _-_, _*_, _^_, _≤_, _<_}
+use mathlib.Core.Path.{_≡_, refl, sym, ap, _∙_, subst}
+use mathlib.Core.Bool.{Bool, true, false, cond, _&&_}
+use mathlib.Core.List.{List, [], _∷_, _++_}
+use native.Mathlib.Omega.{arith}
+use lib.ListN.{length, getD}
+use Rattle.tables.specs.Tables.{Tables}
+use Rattle.lookup.specs.declared.Found.{Found}
+use Rattle.lookup.specs.declared.Found.the-variants.{At, Nothing}
+use Rattle.rules.specs.Expr.{called}
+use Rattle.rules.specs.Questions.{auto}
+use Rattle.tables.specs.Limits.{version1}
+use Rattle.rules.specs.Report.{leftBehind}
+use Rattle.rules.specs.Verdict.{entriesOf}
+use Rattle.rules.specs.Stack.{Static, Stack as Scope}
+use Rattle.rules.specs.State.{State as Status, isAlive}
+use Rattle.rules.specs.Rules.{states, Drop, dropOf, collect, dropNewest, dropNamed}
+use Rattle.writing.specs.Stored.{Stored}
+use Rattle.drops.proofs.Laws.{Rest, rest-start, rest-step, rest-end, count-step, count-end}
+use Rattle.scope_stack.specs.declared.Locals.{Locals}
+use Rattle.scope_stack.specs.Word.{wordOf, Top, Newest}
+use Rattle.scope_stack.specs.View.{stacked, foundIn, Finds, Below}
+use Rattle.scope_stack.proofs.Words.{top-below, top-rest, word-zero}
+use Rattle.scope_stack.proofs.Stacked.{stacked-more, stacked-none}
+use Rattle.statements_acts.specs.Marks.{staticIn, lent, dropIn, Marked}
+
+-- the numbers of what is left behind at a span
+abbrev pub leftNumbers : ℕ → List Drop → List ℕ
+leftNumbers span x = entriesOf version1 (leftBehind span x)
+
+-- how much is put at most: the rest of the mark has n bits
+pub record Bounded (at m place put : ℕ) : Type 0 where
+  pub n : ℕ
+  pub word : m < 2 ^ n
+  pub room : place + 21 * n ≤ at + 1344
+  pub many : put + n ≤ 64
+
+pub bounded-none : (at m : ℕ) → m < 2 ^ 64 → Bounded at m at 0
+bounded-none at m h = record { n = 64; word = h; room = omega arith; many = omega arith }
+
+pub bounded-more : (at m place put j place′ put′ : ℕ) → Bounded at m place put → Top m j → place′ ≤ place + 21 → put′ ≤ put + 1 → Bounded at (m - 2 ^ j) place′ put′
+bounded-more at m place put j place′ put′ b t lp lq =
+    let l : j < b .n = top-below m j (b .n) t (b .word) in
+    record { n = j; word = top-rest m j t; room = omega (arith, b .room); many = omega (arith, b .many) }
+
+pub bounded-one : (at m place put j : ℕ) → Bounded at m place put → Top m j → (place + 21 ≤ at + 1344) × (put + 1 ≤ 64)
+bounded-one at m place put j b t = let l : j < b .n = top-below m j (b .n) t (b .word) in (omega (arith, b .room), omega (arith, b .many))
+
+-- two numbers for each
+pub record Paired (at m place : ℕ) : Type 0 where
+  pub n : ℕ
+  pub word : m < 2 ^ n
+  pub room : place + 2 * n ≤ at + 128
+
+pub paired-none : (at m : ℕ) → m < 2 ^ 64 → Paired at m at
+paired-none at m h = record { n = 64; word = h; room = omega arith }
+
+pub paired-more : (at m place j place′ : ℕ) → Paired at m place → Top m j → place′ ≤ place + 2 → Paired at (m - 2 ^ j) place′
+paired-more at m place j place′ b t lp =
+    let l : j < b .n = top-below m j (b .n) t (b .word) in
+    record { n = j; word = top-rest m j t; room = omega (arith, b .room) }
+
+pub paired-one : (at m place j : ℕ) → Paired at m place → Top m j → place + 2 ≤ at + 128
+paired-one at m place j b t = let l : j < b .n = top-below m j (b .n) t (b .word) in omega (arith, b .room)
+
+and-assoc : (a b c : Bool) → ((a && b) && c) ≡ (a && (b && c))
+and-assoc true b c = refl
+and-assoc false b c = refl
+
+and-one : (b : Bool) → (b && true) ≡ b
+and-one true = refl
+and-one false = refl
+
+clear-drop : (b : Bool) (d : Drop) (ds : List Drop) → cond (b && false) (d ∷ ds) ds ≡ ds
+clear-drop true d ds = refl
+clear-drop false d ds = refl
+
+-- the newest set bit, then those below it
+module _ (T : Tables) (names types depths : List ℕ) (g : ℕ → Status) (q : Static → Bool) (p : ℕ) where
+  abbrev pub some′ : ℕ → List Drop
+  some′ n = collect states T q p (lent names types depths g n)
+
+  abbrev drop′ : ℕ → Drop
+  drop′ i = dropOf p (getD names i 0) (getD types i 0)
+
+  drop-more : (n : ℕ) → some′ (n + 1) ≡ cond (q (staticIn names types depths n) && dropIn T types g n) (drop′ n ∷ some′ n) (some′ n)
+  drop-more n =
+      ap (collect states T q p) (stacked-more (staticIn names types depths) g n)
+      ∙ ap (λ (b : Bool). cond b (drop′ n ∷ some′ n) (some′ n)) (and-assoc (q (staticIn names types depths n)) (isAlive (g n)) (auto T (getD types n 0)))
+
+  drop-clear : (n k : ℕ) → ((i : ℕ) → n ≤ i → i < n + k → dropIn T types g i ≡ false) → some′ (n + k) ≡ some′ n
+  drop-clear n zero c = let z : n + 0 ≡ n = omega arith in rw z
+  drop-clear n (suc k) c =
+      let z : n + suc k ≡ (n + k) + 1 = omega arith in
+      let off : dropIn T types g (n + k) ≡ false = c (n + k) (omega arith) (omega arith) in
+      ap some′ z ∙ drop-more (n + k) ∙ ap (λ (b : Bool). cond (q (staticIn names types depths (n + k)) && b) (drop′ (n + k) ∷ some′ (n + k)) (some′ (n + k))) off
+      ∙ clear-drop (q (staticIn names types depths (n + k))) (drop′ (n + k)) (some′ (n + k)) ∙ drop-clear n k (λ i a b. c i a (omega arith))
+
+  drops-next : (n m j : ℕ) → Newest n (dropIn T types g) m j → some′ n ≡ cond (q (staticIn names types depths j)) (drop′ j ∷ some′ j) (some′ j)
+  drops-next n m j w =
+      let all : (j + 1) + (n - (j + 1)) ≡ n = omega (arith, w .below) in
+      ap some′ (sym all) ∙ drop-clear (j + 1) (n - (j + 1)) (λ i a b. w .clear i (omega arith) (omega arith)) ∙ drop-more j
+      ∙ ap (λ (b : Bool). cond (q (staticIn names types depths j) && b) (drop′ j ∷ some′ j) (some′ j)) (w .set)
+      ∙ ap (λ (b : Bool). cond b (drop′ j ∷ some′ j) (some′ j)) (and-one (q (staticIn names types depths j)))
+
+  drops-none : (n : ℕ) → wordOf n (dropIn T types g) ≡ 0 → some′ n ≡ []
+  drops-none n z =
+      let all : 0 + n ≡ n = omega arith in
+      ap some′ (sym all) ∙ drop-clear 0 n (λ i a b. word-zero n (dropIn T types g) z i (omega arith))
+      ∙ ap (collect states T q p) (stacked-none (staticIn names types depths) g 0 (omega arith))
+
+  -- what is left to put for the rest m of the mark, as f writes it, and how many
+  pub record Left (f : List Drop → List ℕ) (old : List ℕ) (at k m : ℕ) (out : List ℕ) (place put : ℕ) : Type 0 where
+    pub n : ℕ
+    pub word : m ≡ wordOf n (dropIn T types g)
+    pub rest : Rest f old at (some′ k) out place (some′ n)
+    pub many : put + length (some′ n) ≡ length (some′ k)
+
+  module _ (f : List Drop → List ℕ) (old : List ℕ) (at k : ℕ) where
+    pub left-all : (m : ℕ) → m ≡ wordOf k (dropIn T types g) → Left f old at k m old at 0
+    left-all m e = record { n = k; word = e; rest = rest-start f old at (some′ k); many = omega arith }
+
+    module _ (m : ℕ) (out : List ℕ) (place put : ℕ) (h : Left f old at k m out place put) where
+      module _ (j : ℕ) (w : (n : ℕ) (z : ℕ → Bool) → m ≡ wordOf n z → Newest n z m j) where
+        next : some′ (h .n) ≡ cond (q (staticIn names types depths j)) (drop′ j ∷ some′ j) (some′ j)
+        next = drops-next (h .n) m j (w (h .n) (dropIn T types g) (h .word))
+
+        pub left-skip : q (staticIn names types depths j) ≡ false → Left f old at k (m - 2 ^ j) out place put
+        left-skip off =
+            let e : some′ (h .n) ≡ some′ j = next ∙ ap (λ (b : Bool). cond b (drop′ j ∷ some′ j) (some′ j)) off in
+            record {
+              n = j;
+              word = w (h .n) (dropIn T types g) (h .word) .rest;
+              rest = subst (λ (x : List Drop). Rest f old at (some′ k) out place x) e (h .rest);
+              many = ap (λ (x : List Drop). put + length x) (sym e) ∙ h .many;
+            }
+
+        pub left-put : (b new : List ℕ) (to : ℕ) → q (staticIn names types depths j) ≡ true → ((x : List Drop) → f (drop′ j ∷ x) ≡ b ++ f x)
+            → Stored out place b new to → Left f old at k (m - 2 ^ j) new to (put + 1)
+        left-put b new to on fb s =
+            let e : some′ (h .n) ≡ drop′ j ∷ some′ j = next ∙ ap (λ (b : Bool). cond b (drop′ j ∷ some′ j) (some′ j)) on in
+            record {
+              n = j;
+              word = w (h .n) (dropIn T types g) (h .word) .rest;
+              rest = rest-step f old at (some′ k) out place (some′ (h .n)) (h .rest) b (some′ j) new to (ap f e ∙ fb (some′ j)) s;
+              many = count-step (length (some′ k)) put (some′ (h .n)) (some′ j) (drop′ j) (h .many) e;
+            }
+
+      pub left-none : f [] ≡ [] → m ≤ 0 → Stored old at (f (some′ k)) out place × (put ≡ length (some′ k))
+      left-none fn z =
+          let zero : wordOf (h .n) (dropIn T types g) ≡ 0 = sym (h .word) ∙ (let e : m ≡ 0 = omega arith in e) in
+          let e : some′ (h .n) ≡ [] = drops-none (h .n) zero in
+          (rest-end f old at (some′ k) out place (some′ (h .n)) (h .rest) (some′ k) refl (ap f e ∙ fn), count-end (length (some′ k)) put (some′ (h .n)) (h .many) e)
+
+-- the struct of lent arrays
+abbrev pub localsOf : List ℕ → List ℕ → List ℕ → ℕ → Locals
+localsOf names types depths n = record { count = n; names = names; types = types; depths = depths; dtors = 0 }
+
+pub found-below : (r : Found) (i n : ℕ) → Below r n → r ≡ At i → i < n
+found-below r i n h e = subst (λ (x : Found). Below x n) e h
+
+-- no local of the name, or its newest local
+module _ (T : Tables) (names types depths : List ℕ) (g : ℕ → Status) (k p n s : ℕ) (r : Found) (f : Finds n (localsOf names types depths k) g r) where
+  pub assign-none : r ≡ Nothing → dropNamed states T p (called n s) (lent names types depths g k) ≡ []
+  assign-none e = ap (dropNewest states T p n) (f .is ∙ ap (foundIn (localsOf names types depths k) g) e)
+
+  pub assign-kept : (i : ℕ) → r ≡ At i → dropIn T types g i ≡ false → dropNamed states T p (called n s) (lent names types depths g k) ≡ []
+  assign-kept i e off =
+      ap (dropNewest states T p n) (f .is ∙ ap (foundIn (localsOf names types depths k) g) e) ∙ ap (λ (b : Bool). cond b (dropOf p n (getD types i 0) ∷ []) []) off
+
+  pub assign-drop : (i : ℕ) → r ≡ At i → dropIn T types g i ≡ true → dropNamed states T p (called n s) (lent names types depths g k) ≡ dropOf p n (getD types i 0) ∷ []
+  assign-drop i e on =
+      ap (dropNewest states T p n) (f .is ∙ ap (foundIn (localsOf names types depths k) g) e) ∙ ap (λ (b : Bool). cond b (dropOf p n (getD types i 0) ∷ []) []) on

@@ -1,0 +1,53 @@
+-- The values of a statement: their scan begins, and goes on.
+-- Assumes nothing.
+use Prim.Native.Nat.{ℕ, _-_, _≤_, _<_}
+use native.Mathlib.Omega.{arith}
+use mathlib.Core.Path.{_≡_, refl, sym, ap, _∙_, subst}
+use mathlib.Core.Bool.{Bool, true, false}
+use mathlib.Core.List.{List}
+use Rattle.fields.proofs.Tests.{false-true}
+use Rattle.tables.specs.Tables.{Tables}
+use Rattle.rules.specs.State.{State as Status}
+use Rattle.rules.specs.Stack.{Stack as Scope}
+use Rattle.scan.specs.Scan.{rootOf, topOf}
+use Rattle.returns.specs.Front.{frontAt}
+use Rattle.statements.specs.declared.Named.{Named}
+use Rattle.statements.specs.declared.Named.the-variants.{Nobody, Called}
+use Rattle.statements.specs.declared.Place.{Place}
+use Rattle.statements.specs.Act.{takenIn}
+use Rattle.writing.specs.Memory.{Memory, memory}
+use Rattle.fronts.specs.Walks.{LeadsAll}
+use Rattle.expressions_scan.specs.Resumed.{opens, Onward}
+use Rattle.expressions_scan.proofs.Onward.{onward-none, onward-both}
+use Rattle.statements_changes.specs.declared.Cursor.{Cursor}
+use Rattle.statements_changes.specs.Turns.{retold, betweenOf, withinOf, Midst, Stood}
+
+module _ (T : Tables) (s : List ℕ) (left d all : ℕ) (σ₀ : Scope Status) (p₀ : Place) (m₀ : Memory) where
+  module _ (ns : List ℕ) (c : Cursor) (σ : Scope Status) (out errs warns lefts : List ℕ) (g : Stood T s left d all σ₀ p₀ m₀ ns c σ (memory out errs warns lefts)) where
+    -- the scan begins
+    pub stood-begin : 0 < c .left → c .begun ≡ false → c .taken ≡ Nobody → (ns′ : List ℕ) → topOf (opens ns′) 1 ≡ rootOf (frontAt s (c .place .at) .values)
+        → Stood T s left d all σ₀ p₀ m₀ ns′ (withinOf (c .left) 1 (frontAt s (c .place .at) .first) (c .place)) σ (memory out errs warns lefts)
+    stood-begin some off free ns′ eo = record {
+      between = λ h. false-true (sym h);
+      within = λ h. record {
+        old = σ;
+        told = c .place .errors;
+        errs = errs;
+        os = opens ns′;
+        some = some;
+        leads = subst (λ x. LeadsAll T s left d all σ₀ p₀ m₀ (c .left) (takenIn x σ) (c .place) (memory out errs warns lefts)) free (g .between off);
+        root = eo;
+        onward = onward-none (opens ns′) 1 (frontAt s (c .place .at) .first) σ errs (c .place .errors);
+      };
+    }
+
+    -- it goes on
+    pub stood-on : c .begun ≡ true → (ns′ : List ℕ) {n p t : ℕ} {τ : Scope Status} {errs′ : List ℕ}
+        → Onward T s (opens ns) (c .nodes) (c .at) σ errs (c .place .errors) (opens ns′) n p τ errs′ t
+        → Stood T s left d all σ₀ p₀ m₀ ns′ (withinOf (c .left) n p (retold (c .place) t)) τ (memory out errs′ warns lefts)
+    stood-on on ns′ o =
+        let m = g .within on in
+        record {
+          between = λ h. false-true (sym h);
+          within = λ h. record { old = m .old; told = m .told; errs = m .errs; os = m .os; some = m .some; leads = m .leads; root = m .root; onward = onward-both (m .onward) o };
+        }

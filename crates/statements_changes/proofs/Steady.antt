@@ -1,0 +1,170 @@
+-- What the code is given at a cursor.
+-- Assumes nothing.
+use Prim.Native.Nat.{ℕ, _+_, _-_, _*_, _≤_, _<_}
+use native.Mathlib.Omega.{arith}
+use mathlib.Core.Path.{_≡_, refl, sym, ap, _∙_, subst}
+use mathlib.Core.Bool.{Bool, true, false, cond}
+use mathlib.Core.List.{List, []}
+use lib.ListN.{length, getD}
+use Rattle.fields.proofs.Tests.{false-true}
+use Rattle.fields.specs.Parsed.{ok}
+use Rattle.fields.specs.Bytes.{Bytes}
+use Rattle.tables.specs.Tables.{Tables}
+use Rattle.body.specs.Stmt.{Tree, Stmt, done, before, blockAt, stmtIn, stmtsAt}
+use Rattle.body.proofs.Statements.{stmts-more}
+use Rattle.effects.proofs.Asked.{tablesOf}
+use Rattle.rules.specs.State.{State as Status}
+use Rattle.rules.specs.Stack.{Stack as Scope}
+use Rattle.scan.specs.Scan.{fuel}
+use Rattle.scan.proofs.Start.{finished}
+use Rattle.returns.specs.Front.{frontAt}
+use Rattle.returns.specs.Returns.{StmtThere}
+use Rattle.returns.proofs.Surely.{stmt-there}
+use Rattle.steps.specs.Statement.{frontSize}
+use Rattle.steps.proofs.Before.{stmt-end}
+use Rattle.steps.proofs.Plain.{blockless-size}
+use Rattle.statements.specs.declared.Named.{Named}
+use Rattle.statements.specs.declared.Named.the-variants.{Nobody}
+use Rattle.statements.specs.declared.Change.{Change}
+use Rattle.statements.specs.declared.Change.the-variants as change
+use Rattle.statements.specs.declared.Place.{Place}
+use Rattle.statements.specs.declared.Act.{Act}
+use Rattle.statements.specs.Act.{FrontThere, Within, Grows, ActsThere}
+use Rattle.fronts.specs.Walks.{StmtsThere, TagThere, blocked}
+use Rattle.fronts.proofs.Wrotes.{within-on}
+use Rattle.fronts.proofs.Values.{ValuesAt, values-in, front-end}
+use Rattle.fronts.proofs.Acted.{tag-there, no-blocks}
+use Rattle.expressions_scan.specs.Resumed.{opens}
+use Rattle.statements_acts.specs.Marks.{EndsThere}
+use Rattle.statements_changes.specs.declared.Turn.the-variants.{Blocks}
+use Rattle.statements_changes.specs.declared.Cursor.{Cursor}
+use Rattle.statements_changes.specs.declared.Came.{Came}
+use Rattle.statements_changes.specs.Turns.{retold, betweenOf, turnOf, cameOf, Begun, Steady, SomeSteady, Fit}
+
+-- the next statement
+pub next-there : (s : List ℕ) (left n at : ℕ) → StmtsThere s left n at → 0 < n → StmtThere s left at
+next-there s left n at h lt =
+    let k = stmts-more (blockAt (h .t) s left) (h .t) s n at lt (h .read) in
+    record { t = h .t; deep = h .deep; x = k .0; next = k .1; read = k .3 }
+
+module _ (s : List ℕ) (left : ℕ) (c : Cursor) (st : SomeSteady s left c) (on : c .begun ≡ true) (over : c .nodes ≡ 0) where
+  abbrev go-on : Begun s left (st .ns) c
+  go-on = st .steady .within on
+
+  abbrev read-there : StmtsThere s left (c .left) (c .place .at)
+  read-there = st .steady .there
+
+  -- the statement at the place, where it ends, and the others
+  pub record Here : Type 0 where
+    pub x : Stmt
+    pub next : ℕ
+    pub rest : Tree
+    pub read : stmtIn (read-there .t) s left (c .place .at) ≡ ok x next
+    pub others : stmtsAt (read-there .t) s left (c .left - 1) next ≡ ok rest (read-there .end)
+
+  here : Here
+  here =
+      let k = stmts-more (blockAt (read-there .t) s left) (read-there .t) s (c .left) (c .place .at) (go-on .some) (read-there .read) in
+      record { x = k .0; next = k .1; rest = k .2; read = k .3; others = k .4 }
+
+  vals : ValuesAt (read-there .t) s (c .place .at) (here .x)
+  vals = values-in s (read-there .t) (read-there .deep) left (c .place .at) (here .x) (here .next) (here .read)
+
+  -- its values end where the scan stands
+  ended : c .at ≡ vals .end
+  ended =
+      let z = go-on .ends (here .x .front .values) (vals .end) (record { stand = vals .standing .stand; many = vals .standing .many; shallow = vals .standing .shallow }) in
+      finished (tablesOf s [] [] [] 0 0) s (opens (st .ns)) (c .nodes) (c .at) (vals .end) (z .0) (omega arith) (z .1) .1
+
+  pub front-there : FrontThere s (c .place .at) (c .at)
+  front-there = record {
+    f = blockAt (read-there .t) s left;
+    t = read-there .t;
+    deep = read-there .deep;
+    x = here .x;
+    next = here .next;
+    read = here .read;
+    values = vals .read ∙ ap (ok (here .x .front .values)) (sym ended);
+  }
+
+  pub tag-inside : (c .place .at < length s) × (getD s (c .place .at) 0 < 11)
+  tag-inside = stmt-there s left (c .place .at) (next-there s left (c .left) (c .place .at) read-there (go-on .some))
+
+  module _ (small : Bytes s) (a : Act) (ends : EndsThere s (c .place .at) (a .place .at)) (grows : Grows s (retold (c .place) 0) (a .place)) where
+    abbrev behind : Place
+    behind = retold (a .place) (c .place .errors)
+
+    walked : (r : Tree) → behind .at ≡ c .place .at + frontSize (before (here .x) r)
+    walked r = ends .is (blockAt (read-there .t) s left) (read-there .t) (here .x) (here .next) r (read-there .deep) (here .read)
+
+    within-there : Within s (a .place)
+    within-there = within-on (st .steady .inside) grows
+
+    few-errors : c .place .errors ≤ 300 * a .place .at
+    few-errors =
+        let v = vals in
+        let e = ended in
+        let f = front-end s small (read-there .t) (read-there .deep) left (c .place .at) (here .x) (here .next) (here .read) (done tt) vals in
+        let w = walked (done tt) in
+        let m = go-on .most in
+        let o = over in
+        let fs = fuel-none o in
+        let f1 = v .first in
+        let f2 = v .on in
+        let f3 = v .room in
+        omega arith
+      where
+        fuel-none : c .nodes ≡ 0 → fuel s (c .nodes) (c .at) ≡ 2 * (length s - c .at)
+        fuel-none e = rw e (omega arith)
+
+    as-within : (k : ℕ) → k ≤ 300 * a .place .at → Within s (retold (a .place) k)
+    as-within k le =
+        let w = within-there in
+        record { small = w .small; inside = w .inside; written = w .written; errors = le; warnings = w .warnings; lefts = w .lefts; inserted = w .inserted }
+
+    steady-plain : blocked (getD s (c .place .at) 0) ≡ false → (taken : Named) (ns : List ℕ) → Steady s left ns (betweenOf (c .left - 1) behind taken)
+    steady-plain has taken ns =
+        let plain = no-blocks s small (read-there .t) (read-there .deep) left (c .place .at) (here .x) (here .next) (here .read) behind walked has (done tt) in
+        let e : here .next ≡ behind .at =
+        (let n = stmt-end s small (read-there .t) left (c .place .at) (here .x) (here .next) (here .read) (done tt) in let z = blockless-size (before (here .x) (done tt)) plain in let w = walked (done tt) in omega arith) in
+        record {
+          inside = as-within 0 (omega arith);
+          there = record { t = read-there .t; deep = read-there .deep; c = here .rest; end = read-there .end; read = subst (λ (i : ℕ). stmtsAt (read-there .t) s left (c .left - 1) i ≡ ok (here .rest) (read-there .end)) e (here .others) };
+          between = λ h. few-errors;
+          within = λ h. false-true h;
+        }
+
+    fit-by : (b : Bool) (ch : Change) → blocked (getD s (c .place .at) 0) ≡ b → (r : Came)
+        → r ≡ cond b (record { cursor = betweenOf (c .left - 1) behind Nobody; turn = Blocks (getD s (c .place .at) 0) }) (record { cursor = betweenOf (c .left - 1) behind (a .taken); turn = turnOf ch })
+        → ((ns : List ℕ) → Fit s left ns (r .cursor) (r .turn)) × (r .cursor .left + 1 ≡ c .left) × (r .cursor .begun ≡ false)
+    fit-by true ch eb r er =
+        let l = go-on .some in
+        rw er (λ ns. (tag-there s small (read-there .t) (read-there .deep) left (c .place .at) (here .x) (here .next) (here .read) behind walked eb, as-within (c .place .errors) few-errors), omega arith, refl)
+    fit-by false change.Nothing eb r er = let l = go-on .some in rw er (λ ns. steady-plain eb (a .taken) ns, omega arith, refl)
+    fit-by false (change.Delete n p) eb r er = let l = go-on .some in rw er (λ ns. (steady-plain eb (a .taken) ns, omega arith), omega arith, refl)
+    fit-by false (change.Register n t) eb r er = let l = go-on .some in rw er (λ ns. steady-plain eb (a .taken) ns, omega arith, refl)
+    fit-by false (change.Revive n) eb r er = let l = go-on .some in rw er (λ ns. (steady-plain eb (a .taken) ns, omega arith), omega arith, refl)
+
+    pub fit-came : (r : Came) → r ≡ cameOf (getD s (c .place .at) 0) (c .left - 1) behind (a .change) (a .taken)
+        → ((ns : List ℕ) → Fit s left ns (r .cursor) (r .turn)) × (r .cursor .left + 1 ≡ c .left) × (r .cursor .begun ≡ false)
+    fit-came r er = fit-by (blocked (getD s (c .place .at) 0)) (a .change) refl r er
+
+-- the place that the code made
+pub within-told : {s : List ℕ} {p q : Place} → q ≡ p → Within s p → Within s q
+within-told {s} e w = subst (Within s) (sym e) w
+
+pub front-told : (s : List ℕ) (p q : Place) (end : ℕ) → q ≡ p → FrontThere s (p .at) end → FrontThere s (q .at) end
+front-told s p q end e f = subst (λ (x : Place). FrontThere s (x .at) end) (sym e) f
+
+pub acts-told : {T : Tables} {s : List ℕ} {σ : Scope Status} {p q : Place} {out warns lefts out₁ warns₁ lefts₁ : List ℕ} {a : Act} → q ≡ p
+    → ActsThere T s σ q out warns lefts a out₁ warns₁ lefts₁ → ActsThere T s σ p out warns lefts a out₁ warns₁ lefts₁
+acts-told {T} {s} {σ} {p} {q} {out} {warns} {lefts} {out₁} {warns₁} {lefts₁} {a} e h = subst (λ (x : Place). ActsThere T s σ x out warns lefts a out₁ warns₁ lefts₁) e h
+
+pub grows-told : {s : List ℕ} {p q z : Place} → q ≡ p → Grows s q z → Grows s p z
+grows-told {s} {p} {q} {z} e h = subst (λ (x : Place). Grows s x z) e h
+
+pub came-told : (tag left : ℕ) {z y : Place} (ch : Change) (taken : Named) {r : Came} → r ≡ cameOf tag left z ch taken → z ≡ y → r ≡ cameOf tag left y ch taken
+came-told tag left ch taken e f = e ∙ ap (λ (x : Place). cameOf tag left x ch taken) f
+
+pub ends-told : (s : List ℕ) (p q : Place) (to : ℕ) → q ≡ p → EndsThere s (q .at) to → EndsThere s (p .at) to
+ends-told s p q to e h = subst (λ (x : Place). EndsThere s (x .at) to) e h

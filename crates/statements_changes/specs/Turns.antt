@@ -1,0 +1,132 @@
+-- Statements of a block walked over lent arrays up to the next change of the stack.
+use Prim.Native.Nat.{ℕ, zero, suc, _+_, _-_, _*_, _≤_, _<_}
+use mathlib.Core.Path.{_≡_}
+use mathlib.Core.Bool.{Bool, true, false, cond}
+use mathlib.Core.List.{List, [], _∷_}
+use mathlib.Core.Option.{none}
+use lib.ListN.{getD}
+use Rattle.fields.specs.Parsed.{ok}
+use Rattle.tables.specs.Limits.{version1}
+use Rattle.tables.specs.Tables.{Tables}
+use Rattle.body.specs.Expr.{Scope as Reading, Exprs}
+use Rattle.body.specs.Stmt.{Tree, stmtsAt}
+use Rattle.rules.specs.State.{State as Status}
+use Rattle.rules.specs.Stack.{local, mark, Stack as Scope}
+use Rattle.rules.specs.Rules.{states, register}
+use Rattle.rules.specs.Walk.{tooMany, walkFault}
+use Rattle.scan.specs.Scan.{Stage, Stacked, Ready, fuel, rootOf, topOf}
+use Rattle.scan.specs.declared.Open.{Open}
+use Rattle.state.specs.Kinds.{said, put}
+use Rattle.returns.specs.Front.{frontAt}
+use Rattle.steps.specs.Own.{numberOf}
+use Rattle.statements.specs.declared.Named.{Named}
+use Rattle.statements.specs.declared.Named.the-variants.{Nobody, Called}
+use Rattle.statements.specs.declared.Change.{Change}
+use Rattle.statements.specs.declared.Change.the-variants as change
+use Rattle.statements.specs.declared.Place.{Place}
+use Rattle.statements.specs.Act.{takenIn, Within}
+use Rattle.writing.specs.Memory.{Memory, memory}
+use Rattle.fronts.specs.Walks.{Walked, LeadsAll, StmtsWalk, StmtsThere, TagThere, TagWalks, blocked}
+use Rattle.expressions_scan.specs.Changes.{Standing}
+use Rattle.expressions_scan.specs.Resumed.{opens, Onward}
+use Rattle.statements_acts.specs.Marks.{HoldsAll, Marked}
+use Rattle.statements_changes.specs.declared.Turn.{Turn}
+use Rattle.statements_changes.specs.declared.Turn.the-variants.{Nothing, Over, Mark, Register, Blocks}
+use Rattle.statements_changes.specs.declared.Cursor.{Cursor}
+use Rattle.statements_changes.specs.declared.Came.{Came}
+
+-- the first n locals of lent arrays are the stack's, and the mark has those that are deleted where they end
+pub record Lends (T : Tables) (mark : ℕ) (names types depths : List ℕ) (at : ℕ → Status) (n : ℕ) (σ : Scope Status) : Type 0 where
+  pub held : HoldsAll names types depths at n σ
+  pub marked : Marked T types at n mark
+
+-- a place with other errors
+abbrev pub retold : Place → ℕ → Place
+retold p k = record { at = p .at; last = p .last; written = p .written; errors = k; warnings = p .warnings; lefts = p .lefts; inserted = p .inserted; fits = p .fits }
+
+-- between two statements, with what is still to be taken over; within the values of one
+abbrev pub betweenOf : ℕ → Place → Named → Cursor
+betweenOf left p taken = record { left = left; begun = false; nodes = 0; at = p .at; place = p; taken = taken }
+
+abbrev pub withinOf : ℕ → ℕ → ℕ → Place → Cursor
+withinOf left nodes at p = record { left = left; begun = true; nodes = nodes; at = at; place = p; taken = Nobody }
+
+-- what is to be done behind a statement of a tag
+abbrev pub turnOf : Change → Turn
+turnOf change.Nothing = Nothing
+turnOf (change.Delete n p) = Mark n 1 p false
+turnOf (change.Register n t) = Register n t
+turnOf (change.Revive n) = Mark n 0 0 false
+
+abbrev pub cameOf : ℕ → ℕ → Place → Change → Named → Came
+cameOf tag left p ch taken =
+    cond (blocked tag) (record { cursor = betweenOf left p Nobody; turn = Blocks tag }) (record { cursor = betweenOf left p taken; turn = turnOf ch })
+
+module _ (T : Tables) (s : List ℕ) (left d all : ℕ) (σ₀ : Scope Status) (p₀ : Place) (m₀ : Memory) where
+  -- the values of the statement at the place are scanned: the locals and the errors when that began, and how it went on from there
+  pub record Midst (ns : List ℕ) (c : Cursor) (σ : Scope Status) (m : Memory) : Type 0 where
+    pub old : Scope Status
+    pub told : ℕ
+    pub errs : List ℕ
+    pub os : List Open
+    pub some : 0 < c .left
+    pub leads : LeadsAll T s left d all σ₀ p₀ m₀ (c .left) old (retold (c .place) told) (memory (m .out) errs (m .warns) (m .lefts))
+    pub root : topOf os 1 ≡ rootOf (frontAt s (c .place .at) .values)
+    pub onward : Onward T s os 1 (frontAt s (c .place .at) .first) old errs told (opens ns) (c .nodes) (c .at) σ (m .errs) (c .place .errors)
+
+  -- the walk of all statements has led to the cursor, with the locals σ
+  pub record Stood (ns : List ℕ) (c : Cursor) (σ : Scope Status) (m : Memory) : Type 0 where
+    pub between : c .begun ≡ false → LeadsAll T s left d all σ₀ p₀ m₀ (c .left) (takenIn (c .taken) σ) (c .place) m
+    pub within : c .begun ≡ true → Midst ns c σ m
+
+  -- all statements have that fault
+  abbrev pub Faulty : ℕ → Type 0
+  Faulty k = (t : Reading) → t .exprDepth ≡ 24 → (c : Tree) (end : ℕ) → stmtsAt t s left all (p₀ .at) ≡ ok c end → k ≡ numberOf (walkFault version1 T c d σ₀)
+
+  -- what holds once the stack has done what it must
+  abbrev pub After : List ℕ → Cursor → Scope Status → Memory → Turn → Type 0
+  After ns c σ m Nothing = Stood ns c σ m
+  After ns c σ m Over = LeadsAll T s left d all σ₀ p₀ m₀ 0 σ (c .place) m
+  After ns c σ m (Mark n k p o) = Stood ns c (mark n (put o (said k (p ∷ []))) σ) m
+  After ns c σ m (Register n t) =
+      (tooMany version1 (register states n t d σ) ≡ none → Stood ns c (register states n t d σ) m)
+      × (0 < numberOf (tooMany version1 (register states n t d σ)) → Faulty (numberOf (tooMany version1 (register states n t d σ))))
+  After ns c σ m (Blocks tag) =
+      (w : Walked) (m′ : Memory) → TagWalks T s left d tag σ (c .place) m w m′
+      → (0 < w .fault → StmtsWalk T s left d all σ₀ p₀ m₀ w m′) × (w .fault ≤ 0 → LeadsAll T s left d all σ₀ p₀ m₀ (c .left) (w .locals) (w .place) m′)
+
+-- what the code is given of the values that are scanned: statements were read at the place; the scan can go on to their end
+pub record Begun (s : List ℕ) (left : ℕ) (ns : List ℕ) (c : Cursor) : Type 0 where
+  pub some : 0 < c .left
+  pub ready : Ready s (opens ns) (c .nodes) (c .at)
+  pub ends : (es : Exprs) (next : ℕ) → Standing s (frontAt s (c .place .at) .values) (frontAt s (c .place .at) .first) es next
+      → (fs : List Stage) × Stacked (opens ns) (c .nodes) fs s (c .at) next
+  pub most : c .place .errors + 12 * fuel s (c .nodes) (c .at) ≤ 300 * c .place .at + 12 * fuel s 1 (frontAt s (c .place .at) .first)
+  pub free : c .taken ≡ Nobody
+
+pub record Steady (s : List ℕ) (left : ℕ) (ns : List ℕ) (c : Cursor) : Type 0 where
+  pub inside : Within s (retold (c .place) 0)
+  pub there : StmtsThere s left (c .left) (c .place .at)
+  pub between : c .begun ≡ false → c .place .errors ≤ 300 * c .place .at
+  pub within : c .begun ≡ true → Begun s left ns c
+
+-- of some array of open nodes
+pub record SomeSteady (s : List ℕ) (left : ℕ) (c : Cursor) : Type 0 where
+  pub ns : List ℕ
+  pub steady : Steady s left ns c
+
+-- what the code that goes on is given
+abbrev pub Fit : List ℕ → ℕ → List ℕ → Cursor → Turn → Type 0
+Fit s left ns c Nothing = Steady s left ns c
+Fit s left ns c Over = c .left ≡ 0
+Fit s left ns c (Mark n k p o) = Steady s left ns c × (k < 7)
+Fit s left ns c (Register n t) = Steady s left ns c
+Fit s left ns c (Blocks tag) = TagThere s left (c .place .at) tag × Within s (c .place)
+
+-- what is still ahead of a cursor: it falls with each turn
+abbrev pub owes : Named → ℕ
+owes Nobody = 0
+owes (Called n p) = 1
+
+abbrev pub ahead : List ℕ → Cursor → ℕ
+ahead s c = 400000 * c .left + cond (c .begun) (fuel s (c .nodes) (c .at)) 200000 + owes (c .taken)
