@@ -7,35 +7,35 @@ use Rattle.expressions_scan.proofs.put_error.Lts as lts
 use Rattle.expressions_scan.proofs.put_zeros.Reads as put-zeros-reads
 use Rattle.writing.proofs.put_number.Reads as put-number-reads
 
--- src/lib.rt:82:9
+-- src/lib.rt:103:9
 put-number-requires : tie.Need-put-number-requires
 put-number-requires c κs = search needs
 
--- src/lib.rt:83:5
+-- src/lib.rt:104:5
 put-number-requires-2 : tie.Need-put-number-requires-2
 put-number-requires-2 c κs = search needs
 
--- src/lib.rt:84:5
+-- src/lib.rt:105:5
 put-number-requires-3 : tie.Need-put-number-requires-3
 put-number-requires-3 c κs = search needs
 
--- src/lib.rt:85:5
+-- src/lib.rt:106:5
 put-number-requires-4 : tie.Need-put-number-requires-4
 put-number-requires-4 c κs = search needs
 
--- src/lib.rt:86:5
+-- src/lib.rt:107:5
 put-number-requires-5 : tie.Need-put-number-requires-5
 put-number-requires-5 c κs = search needs
 
--- src/lib.rt:87:5
+-- src/lib.rt:108:5
 put-zeros-requires : tie.Need-put-zeros-requires
 put-zeros-requires c κs = search needs
 
--- src/lib.rt:78:1
+-- src/lib.rt:91:1
 same-length : tie.Need-same-length
 same-length c = search needs
 
--- src/lib.rt:78:1
+-- src/lib.rt:91:1
 returns : tie.Need-returns
 returns c = both-stored (both-stored (both-stored (both-stored (both-stored (c .before .before .before .before .before .before .before .before .before .before .before .before .before .before .before .before .before .before .before .before .before .before .put-number .ensures) (c .before .before .before .before .before .before .before .before .before .before .before .before .before .before .before .before .before .before .put-number2 .ensures)) (c .before .before .before .before .before .before .before .before .before .before .before .before .before .before .put-number3 .ensures)) (c .before .before .before .before .before .before .before .before .before .before .put-number4 .ensures)) (c .before .before .before .before .before .before .put-number5 .ensures)) (c .before .before .put-zeros .ensures)
 

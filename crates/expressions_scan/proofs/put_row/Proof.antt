@@ -8,43 +8,43 @@ use Rattle.expressions_scan.proofs.put_places.Reads as put-places-reads
 use Rattle.expressions_scan.proofs.wide32.Reads as wide32-reads
 use Rattle.writing.proofs.put_number.Reads as put-number-reads
 
--- src/lib.rt:126:18
+-- src/lib.rt:147:18
 mul-others : tie.Need-mul-others
 mul-others c = search needs
 
--- src/lib.rt:126:18
+-- src/lib.rt:147:18
 shared-slice-read-others : tie.Need-shared-slice-read-others
 shared-slice-read-others c = search needs
 
--- src/lib.rt:127:9
+-- src/lib.rt:148:9
 put-number-requires : tie.Need-put-number-requires
 put-number-requires c κs = search needs
 
--- src/lib.rt:128:5
+-- src/lib.rt:149:5
 put-number-requires-2 : tie.Need-put-number-requires-2
 put-number-requires-2 c κs = search needs
 
--- src/lib.rt:129:5
+-- src/lib.rt:150:5
 put-number-requires-3 : tie.Need-put-number-requires-3
 put-number-requires-3 c κs = search needs
 
--- src/lib.rt:130:5
+-- src/lib.rt:151:5
 put-number-requires-4 : tie.Need-put-number-requires-4
 put-number-requires-4 c κs = search needs
 
--- src/lib.rt:131:37
+-- src/lib.rt:152:37
 wide32-requires : tie.Need-wide32-requires
 wide32-requires c κs = search needs
 
--- src/lib.rt:131:5
+-- src/lib.rt:152:5
 put-places-requires : tie.Need-put-places-requires
 put-places-requires c κs = search needs
 
--- src/lib.rt:122:1
+-- src/lib.rt:143:1
 same-length : tie.Need-same-length
 same-length c = search needs
 
--- src/lib.rt:122:1
+-- src/lib.rt:143:1
 returns : tie.Need-returns
 returns c = row-stored (c .before .before .before .before .before .before .before .before .before .before .before .before .before .before .before .before .before .before .before .before .before .before .before .before .args .rows .now) (c .before .before .before .before .before .before .before .before .before .before .before .before .before .before .before .before .before .before .before .before .before .before .before .before .args .row) (c .before .before .before .before .before .before .before .before .before .before .before .before .before .before .before .before .before .before .before .before .before .before .before .before .pre .1) (c .before .before .before .before .before .before .before .before .before .before .before .before .before .before .before .before .before .before .before .put-number .ensures) (c .before .before .before .before .before .before .before .before .before .before .before .before .before .before .before .put-number2 .ensures) (c .before .before .before .before .before .before .before .before .before .before .before .put-number3 .ensures) (c .before .before .before .before .before .before .before .put-number4 .ensures) (c .before .before .put-places .ensures)
 

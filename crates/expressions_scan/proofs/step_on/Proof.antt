@@ -13,51 +13,51 @@ use Rattle.expressions_scan.proofs.pack.Reads as pack-reads
 use Rattle.expressions_scan.proofs.unpack.Reads as unpack-reads
 use Rattle.scan.proofs.advance.Reads as advance-reads
 
--- src/lib.rt:340:13
+-- src/lib.rt:438:13
 sub-m : tie.Need-sub-m
 sub-m c = search needs
 
--- src/lib.rt:341:22
+-- src/lib.rt:439:22
 mul-unpack : tie.Need-mul-unpack
 mul-unpack c = let z = few _ _ _ _ (c .before .before .before .before .pre .1) in omega arith
 
--- src/lib.rt:341:22
+-- src/lib.rt:439:22
 element-copy-out-unpack : tie.Need-element-copy-out-unpack
 element-copy-out-unpack c = let z = few _ _ _ _ (c .before .before .before .before .pre .1) in omega arith
 
--- src/lib.rt:341:9
+-- src/lib.rt:439:9
 unpack-requires : tie.Need-unpack-requires
 unpack-requires c κs = search needs
 
--- src/lib.rt:342:9
+-- src/lib.rt:440:9
 advance-requires : tie.Need-advance-requires
 advance-requires c κs = (c .before .before .before .before .before .before .pre .0, waits-at _ (c .before .before .before .before .before .before .args .nodes .now) (c .before .before .before .before .before .before .args .depth) _ _ (c .before .before .before .before .before .before .pre .1) (c .before .before .before .before .before .before .pre .2) (c .unpack .ensures))
 
--- src/lib.rt:345:16
+-- src/lib.rt:443:16
 pack-requires : tie.Need-pack-requires
 pack-requires c κs = search needs
 
--- src/lib.rt:345:5
+-- src/lib.rt:443:5
 mul-nodes : tie.Need-mul-nodes
 mul-nodes c = let z = few _ _ _ _ (c .before .before .before .before .before .before .before .before .before .before .pre .1) in omega arith
 
--- src/lib.rt:345:5
+-- src/lib.rt:443:5
 element-write-nodes : tie.Need-element-write-nodes
 element-write-nodes c = let z = few _ _ _ _ (c .before .before .before .before .before .before .before .before .before .before .pre .1) in omega arith
 
--- src/lib.rt:346:20
+-- src/lib.rt:444:20
 pack-requires-2 : tie.Need-pack-requires-2
 pack-requires-2 c κs = search needs
 
--- src/lib.rt:346:5
+-- src/lib.rt:444:5
 mul-nodes-2 : tie.Need-mul-nodes-2
 mul-nodes-2 c = let z = few _ _ _ _ (c .before .before .before .before .before .before .before .before .before .before .before .pre .1) in omega arith
 
--- src/lib.rt:346:5
+-- src/lib.rt:444:5
 element-write-nodes-2 : tie.Need-element-write-nodes-2
 element-write-nodes-2 c = let z = few _ _ _ _ (c .before .before .before .before .before .before .before .before .before .before .before .pre .1) in omega arith
 
--- src/lib.rt:325:1
+-- src/lib.rt:423:1
 returns : tie.Need-returns
 returns c = ((λ T sy. c .before .before .before .before .advance .ensures T sy (opens (c .before .before .before .before .before .before .before .before .before .before .before .args .nodes .now)) (c .before .before .before .before .before .before .before .before .before .before .before .args .depth) (c .before .before .before .before .before .before .before .before .before .before .before .pre .1) (c .before .before .before .before .before .before .before .before .before .before .before .pre .2) (top-node (c .before .before .before .before .before .before .before .before .before .before .before .args .nodes .now) (c .before .before .before .before .before .before .before .before .before .before .before .args .depth) ∙ sym (c .before .before .before .before .before .unpack .ensures))), step-nodes (c .before .before .before .before .before .before .before .before .before .before .before .args .nodes .now) (c .before .before .before .before .before .before .before .before .before .before .before .args .depth) (c .before .pack .result) (c .pack2 .result) (c .before .before .before .before .advance .result) (c .before .pack .ensures) (c .pack2 .ensures))
 

@@ -10,19 +10,19 @@ use Rattle.scope_stack.proofs.differ.Tie as tie
 use Rattle.scope_stack.proofs.differ.Reads as reads
 use Rattle.scope_stack.proofs.differ.Lts as lts
 
--- src/lib.rt:329:9
+-- src/lib.rt:362:9
 returns : tie.Need-returns
 returns c = λ e. false-true (sym e)
 
--- src/lib.rt:332:9
+-- src/lib.rt:365:9
 returns-2 : tie.Need-returns-2
 returns-2 c = λ e. record { kind = sym (c .before .if1 .left); single = omega (arith, c .if2 .taken); first = inl (c .if2 .taken) }
 
--- src/lib.rt:335:9
+-- src/lib.rt:368:9
 returns-3 : tie.Need-returns-3
 returns-3 c = λ e. false-true (sym e)
 
--- src/lib.rt:324:1
+-- src/lib.rt:357:1
 returns-4 : tie.Need-returns-4
 returns-4 c = λ e. record { kind = sym (c .before .before .before .before .if1 .left); single = c .before .before .if3 .left; first = inr (sym (eqb-true _ _ (not-false _ e))) }
 

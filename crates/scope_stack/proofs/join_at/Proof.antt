@@ -13,79 +13,79 @@ use Rattle.scope_stack.proofs.wide.Reads as wide-reads
 use Rattle.scope_stack.proofs.write_row.Reads as write-row-reads
 use Rattle.state.proofs.State.join.Reads as join-reads
 
--- src/lib.rt:357:9
+-- src/lib.rt:378:9
 load-requires : tie.Need-load-requires
 load-requires c κs = loads _ _ _ _ (c .before .before .pre .0) (c .before .before .pre .2)
 
--- src/lib.rt:358:9
+-- src/lib.rt:379:9
 load-requires-2 : tie.Need-load-requires-2
 load-requires-2 c κs = loads _ _ _ _ (c .before .before .before .before .pre .1) (c .before .before .before .before .pre .2)
 
--- src/lib.rt:359:9
+-- src/lib.rt:380:9
 join-requires : tie.Need-join-requires
 join-requires c κs = search needs
 
--- src/lib.rt:361:9
+-- src/lib.rt:382:9
 same-length : tie.Need-same-length
 same-length c = search needs
 
--- src/lib.rt:361:9
+-- src/lib.rt:382:9
 returns : tie.Need-returns
 returns c = let j = joins-from (c .before .before .before .before .before .before .before .before .args .x) (c .before .before .before .before .before .before .before .before .args .y) (c .before .before .before .before .before .before .before .before .args .rows .now) (c .before .before .before .before .before .before .before .before .args .row) (c .before .before .before .before .before .before .before .before .args .more) (c .before .before .before .before .before .load .result) (c .before .before .before .load2 .result) (c .before .before .join .result) (c .before .before .before .before .before .load .ensures .0) (c .before .before .before .load2 .ensures .0) (c .before .before .join .ensures) in
     joins-crowd (c .before .before .before .before .before .before .before .before .args .width) (c .before .before .before .before .before .before .before .before .args .x) (c .before .before .before .before .before .before .before .before .args .y) (c .before .before .before .before .before .before .before .before .args .rows .now) (c .before .before .before .before .before .before .before .before .args .row) (c .before .before .before .before .before .before .before .before .args .more) (c .before .before .join .result) j (c .before .before .before .before .before .before .before .before .pre .2) (not-true _ (c .if1 .taken))
 
--- src/lib.rt:365:9
+-- src/lib.rt:389:9
 wide-requires : tie.Need-wide-requires
 wide-requires c κs = search needs
 
--- src/lib.rt:367:9
+-- src/lib.rt:391:9
 same-length-2 : tie.Need-same-length-2
 same-length-2 c = search needs
 
--- src/lib.rt:367:9
+-- src/lib.rt:391:9
 returns-2 : tie.Need-returns-2
 returns-2 c = let j = joins-from (c .before .before .before .before .before .before .before .before .before .before .before .before .args .x) (c .before .before .before .before .before .before .before .before .before .before .before .before .args .y) (c .before .before .before .before .before .before .before .before .before .before .before .before .args .rows .now) (c .before .before .before .before .before .before .before .before .before .before .before .before .args .row) (c .before .before .before .before .before .before .before .before .before .before .before .before .args .more) (c .before .before .before .before .before .before .before .before .before .load .result) (c .before .before .before .before .before .before .before .load2 .result) (c .before .before .before .before .before .before .join .result) (c .before .before .before .before .before .before .before .before .before .load .ensures .0) (c .before .before .before .before .before .before .before .load2 .ensures .0) (c .before .before .before .before .before .before .join .ensures) in
     joins-over (c .before .before .before .before .before .before .before .before .before .before .before .before .args .width) (c .before .before .before .before .before .before .before .before .before .before .before .before .args .x) (c .before .before .before .before .before .before .before .before .before .before .before .before .args .y) (c .before .before .before .before .before .before .before .before .before .before .before .before .args .rows .now) (c .before .before .before .before .before .before .before .before .before .before .before .before .args .row) (c .before .before .before .before .before .before .before .before .before .before .before .before .args .more) (c .before .before .before .before .before .before .join .result) j (c .before .before .before .before .before .before .before .before .before .before .before .before .pre .2) (not-false _ (c .before .before .before .before .if1 .left)) (omega (arith, c .before .wide .ensures, c .if2 .taken))
 
--- src/lib.rt:369:17
+-- src/lib.rt:396:17
 element-copy-out-first : tie.Need-element-copy-out-first
 element-copy-out-first c = search needs
 
--- src/lib.rt:371:9
+-- src/lib.rt:398:9
 same-length-3 : tie.Need-same-length-3
 same-length-3 c = search needs
 
--- src/lib.rt:371:9
+-- src/lib.rt:398:9
 returns-3 : tie.Need-returns-3
 returns-3 c = let j = joins-from (c .before .before .before .before .before .before .before .before .before .before .before .before .before .before .args .x) (c .before .before .before .before .before .before .before .before .before .before .before .before .before .before .args .y) (c .before .before .before .before .before .before .before .before .before .before .before .before .before .before .args .rows .now) (c .before .before .before .before .before .before .before .before .before .before .before .before .before .before .args .row) (c .before .before .before .before .before .before .before .before .before .before .before .before .before .before .args .more) (c .before .before .before .before .before .before .before .before .before .before .before .load .result) (c .before .before .before .before .before .before .before .before .before .load2 .result) (c .before .before .before .before .before .before .before .before .join .result) (c .before .before .before .before .before .before .before .before .before .before .before .load .ensures .0) (c .before .before .before .before .before .before .before .before .before .load2 .ensures .0) (c .before .before .before .before .before .before .before .before .join .ensures) in
     joins-one (c .before .before .before .before .before .before .before .before .before .before .before .before .before .before .args .width) (c .before .before .before .before .before .before .before .before .before .before .before .before .before .before .args .x) (c .before .before .before .before .before .before .before .before .before .before .before .before .before .before .args .y) (c .before .before .before .before .before .before .before .before .before .before .before .before .before .before .args .rows .now) (c .before .before .before .before .before .before .before .before .before .before .before .before .before .before .args .row) (c .before .before .before .before .before .before .before .before .before .before .before .before .before .before .args .more) (c .before .before .before .before .before .before .before .before .join .result) j (c .before .before .before .before .before .before .before .before .before .before .before .before .before .before .pre .2) (not-false _ (c .before .before .before .before .before .before .if1 .left)) (omega (arith, c .before .before .before .wide .ensures, c .before .before .if2 .left)) (omega (arith, c .before .before .before .wide .ensures, c .if3 .taken))
 
--- src/lib.rt:376:22
+-- src/lib.rt:403:22
 add-if4 : tie.Need-add-if4
 add-if4 c = search needs
 
--- src/lib.rt:377:9
+-- src/lib.rt:404:9
 same-length-4 : tie.Need-same-length-4
 same-length-4 c = search needs
 
--- src/lib.rt:377:9
+-- src/lib.rt:404:9
 returns-4 : tie.Need-returns-4
 returns-4 c = let j = joins-from (c .before .before .before .before .before .before .before .before .before .before .before .before .before .before .before .args .x) (c .before .before .before .before .before .before .before .before .before .before .before .before .before .before .before .args .y) (c .before .before .before .before .before .before .before .before .before .before .before .before .before .before .before .args .rows .now) (c .before .before .before .before .before .before .before .before .before .before .before .before .before .before .before .args .row) (c .before .before .before .before .before .before .before .before .before .before .before .before .before .before .before .args .more) (c .before .before .before .before .before .before .before .before .before .before .before .before .load .result) (c .before .before .before .before .before .before .before .before .before .before .load2 .result) (c .before .before .before .before .before .before .before .before .before .join .result) (c .before .before .before .before .before .before .before .before .before .before .before .before .load .ensures .0) (c .before .before .before .before .before .before .before .before .before .before .load2 .ensures .0) (c .before .before .before .before .before .before .before .before .before .join .ensures) in
     joins-short (c .before .before .before .before .before .before .before .before .before .before .before .before .before .before .before .args .width) (c .before .before .before .before .before .before .before .before .before .before .before .before .before .before .before .args .x) (c .before .before .before .before .before .before .before .before .before .before .before .before .before .before .before .args .y) (c .before .before .before .before .before .before .before .before .before .before .before .before .before .before .before .args .rows .now) (c .before .before .before .before .before .before .before .before .before .before .before .before .before .before .before .args .row) (c .before .before .before .before .before .before .before .before .before .before .before .before .before .before .before .args .more) (c .before .before .before .before .before .before .before .before .before .join .result) j (c .before .before .before .before .before .before .before .before .before .before .before .before .before .before .before .pre .2) (not-false _ (c .before .before .before .before .before .before .before .if1 .left)) (omega (arith, c .before .before .before .before .wide .ensures, c .before .before .before .if2 .left)) (c .if4 .taken)
 
--- src/lib.rt:379:5
+-- src/lib.rt:409:5
 write-row-requires : tie.Need-write-row-requires
 write-row-requires c κs = (c .before .before .before .before .before .before .before .before .before .before .join .ensures .is (not-false _ (c .before .before .before .before .before .before .before .before .if1 .left)) .1 .roomy, omega (arith, c .before .before .before .before .before .wide .ensures, c .before .before .before .before .if2 .left, c .before .if4 .left))
 
--- src/lib.rt:380:16
+-- src/lib.rt:410:16
 add-kind : tie.Need-add-kind
 add-kind c = omega (arith, c .before .before .before .before .before .before .before .before .before .before .before .before .before .before .join .ensures .is (not-false _ (c .before .before .before .before .before .before .before .before .before .before .before .before .if1 .left)) .1 .known)
 
--- src/lib.rt:353:1
+-- src/lib.rt:374:1
 same-length-5 : tie.Need-same-length-5
 same-length-5 c = search needs
 
--- src/lib.rt:353:1
+-- src/lib.rt:374:1
 returns-5 : tie.Need-returns-5
 returns-5 c = let j = joins-from (c .before .before .before .before .before .before .before .before .before .before .before .before .before .before .before .before .before .before .before .before .args .x) (c .before .before .before .before .before .before .before .before .before .before .before .before .before .before .before .before .before .before .before .before .args .y) (c .before .before .before .before .before .before .before .before .before .before .before .before .before .before .before .before .before .before .before .before .args .rows .now) (c .before .before .before .before .before .before .before .before .before .before .before .before .before .before .before .before .before .before .before .before .args .row) (c .before .before .before .before .before .before .before .before .before .before .before .before .before .before .before .before .before .before .before .before .args .more) (c .before .before .before .before .before .before .before .before .before .before .before .before .before .before .before .before .before .load .result) (c .before .before .before .before .before .before .before .before .before .before .before .before .before .before .before .load2 .result) (c .before .before .before .before .before .before .before .before .before .before .before .before .before .before .join .result) (c .before .before .before .before .before .before .before .before .before .before .before .before .before .before .before .before .before .load .ensures .0) (c .before .before .before .before .before .before .before .before .before .before .before .before .before .before .before .load2 .ensures .0) (c .before .before .before .before .before .before .before .before .before .before .before .before .before .before .join .ensures) in
     joins-many (c .before .before .before .before .before .before .before .before .before .before .before .before .before .before .before .before .before .before .before .before .args .width) (c .before .before .before .before .before .before .before .before .before .before .before .before .before .before .before .before .before .before .before .before .args .x) (c .before .before .before .before .before .before .before .before .before .before .before .before .before .before .before .before .before .before .before .before .args .y) (c .before .before .before .before .before .before .before .before .before .before .before .before .before .before .before .before .before .before .before .before .args .rows .now) (c .before .before .before .before .before .before .before .before .before .before .before .before .before .before .before .before .before .before .before .before .args .row) (c .before .before .before .before .before .before .before .before .before .before .before .before .before .before .before .before .before .before .before .before .args .more) (c .before .before .before .before .before .before .before .before .before .before .before .before .before .before .join .result) j (c .before .before .before .before .before .before .before .before .before .before .before .before .before .before .before .before .before .before .before .before .pre .2) (not-false _ (c .before .before .before .before .before .before .before .before .before .before .before .before .if1 .left)) (omega (arith, c .before .before .before .before .before .before .before .before .before .wide .ensures, c .before .before .before .before .before .before .before .before .if2 .left)) _ _ (omega (arith, c .before .before .before .before .before .before .before .before .before .wide .ensures, c .before .before .before .before .before .before .if3 .left)) (c .before .before .before .before .before .if4 .left) (c .before .before .before .write-row .ensures)

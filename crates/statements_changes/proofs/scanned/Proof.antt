@@ -31,7 +31,7 @@ within-requires c κs = search needs
 enum-told : tie.Need-enum-told
 enum-told c = search needs
 
--- src/lib.rt:273:31
+-- src/lib.rt:273:40
 enum-known-change : tie.Need-enum-known-change
 enum-known-change c = search needs
 

@@ -19,91 +19,91 @@ Inv-loop n rows₀ a b width told₀ self₀ other i₀ rows told self i = (i �
 abbrev μ-loop : tie.MeasureT-loop
 μ-loop n rows₀ a b width told₀ self₀ other i₀ rows told self i = n - i
 
--- src/lib.rt:223:9
+-- src/lib.rt:251:9
 loop-holds : tie.Need-loop-holds Inv-loop μ-loop
 loop-holds c = (search needs, refl, joining-none _ _ _ _ _ _ _ (c .before .pre))
 
--- src/lib.rt:224:21
+-- src/lib.rt:252:21
 element-copy-out-k : tie.Need-element-copy-out-k Inv-loop μ-loop
 element-copy-out-k c = search needs
 
--- src/lib.rt:225:21
+-- src/lib.rt:253:21
 mul-f : tie.Need-mul-f Inv-loop μ-loop
 mul-f c = search needs
 
--- src/lib.rt:225:21
+-- src/lib.rt:253:21
 element-copy-out-f : tie.Need-element-copy-out-f Inv-loop μ-loop
 element-copy-out-f c = search needs
 
--- src/lib.rt:227:21
+-- src/lib.rt:255:21
 element-copy-out-l : tie.Need-element-copy-out-l Inv-loop μ-loop
 element-copy-out-l c = search needs
 
--- src/lib.rt:228:21
+-- src/lib.rt:256:21
 mul-g : tie.Need-mul-g Inv-loop μ-loop
 mul-g c = search needs
 
--- src/lib.rt:228:21
+-- src/lib.rt:256:21
 element-copy-out-g : tie.Need-element-copy-out-g Inv-loop μ-loop
 element-copy-out-g c = search needs
 
--- src/lib.rt:230:16
+-- src/lib.rt:258:16
 differ-requires : tie.Need-differ-requires Inv-loop μ-loop
 differ-requires c κs = search needs
 
--- src/lib.rt:231:32
+-- src/lib.rt:259:32
 add-row : tie.Need-add-row Inv-loop μ-loop
 add-row c = omega (arith, c .before .before .before .before .before .before .before .before .before .pre .wide)
 
--- src/lib.rt:231:27
+-- src/lib.rt:259:27
 mul-row : tie.Need-mul-row Inv-loop μ-loop
 mul-row c = omega (arith, c .before .before .before .before .before .before .before .before .before .pre .fits .0, row-before (c .before .before .before .before .before .before .before .before .before .args .a) (c .before .before .before .before .before .before .before .before .before .args .width) (c .before .before .before .before .before .before .before .loop .i) (c .before .before .before .before .before .before .before .before .before .args .n) (c .before .before .before .before .before .before .loop-test .taken))
 
--- src/lib.rt:232:45
+-- src/lib.rt:260:45
 add-join-at : tie.Need-add-join-at Inv-loop μ-loop
 add-join-at c = omega (arith, c .before .before .before .before .before .before .before .before .before .before .pre .fits .0, row-before (c .before .before .before .before .before .before .before .before .before .before .args .a) (c .before .before .before .before .before .before .before .before .before .before .args .width) (c .before .before .before .before .before .before .before .before .loop .i) (c .before .before .before .before .before .before .before .before .before .before .args .n) (c .before .before .before .before .before .before .before .loop-test .taken))
 
--- src/lib.rt:232:54
+-- src/lib.rt:260:54
 add-join-at-2 : tie.Need-add-join-at-2 Inv-loop μ-loop
 add-join-at-2 c = omega (arith, c .before .before .before .before .before .before .before .before .before .before .pre .fits .1, row-before (c .before .before .before .before .before .before .before .before .before .before .args .b) (c .before .before .before .before .before .before .before .before .before .before .args .width) (c .before .before .before .before .before .before .before .before .loop .i) (c .before .before .before .before .before .before .before .before .before .before .args .n) (c .before .before .before .before .before .before .before .loop-test .taken))
 
--- src/lib.rt:232:21
+-- src/lib.rt:260:21
 join-at-requires : tie.Need-join-at-requires Inv-loop μ-loop
 join-at-requires c κs = (known-a (c .before .before .before .before .before .before .before .before .before .before .args .n) (c .before .before .before .before .before .before .before .before .before .before .args .width) (c .before .before .before .before .before .before .before .before .before .before .args .t1) (c .before .before .before .before .before .before .before .before .before .before .args .t2) (c .before .before .before .before .before .before .before .before .before .before .args .rows .now) (c .before .before .before .before .before .before .before .before .before .before .args .a) (c .before .before .before .before .before .before .before .before .before .before .args .b) (c .before .before .before .before .before .before .before .before .before .before .pre) (c .before .before .before .before .before .before .before .before .loop .i) (c .before .before .before .before .before .before .before .before .loop .self) (c .before .before .before .before .before .before .before .before .loop .rows) (c .before .before .before .before .before .before .before .before .loop .inv .2) (c .before .before .before .before .before .before .before .before .loop .i) (omega arith), known-b (c .before .before .before .before .before .before .before .before .before .before .args .n) (c .before .before .before .before .before .before .before .before .before .before .args .width) (c .before .before .before .before .before .before .before .before .before .before .args .t1) (c .before .before .before .before .before .before .before .before .before .before .args .t2) (c .before .before .before .before .before .before .before .before .before .before .args .rows .now) (c .before .before .before .before .before .before .before .before .before .before .args .a) (c .before .before .before .before .before .before .before .before .before .before .args .b) (c .before .before .before .before .before .before .before .before .before .before .pre) (c .before .before .before .before .before .before .before .before .loop .i) (c .before .before .before .before .before .before .before .before .loop .self) (c .before .before .before .before .before .before .before .before .loop .rows) (c .before .before .before .before .before .before .before .before .loop .inv .2) (c .before .before .before .before .before .before .before .loop-test .taken), c .before .before .before .before .before .before .before .before .before .before .pre .wide, omega (arith, c .before .before .before .before .before .before .before .before .before .before .pre .fits .0, row-before (c .before .before .before .before .before .before .before .before .before .before .args .a) (c .before .before .before .before .before .before .before .before .before .before .args .width) (c .before .before .before .before .before .before .before .before .loop .i) (c .before .before .before .before .before .before .before .before .before .before .args .n) (c .before .before .before .before .before .before .before .loop-test .taken)))
 
--- src/lib.rt:235:21
+-- src/lib.rt:263:21
 same-length : tie.Need-same-length Inv-loop μ-loop
 same-length c = c .before .before .before .before .join-at .ensures .rest .room ∙ c .before .before .before .before .before .before .before .before .before .before .before .before .before .loop .inv .2 .else .room
 
--- src/lib.rt:235:21
+-- src/lib.rt:263:21
 returns : tie.Need-returns Inv-loop μ-loop
 returns c = joining-stop (c .before .before .before .before .before .before .before .before .before .before .before .before .before .before .before .args .n) (c .before .before .before .before .before .before .before .before .before .before .before .before .before .before .before .args .width) (c .before .before .before .before .before .before .before .before .before .before .before .before .before .before .before .args .t1) (c .before .before .before .before .before .before .before .before .before .before .before .before .before .before .before .args .t2) (c .before .before .before .before .before .before .before .before .before .before .before .before .before .before .before .args .rows .now) (c .before .before .before .before .before .before .before .before .before .before .before .before .before .before .before .args .a) (c .before .before .before .before .before .before .before .before .before .before .before .before .before .before .before .args .b) (c .before .before .before .before .before .before .before .before .before .before .before .before .before .before .before .pre) (c .before .before .before .before .before .before .before .before .before .before .before .before .before .loop .i) (c .before .before .before .before .before .before .before .before .before .before .before .before .before .loop .self) (c .before .before .before .before .before .before .before .before .before .before .before .before .before .loop .rows) (c .before .before .before .before .before .before .before .before .before .before .before .before .before .loop .inv .2) (c .before .before .before .before .before .before .before .before .before .before .before .before .loop-test .taken) _ _ (c .before .before .before .before .join-at .ensures) _ refl (c .if2 .taken)
 
--- src/lib.rt:237:17
+-- src/lib.rt:265:17
 element-write-self : tie.Need-element-write-self Inv-loop μ-loop
 element-write-self c = search needs
 
--- src/lib.rt:238:17
+-- src/lib.rt:266:17
 mul-self : tie.Need-mul-self Inv-loop μ-loop
 mul-self c = search needs
 
--- src/lib.rt:238:17
+-- src/lib.rt:266:17
 element-write-self-2 : tie.Need-element-write-self-2 Inv-loop μ-loop
 element-write-self-2 c = search needs
 
--- src/lib.rt:239:30
+-- src/lib.rt:267:30
 with-bit-requires : tie.Need-with-bit-requires Inv-loop μ-loop
 with-bit-requires c κs = search needs
 
--- src/lib.rt:241:13
+-- src/lib.rt:269:13
 add-i : tie.Need-add-i Inv-loop μ-loop
 add-i c = search needs
 
--- src/lib.rt:223:9
+-- src/lib.rt:251:9
 loop-less : tie.Need-loop-less Inv-loop μ-loop
 loop-less c = search needs
 
--- src/lib.rt:223:9
+-- src/lib.rt:251:9
 loop-again : tie.Need-loop-again Inv-loop μ-loop
 loop-again c = (
   search needs,
@@ -114,11 +114,11 @@ loop-again c = (
       (c .if1 .came),
 )
 
--- src/lib.rt:217:5
+-- src/lib.rt:236:5
 same-length-2 : tie.Need-same-length-2 Inv-loop μ-loop
 same-length-2 c = c .before .loop .inv .2 .else .room
 
--- src/lib.rt:217:5
+-- src/lib.rt:236:5
 returns-2 : tie.Need-returns-2 Inv-loop μ-loop
 returns-2 c = let end : c .before .loop .i ≡ c .before .before .before .args .n = omega (arith, c .before .loop .inv .0, c .loop-test .left) in
     rw (c .before .loop .inv .1) (joining-all (c .before .before .before .args .n) (c .before .before .before .args .width) (c .before .before .before .args .t1) (c .before .before .before .args .t2) (c .before .before .before .args .rows .now) (c .before .before .before .args .a) (c .before .before .before .args .b) (c .before .before .before .pre) (c .before .loop .i) (c .before .loop .self) (c .before .loop .rows) (c .before .loop .inv .2) end)
