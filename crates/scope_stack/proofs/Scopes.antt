@@ -108,6 +108,13 @@ sound-mark l t r name f rows cur width s h m = record { kept = s .kept; held = h
 pub sound-join : (l : Locals) (t u r : States) (rows new : List ℕ) (a b width told : ℕ) → Kept l → JoinsAll (l .count) width t u rows a b r new told → told ≡ 0 → Sound l r new a width
 sound-join l t u r rows new a b width told k j e = record { kept = k; held = j .held e; rowed = j .rowed e }
 
+-- fault 12 is decided by the count, whatever is registered
+pub register-length : (l : Locals) (name ty depth : ℕ) (t : States) (rows : List ℕ) (cur width : ℕ)
+    → length (register states name ty depth (view l t rows cur width)) ≡ l .count + 1
+register-length l name ty depth t rows cur width =
+    let z : suc (l .count) ≡ l .count + 1 = omega arith in
+    ap suc (ap length (framed name depth (λ (a : Status). alive) (staticAt l) (stateAt t rows cur width) (l .count)) ∙ length-stacked (staticAt l) _ (l .count)) ∙ z
+
 -- a registration: the new local is Alive, and so are the others of its name in its frame, or they are marked so
 module _ (l r : Locals) (name ty depth : ℕ) (dtor : Bool) (g : Grows l name ty depth dtor r) (t : States) (rows : List ℕ) (cur width : ℕ)
     (h : Rowed (l .count) t rows cur width) where
@@ -126,12 +133,6 @@ module _ (l r : Locals) (name ty depth : ℕ) (dtor : Bool) (g : Grows l name ty
 
   pub sound-register : Held t → Sound r t rows cur width
   sound-register held = record { kept = g .kept; held = held; rowed = rowed-more }
-
-  -- fault 12 is decided by the count
-  pub register-length : length (register states name ty depth (view l t rows cur width)) ≡ l .count + 1
-  register-length =
-      let z : suc (l .count) ≡ l .count + 1 = omega arith in
-      ap suc (ap length (framed name depth (λ (a : Status). alive) (staticAt l) (stateAt t rows cur width) (l .count)) ∙ length-stacked (staticAt l) _ (l .count)) ∙ z
 
   pub registers-marked : (p : ℕ) (u : States) → Marks r name (put false (said 0 (p ∷ []))) t u → view r u rows cur width ≡ register states name ty depth (view l t rows cur width)
   registers-marked p u m = m .is rows cur width rowed-more ∙ ap (mark name (λ (a : Status). alive)) new-view ∙ rw (eqb-self name)

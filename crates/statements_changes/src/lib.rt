@@ -1,6 +1,6 @@
 // The statements of a block over lent arrays, up to the next change of the stack.
 // Throughout, ns, ts and xs are where the names, types and structs stand in the image s, and ln, lt, ld, lk and lf the names, types,
-// depths, kinds and first places of the locals, rows the rows of further places, all lent; env has the numbers of the walk.
+// depths, kinds and first places of the locals, rows the places of joined states, all lent; env has the numbers of the walk.
 ghost use mathlib.Core.Path.{_≡_};
 ghost use mathlib.Core.Bool.{true, false};
 ghost use mathlib.Core.List.{List};
@@ -139,7 +139,7 @@ fn turn_of(tag: u8, left: usize, place: Place, change: Change, taken: Named) -> 
     }
 }
 
-// The statement at the place, its values evaluated up to `end`, with so many numbers of errors.
+// The statement at the cursor's place, whose values are through.
 fn acted<'a>(
     s: &[u8],
     ns: &[usize],
