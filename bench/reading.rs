@@ -1,4 +1,4 @@
-// How long reading an image takes: every image of crates/faults/data/images through `image_fault`, the slowest first.
+// How long reading an image takes: every image of crates/programs_faults/data/images through `image_fault`, the slowest first.
 // At the root of the repository, once the crate `image` is proved:
 //   rt staticlib image && rustc --edition 2021 -O --out-dir target bench/reading.rs -L target/staticlib -l static=image && target/reading
 use std::time::Instant;
@@ -39,7 +39,7 @@ fn time(image: &[u8]) -> (u128, u128) {
 }
 
 fn main() {
-    let file = std::fs::read("crates/faults/data/images").expect("run at the root of the repository");
+    let file = std::fs::read("crates/programs_faults/data/images").expect("run at the root of the repository");
     let mut rows: Vec<_> = records(&file).into_iter().map(|(name, image)| (time(image), name, image.len(), fault(image))).collect();
     rows.sort_by(|a, b| b.0.cmp(&a.0));
     println!("{:>10} {:>10} {:>8} {:>6}  image", "median ns", "worst ns", "bytes", "fault");

@@ -2,7 +2,7 @@
 //
 //     rustc -O --out-dir target tools/fault_images.rs && target/fault_images
 //
-// at the root of the repository writes crates/faults/data/images and crates/faults/stdout. Each image is built together with its
+// at the root of the repository writes crates/programs_faults/data/images and crates/programs_faults/stdout. Each image is built together with its
 // outcome. Nothing here reads an image.
 use std::convert::TryFrom;
 use std::fs;
@@ -813,8 +813,8 @@ fn main() {
     for part in [cuts, expression_depths, block_depths, leftovers, receivers, looked_through, receiver_order] {
         part(&mut c);
     }
-    fs::create_dir_all("crates/faults/data").unwrap();
-    fs::write("crates/faults/data/images", &c.data).unwrap();
-    fs::write("crates/faults/stdout", &c.lines).unwrap();
+    fs::create_dir_all("crates/programs_faults/data").unwrap();
+    fs::write("crates/programs_faults/data/images", &c.data).unwrap();
+    fs::write("crates/programs_faults/stdout", &c.lines).unwrap();
     println!("{} images, {} bytes", c.labels.len(), c.data.len());
 }

@@ -75,14 +75,24 @@ pub fn all() -> Vec<(String, Image)> {
     list
 }
 
-/// Around the sizes of the memory that the library has of its own: for images of at most 2,048 bytes 4,096 bytes and 32 entries a list,
-/// for longer ones 65,536 bytes and 512 entries.
+/// Around the sizes of the memory that the library has of its own: for images of at most 512 bytes 1,024 bytes, 8 errors, 17 entries of the
+/// other lists and rows for 32 joined states; for images of at most 2,048 bytes 4,096 bytes, 32 entries a list and rows for 128; for longer
+/// ones 65,536 bytes, 512 entries and rows for 1,472. Where one does not reach, the next is tried.
 pub fn own_memory() -> Vec<(String, Image)> {
     let mut list: Vec<(String, Image)> = vec![];
-    for total in 2_046..2_051 {
+    for total in (510..515).chain(2_046..2_051) {
         list.push((format!("{total} bytes"), long(total)));
     }
-    for n in [31, 32, 33, 511, 512, 513] {
+    // 16 parameters of one name, given up in two branches, so that each has two places; then ifs with else in one another
+    for deep in 0..12 {
+        let gone = |span| when(20, block(21, vec![deletion(span, V)]), None);
+        let mut inner = vec![deletion(24, V)];
+        for _ in 0..deep {
+            inner = vec![when(25, block(26, vec![deletion(27, V)]), Some(block(28, inner)))];
+        }
+        list.push((format!("joined states, ifs {deep} deep"), body(&[V; 16], [vec![gone(22), gone(23)], inner].concat())));
+    }
+    for n in [7, 8, 9, 16, 17, 18, 31, 32, 33, 511, 512, 513] {
         let errors = (0..n).map(|i| run(21, ident(i as SpanNo, V))).collect();
         list.push((format!("{n} errors, own memory"), body(&[V], [vec![deletion(20, V)], errors].concat())));
         let warnings = (0..n).map(|i| run(i as SpanNo, call(21, T, literal(), vec![]))).collect();

@@ -289,7 +289,7 @@ pub fn differ(images: u64, damaged: u64, seed: u64) -> i32 {
     0
 }
 
-// Corners, boundaries, and the stored images of crates/faults.
+// Corners, boundaries, and the stored images of crates/programs_faults.
 fn by_hand() -> Vec<(String, Vec<u8>)> {
     let rows = corners::rows().into_iter().map(|r| (r.label.to_string(), r.image));
     let trees = rows.chain([("example".to_string(), corners::example())]).chain(corners::others());

@@ -184,9 +184,9 @@ fn example() -> usize {
     !right as usize
 }
 
-/// The second reader on the images of crates/faults, beside the outcomes stored there.
+/// The second reader on the images of crates/programs_faults, beside the outcomes stored there.
 fn fault_images() -> usize {
-    let folder = Path::new(env!("CARGO_MANIFEST_DIR")).join("../crates/faults");
+    let folder = Path::new(env!("CARGO_MANIFEST_DIR")).join("../crates/programs_faults");
     let lines = std::fs::read_to_string(folder.join("stdout")).unwrap_or_default();
     let records = fault_records();
     let mut wrong = (records.is_empty() || records.len() != lines.lines().count()) as usize;
@@ -200,13 +200,13 @@ fn fault_images() -> usize {
             wrong += 1;
         }
     }
-    println!("the second reader on crates/faults: {} images, {wrong} wrong", records.len());
+    println!("the second reader on crates/programs_faults: {} images, {wrong} wrong", records.len());
     wrong
 }
 
-/// The stored images of crates/faults with their labels.
+/// The stored images of crates/programs_faults with their labels.
 fn fault_records() -> Vec<(String, Vec<u8>)> {
-    let data = std::fs::read(Path::new(env!("CARGO_MANIFEST_DIR")).join("../crates/faults/data/images")).unwrap_or_default();
+    let data = std::fs::read(Path::new(env!("CARGO_MANIFEST_DIR")).join("../crates/programs_faults/data/images")).unwrap_or_default();
     let (mut list, mut at) = (vec![], 0);
     while at < data.len() {
         let label = at + 1 + data[at] as usize;

@@ -1,4 +1,4 @@
-//! A third reading of the rules: the definitions of crates/rules/specs and crates/lookup/specs, clause by clause and under their names,
+//! A third reading of the rules: the definitions of crates/rules/specs and crates/tables_lookup/specs, clause by clause and under their names,
 //! so that they can be run beside the Rust. Lists are newest first. A `Code` is a slice of statements, the rest of a list its tail.
 #![allow(non_snake_case)]
 use crate::answer::{Answer, Error, Outcome};

@@ -95,7 +95,7 @@ fn record(label: &str, bytes: &[u8], outcome: &Outcome) -> Record {
     Record { bytes: r, fault }
 }
 
-/// For the program of crates/faults: images, damaged ones and whole ones, up to so many bytes in all, and the lines that it has to print by
+/// For the program of crates/programs_faults: images, damaged ones and whole ones, up to so many bytes in all, and the lines that it has to print by
 /// the second reader.
 pub fn records(folder: &Path, room: usize, seed: u64) -> i32 {
     let (mut data, mut lines) = (vec![], String::new());
@@ -122,7 +122,7 @@ pub fn records(folder: &Path, room: usize, seed: u64) -> i32 {
     0
 }
 
-/// For memory.c: the boundaries, the images of crates/faults, so many generated ones and as many damaged.
+/// For memory.c: the boundaries, the images of crates/programs_faults, so many generated ones and as many damaged.
 pub fn write_images(path: &Path, many: u64) -> i32 {
     let trees = boundaries::all().into_iter().chain(boundaries::own_memory()).chain(boundaries::deepest());
     let mut list: Vec<_> = trees.map(|(label, tree)| (label, image::write(&tree).bytes)).chain(crate::fault_records()).collect();

@@ -6,7 +6,7 @@ use mathlib.Core.Bool.{Bool, true, false, cond, _||_}
 use mathlib.Core.List.{List, [], _∷_, _++_, append-nil}
 use native.Mathlib.Omega.{arith}
 use lib.Dec.{eqb}
-use Rattle.fields.proofs.Tests.{false-true}
+use Rattle.image_fields.proofs.Tests.{false-true}
 use Rattle.tables.specs.Limits.{version1}
 use Rattle.rules.specs.State.{State as Status, alive, gone, moved, consumed, handState}
 use Rattle.rules.specs.Stack.{Static, local, shape, has, lookup, inFrame, mark, Stack as Scope}
@@ -15,12 +15,12 @@ use Rattle.rules.specs.Rules.{states, applyAll}
 use Rattle.rules.specs.Report.{error, useOf, reportAll}
 use Rattle.rules.specs.Verdict.{entryOf, entriesOf}
 use Rattle.rules.specs.Effects.{uses, hands, gives, moves, movesGlobal, movesNone, resolveAll}
-use Rattle.effects.specs.Asked.{emits}
-use Rattle.effects.specs.declared.Effect.{Effect}
-use Rattle.effects.specs.declared.Effect.the-variants as effect
-use Rattle.state.specs.Kinds.{put}
-use Rattle.writing.specs.Stored.{Stored}
-use Rattle.writing.proofs.Stores.{none-stored}
+use Rattle.expressions_effects.specs.Asked.{emits}
+use Rattle.expressions_effects.specs.declared.Effect.{Effect}
+use Rattle.expressions_effects.specs.declared.Effect.the-variants as effect
+use Rattle.scope_state.specs.Kinds.{put}
+use Rattle.image_writing.specs.Stored.{Stored}
+use Rattle.image_writing.proofs.Stores.{none-stored}
 use Rattle.expressions_scan.specs.declared.Change.the-variants.{Nothing, Mark}
 use Rattle.expressions_scan.specs.declared.Answer.{Answer}
 use Rattle.expressions_scan.specs.Changes.{after, told, applied, Answers, Marks, Small}

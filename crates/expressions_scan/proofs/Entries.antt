@@ -11,14 +11,14 @@ use native.Mathlib.Numerals.{add-one}
 use lib.Dec.{eqb, ltb}
 use lib.ListN.{length, getD, take, drop, replicate, length-append, length-drop, length-take, List·getD-append}
 use lib.Seq.{getD-take, getD-drop, length-take-le}
-use Rattle.fields.proofs.Tests.{less, split}
+use Rattle.image_fields.proofs.Tests.{less, split}
 use Rattle.tables.specs.Limits.{version1}
 use Rattle.rules.specs.Report.{Report, error, first, badUse}
 use Rattle.rules.specs.Verdict.{entryOf, entriesOf}
-use Rattle.writing.specs.Stored.{Stored}
-use Rattle.writing.proofs.Stores.{both-stored}
-use Rattle.state.specs.Kinds.{baseOf, said}
-use Rattle.state.proofs.Uses.{bad-use}
+use Rattle.image_writing.specs.Stored.{Stored}
+use Rattle.image_writing.proofs.Stores.{both-stored}
+use Rattle.scope_state.specs.Kinds.{baseOf, said}
+use Rattle.scope_state.proofs.Uses.{bad-use}
 use Rattle.expressions_scan.specs.States.{lowOf, rowOf, statusOf, Kept}
 
 pub entries-append : (xs ys : List Report) → entriesOf version1 (xs ++ ys) ≡ entriesOf version1 xs ++ entriesOf version1 ys

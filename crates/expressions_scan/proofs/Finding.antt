@@ -9,8 +9,8 @@ use borrow.Author.Tests.{eq-eqb, ne-eqb}
 use native.Mathlib.Omega.{arith}
 use lib.Dec.{eqb}
 use lib.ListN.{getD}
-use Rattle.lookup.specs.declared.Found.{Found}
-use Rattle.lookup.specs.declared.Found.the-variants.{At, Nothing}
+use Rattle.tables_lookup.specs.declared.Found.{Found}
+use Rattle.tables_lookup.specs.declared.Found.the-variants.{At, Nothing}
 use Rattle.rules.specs.State.{State as Status}
 use Rattle.rules.specs.Stack.{Static, Local, local, shape, has, lookup, Stack as Scope}
 use Rattle.rules.proofs.FrameRules.{isSome}

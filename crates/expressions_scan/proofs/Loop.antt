@@ -8,12 +8,12 @@ use lib.ListN.{length, getD}
 use Rattle.tables.specs.Tables.{Tables}
 use Rattle.rules.specs.State.{State as Status}
 use Rattle.rules.specs.Stack.{Stack as Scope}
-use Rattle.effects.specs.Asked.{emits, Says}
-use Rattle.effects.proofs.Asked.{tablesOf, said}
-use Rattle.scan.specs.Scan.{Stage, Stacked, topOf, Ready, Waits, Goes, nodesAfter, openAfter, fuel}
-use Rattle.scan.specs.declared.Open.{Open}
-use Rattle.scan.specs.declared.Step.{Step}
-use Rattle.scan.proofs.Start.{ready-next, few}
+use Rattle.expressions_effects.specs.Asked.{emits, Says}
+use Rattle.expressions_effects.proofs.Asked.{tablesOf, said}
+use Rattle.expressions_steps.specs.Scan.{Stage, Stacked, topOf, Ready, Waits, Goes, nodesAfter, openAfter, fuel}
+use Rattle.expressions_steps.specs.declared.Open.{Open}
+use Rattle.expressions_steps.specs.declared.Step.{Step}
+use Rattle.expressions_steps.proofs.Start.{ready-next, few}
 use Rattle.expressions_scan.specs.declared.Change.{Change}
 use Rattle.expressions_scan.specs.declared.Change.the-variants.{Nothing, Mark}
 use Rattle.expressions_scan.specs.declared.Answer.{Answer}

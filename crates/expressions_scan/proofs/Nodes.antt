@@ -5,9 +5,9 @@ use mathlib.Core.Path.{_≡_, refl, sym, ap, _∙_}
 use mathlib.Core.List.{List, [], _∷_, map}
 use native.Mathlib.Omega.{arith}
 use lib.ListN.{length, getD, set, length-map, List·getD-map}
-use Rattle.scan.specs.Scan.{topOf, nodesAfter}
-use Rattle.scan.specs.declared.Open.{Open}
-use Rattle.scan.specs.declared.Step.{Step}
+use Rattle.expressions_steps.specs.Scan.{topOf, nodesAfter}
+use Rattle.expressions_steps.specs.declared.Open.{Open}
+use Rattle.expressions_steps.specs.declared.Step.{Step}
 use Rattle.expressions_scan.specs.Resumed.{openOf, opens}
 
 -- a node's number and back

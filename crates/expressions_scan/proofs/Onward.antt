@@ -8,11 +8,11 @@ use Rattle.tables.specs.Tables.{Tables}
 use Rattle.rules.specs.State.{State as Status}
 use Rattle.rules.specs.Stack.{Stack as Scope}
 use Rattle.rules.specs.Verdict.{entriesOf}
-use Rattle.effects.specs.Asked.{emits}
-use Rattle.scan.specs.Scan.{pending, nodesAfter, openAfter, Goes}
-use Rattle.scan.specs.declared.Open.{Open}
-use Rattle.scan.specs.declared.Step.{Step}
-use Rattle.writing.proofs.Stores.{none-stored, both-stored}
+use Rattle.expressions_effects.specs.Asked.{emits}
+use Rattle.expressions_steps.specs.Scan.{pending, nodesAfter, openAfter, Goes}
+use Rattle.expressions_steps.specs.declared.Open.{Open}
+use Rattle.expressions_steps.specs.declared.Step.{Step}
+use Rattle.image_writing.proofs.Stores.{none-stored, both-stored}
 use Rattle.expressions_scan.specs.declared.Answer.{Answer}
 use Rattle.expressions_scan.specs.Changes.{after, told, applied, Answers}
 use Rattle.expressions_scan.specs.Resumed.{Rest, Onward}
@@ -46,7 +46,7 @@ module _ {T : Tables} {s : List ℕ} where
         );
   }
 
-  -- one step of crate scan, and the answer to its effect
+  -- one step of crate expressions_steps, and the answer to its effect
   pub onward-step : {os : List Open} {n p m : ℕ} {σ : Scope Status} {old new : List ℕ} (r : Step) (a : Answer) → Goes T s os n p r → Answers (emits (r .effect)) σ old m new a
       → Onward T s os n p σ old m (nodesAfter os n r) (openAfter n r) (r .at) (applied (a .change) σ) new (a .told)
   onward-step {os} {n} {p} {m} {σ} r a g q = record {

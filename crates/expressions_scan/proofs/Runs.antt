@@ -4,7 +4,7 @@ use mathlib.Core.Path.{_≡_, refl, sym, ap, _∙_}
 use mathlib.Core.Bool.{false}
 use mathlib.Core.List.{List, [], _∷_, _++_, append-assoc}
 use Rattle.tables.specs.Tables.{Tables}
-use Rattle.body.specs.Expr.{Exprs}
+use Rattle.image_body.specs.Expr.{Exprs}
 use Rattle.rules.specs.State.{State as Status}
 use Rattle.rules.specs.Stack.{Shape, shape, Stack as Scope}
 use Rattle.rules.specs.Effects.{Effect}

@@ -7,15 +7,15 @@ use mathlib.Core.List.{List, [], _∷_, _++_, append-nil}
 use lib.ListN.{length}
 use Rattle.tables.specs.Limits.{version1}
 use Rattle.tables.specs.Tables.{Tables}
-use Rattle.body.specs.Expr.{Exprs}
+use Rattle.image_body.specs.Expr.{Exprs}
 use Rattle.rules.specs.State.{State as Status}
 use Rattle.rules.specs.Stack.{Stack as Scope}
 use Rattle.rules.specs.Verdict.{entriesOf}
 use Rattle.rules.specs.Effects.{Raw}
-use Rattle.scan.specs.Scan.{pending, rootOf, topOf}
-use Rattle.scan.specs.declared.Open.{Open}
-use Rattle.scan.proofs.Start.{root, starts, start-tells, finished}
-use Rattle.writing.specs.Stored.{Stored}
+use Rattle.expressions_steps.specs.Scan.{pending, rootOf, topOf}
+use Rattle.expressions_steps.specs.declared.Open.{Open}
+use Rattle.expressions_steps.proofs.Start.{root, starts, start-tells, finished}
+use Rattle.image_writing.specs.Stored.{Stored}
 use Rattle.expressions_scan.specs.Changes.{after, told, afterAll, toldAll, Standing}
 use Rattle.expressions_scan.specs.Resumed.{Onward}
 use Rattle.expressions_scan.proofs.Entries.{stored-eq}

@@ -5,9 +5,9 @@ use mathlib.Core.Bool.{Bool, false}
 use mathlib.Core.List.{List, [], _∷_}
 use Rattle.tables.specs.Limits.{version1}
 use Rattle.tables.specs.Tables.{Tables}
-use Rattle.body.specs.Expr.{Exprs}
-use Rattle.body.specs.Stands.{StandAll, count}
-use Rattle.body.specs.Depth.{depthAll}
+use Rattle.image_body.specs.Expr.{Exprs}
+use Rattle.image_body.specs.Stands.{StandAll, count}
+use Rattle.image_body.specs.Depth.{depthAll}
 use Rattle.rules.specs.State.{State as Status}
 use Rattle.rules.specs.Stack.{shape, mark, Stack as Scope}
 use Rattle.rules.specs.Effects.{group}
@@ -15,8 +15,8 @@ use Rattle.rules.specs.Rules.{states, applyAll}
 use Rattle.rules.specs.Report.{Report, reportAll}
 use Rattle.rules.specs.Verdict.{entriesOf}
 use Rattle.rules.specs.Effects.{Raw, resolveAll}
-use Rattle.state.specs.Kinds.{said, put}
-use Rattle.writing.specs.Stored.{Stored}
+use Rattle.scope_state.specs.Kinds.{said, put}
+use Rattle.image_writing.specs.Stored.{Stored}
 use Rattle.expressions_scan.specs.declared.Change.{Change}
 use Rattle.expressions_scan.specs.declared.Change.the-variants.{Nothing, Mark}
 use Rattle.expressions_scan.specs.declared.Answer.{Answer}

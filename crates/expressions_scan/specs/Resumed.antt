@@ -8,9 +8,9 @@ use Rattle.rules.specs.State.{State as Status}
 use Rattle.rules.specs.Stack.{Stack as Scope}
 use Rattle.rules.specs.Report.{Report}
 use Rattle.rules.specs.Verdict.{entriesOf}
-use Rattle.scan.specs.Scan.{Stage, Stacked, pending, Ready, fuel}
-use Rattle.scan.specs.declared.Open.{Open}
-use Rattle.writing.specs.Stored.{Stored}
+use Rattle.expressions_steps.specs.Scan.{Stage, Stacked, pending, Ready, fuel}
+use Rattle.expressions_steps.specs.declared.Open.{Open}
+use Rattle.image_writing.specs.Stored.{Stored}
 use Rattle.expressions_scan.specs.declared.Change.{Change}
 use Rattle.expressions_scan.specs.declared.Change.the-variants.{Nothing, Mark}
 use Rattle.expressions_scan.specs.declared.Scanned.{Scanned}

@@ -13,18 +13,18 @@ ghost use Rattle.rules.specs.Stack.{lookup, Stack as Scope};
 ghost use Rattle.rules.specs.Report.{error, badUse, useOf};
 ghost use Rattle.rules.specs.Verdict.{entryOf, entriesOf};
 ghost use Rattle.rules.specs.Effects.{uses, hands, gives, moves};
-ghost use Rattle.effects.specs.Asked.{emits, Lent, Says};
-ghost use Rattle.scan.specs.Scan.{rootOf, topOf, Ready, Goes, nodesAfter, fuel};
-ghost use Rattle.state.specs.Kinds.{baseOf};
-ghost use Rattle.writing.specs.Stored.{Stored};
+ghost use Rattle.expressions_effects.specs.Asked.{emits, Lent, Says};
+ghost use Rattle.expressions_steps.specs.Scan.{rootOf, topOf, Ready, Goes, nodesAfter, fuel};
+ghost use Rattle.scope_state.specs.Kinds.{baseOf};
+ghost use Rattle.image_writing.specs.Stored.{Stored};
 ghost use Rattle.expressions_scan.specs.States.{rowOf, statusOf, stateAt, Kept, AllKept, Holds, Finds};
 ghost use Rattle.expressions_scan.specs.Changes.{applied, Answers, Small};
 ghost use Rattle.expressions_scan.specs.declared.Change.the-variants.{Nothing};
 ghost use Rattle.expressions_scan.specs.Resumed.{openOf, opens, Onward, Going};
-use effects::Effect;
-use lookup::Found;
-use scan::Open;
-use scan::Step;
+use expressions_effects::Effect;
+use expressions_steps::Open;
+use expressions_steps::Step;
+use tables_lookup::Found;
 
 // What the stack must do: nothing, or mark a name: its kind (1 to 6), its place, and whether only what is Alive is marked.
 pub enum Change {
@@ -81,7 +81,7 @@ fn put_zeros(list: &mut [u32], at: usize, many: usize) -> usize
     let mut next = at;
     let mut i = 0;
     while i < many {
-        next = writing::put_number(list, next, 0);
+        next = image_writing::put_number(list, next, 0);
         i += 1;
     }
     next
@@ -100,11 +100,11 @@ fn put_error(
     requires { ⌜ n < 4294967100 ⌝ }
     ensures { λ r. ⌜ Stored (now (list .entry)) n (kind ∷ place ∷ hint ∷ others ∷ first ∷ replicate 7 0) (now (list .exit)) r ⌝ }
 {
-    let mut at = writing::put_number(list, n, kind as u32);
-    at = writing::put_number(list, at, place);
-    at = writing::put_number(list, at, hint as u32);
-    at = writing::put_number(list, at, others);
-    at = writing::put_number(list, at, first);
+    let mut at = image_writing::put_number(list, n, kind as u32);
+    at = image_writing::put_number(list, at, place);
+    at = image_writing::put_number(list, at, hint as u32);
+    at = image_writing::put_number(list, at, others);
+    at = image_writing::put_number(list, at, first);
     put_zeros(list, at, 7)
 }
 
@@ -127,7 +127,7 @@ fn put_places(list: &mut [u32], at: usize, rows: &[u32], row: usize, count: usiz
     let mut next = at;
     let mut i = 0;
     while i < 8 {
-        next = writing::put_number(list, next, place_of(rows, row, count, i));
+        next = image_writing::put_number(list, next, place_of(rows, row, count, i));
         i += 1;
     }
     next
@@ -145,10 +145,10 @@ fn put_row(list: &mut [u32], n: usize, kind: u8, place: u32, rows: &[u32], row: 
     ensures { λ r. ⌜ Stored (now (list .entry)) n (entryOf version1 (error kind place 0 (rowOf (now (rows .entry)) row))) (now (list .exit)) r ⌝ }
 {
     let others = rows[row];
-    let mut at = writing::put_number(list, n, kind as u32);
-    at = writing::put_number(list, at, place);
-    at = writing::put_number(list, at, 0);
-    at = writing::put_number(list, at, others);
+    let mut at = image_writing::put_number(list, n, kind as u32);
+    at = image_writing::put_number(list, at, place);
+    at = image_writing::put_number(list, at, 0);
+    at = image_writing::put_number(list, at, others);
     put_places(list, at, rows, row, wide32(others))
 }
 
@@ -416,7 +416,7 @@ pub fn start(nodes: &mut [u64; 26], k: u16)
     requires { ⌜ length (now nodes) ≡ 26 ⌝ }
     ensures { λ _. ⌜ (topOf (opens (now (nodes .exit))) 1 ≡ rootOf k) × (length (opens (now (nodes .exit))) ≡ 26) ⌝ }
 {
-    nodes[0] = pack(scan::root(k));
+    nodes[0] = pack(expressions_steps::root(k));
 }
 
 // One step at the innermost open node; the nodes after it are stored.
@@ -437,7 +437,7 @@ fn step_on(
 {
     let m = depth - 1;
     let top = unpack(nodes[m]);
-    let r = scan::advance(s, ns, ts, xs, globals, first, top, at);
+    let r = expressions_steps::advance(s, ns, ts, xs, globals, first, top, at);
     let outer = r.top;
     let inner = r.inner;
     nodes[m] = pack(outer);

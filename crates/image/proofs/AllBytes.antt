@@ -3,10 +3,10 @@
 use Prim.Native.Nat.{_≤_, _<_}
 use native.Mathlib.Omega.{arith}
 use lib.ListN.{length}
-use Rattle.fields.specs.Bytes.{twoBytes, fourBytes, Bytes}
+use Rattle.image_fields.specs.Bytes.{twoBytes, fourBytes, Bytes}
 use Rattle.tables.specs.Limits.{Limits, version1}
-use Rattle.encoding.specs.Small.{Small, SmallScope}
-use Rattle.encoding.proofs.AllBytes.{bytes-cons, bytes-append, bytes-four, tables-bytes, entry-bytes, block-bytes}
+use Rattle.image_encoding.specs.Small.{Small, SmallScope}
+use Rattle.image_encoding.proofs.AllBytes.{bytes-cons, bytes-append, bytes-four, tables-bytes, entry-bytes, block-bytes}
 use Rattle.image.specs.Image.{Image, scopeIn, encodeParts, encode}
 use Rattle.image.specs.Valid.{ValidImage}
 

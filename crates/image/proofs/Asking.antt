@@ -11,9 +11,9 @@ use Rattle.tables.specs.Name.{nameOf}
 use Rattle.tables.specs.Ty.{typeIn}
 use Rattle.tables.specs.Signature.{structIn}
 use Rattle.tables.specs.Answer.{Listed}
-use Rattle.lookup.specs.First.{AllWithin}
-use Rattle.lookup.specs.Ty.{Lower}
-use Rattle.lookup.proofs.Lower.{types-lower}
+use Rattle.tables_lookup.specs.First.{AllWithin}
+use Rattle.tables_lookup.specs.Ty.{Lower}
+use Rattle.tables_lookup.proofs.Lower.{types-lower}
 use Rattle.image.specs.Image.{Image, accepted, decode}
 use Rattle.image.specs.Layout.{Laid}
 use Rattle.image.specs.declared.Layout.{Layout}

@@ -2,18 +2,18 @@
 use mathlib.Core.Path.{_≡_, refl}
 use mathlib.Core.List.{List, [], _∷_}
 use Prim.Native.Nat.{ℕ}
-use Rattle.fields.specs.Parsed.{bind, ensure}
-use Rattle.fields.specs.Number.{fieldAt}
-use Rattle.fields.specs.Table.{manyOf, tableFrom, tableAt, member, entries}
-use Rattle.fields.specs.Bytes.{twoBytes, fourBytes, numberBytes, eachBytes}
+use Rattle.image_fields.specs.Parsed.{bind, ensure}
+use Rattle.image_fields.specs.Number.{fieldAt}
+use Rattle.image_fields.specs.Table.{manyOf, tableFrom, tableAt, member, entries}
+use Rattle.image_fields.specs.Bytes.{twoBytes, fourBytes, numberBytes, eachBytes}
 use Rattle.tables.specs.Limits.{version1}
 use Rattle.tables.specs.Name.{bytesAt, nameOf, sameBytes, belowBytes, nameAt, namesAt}
 use Rattle.tables.specs.Ty.{ofWidth, shapeWidth, partsAt, typeAt, typesAt, genericFlags}
 use Rattle.tables.specs.Signature.{methodAt, rises, structRestAt, structAt, structsAt, globalAt, globalsAt, paramAt, entryAt}
-use Rattle.body.specs.Expr.{Expr, Head, node, none, more, argWidth, fixedCount, countWidth, lastWidth, headAt, through, throughFirst, genericReceiver, endAt, restAt, exprAt}
-use Rattle.body.specs.Stmt.{Block, done, exprStmt, headBytes, valueFlag, valueCount, typeWidth, blockCount, elseFlag, stmtHeadAt, valuesAt, frontAt, backAt, stmtAt, beforeOf, blockAt}
-use Rattle.encoding.specs.Tables.{encodeName, encodeType, encodeMethod, encodeStruct, encodeGlobal, encodeParam, encodeEntry, encodeTables}
-use Rattle.encoding.specs.Body.{encodeExpr, encodeExprs, size, encodeCode, encodeBlock}
+use Rattle.image_body.specs.Expr.{Expr, Head, node, none, more, argWidth, fixedCount, countWidth, lastWidth, headAt, through, throughFirst, genericReceiver, endAt, restAt, exprAt}
+use Rattle.image_body.specs.Stmt.{Block, done, exprStmt, headBytes, valueFlag, valueCount, typeWidth, blockCount, elseFlag, stmtHeadAt, valuesAt, frontAt, backAt, stmtAt, beforeOf, blockAt}
+use Rattle.image_encoding.specs.Tables.{encodeName, encodeType, encodeMethod, encodeStruct, encodeGlobal, encodeParam, encodeEntry, encodeTables}
+use Rattle.image_encoding.specs.Body.{encodeExpr, encodeExprs, size, encodeCode, encodeBlock}
 use Rattle.image.specs.Image.{Image, Decoded, accepted, bodyAt, imageAt, outcome, decode, encode}
 use Rattle.image.specs.Image as image
 

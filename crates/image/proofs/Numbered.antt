@@ -7,15 +7,15 @@ use Prim.Native.Nat.{ℕ, zero, suc, _+_, _<_}
 use native.Mathlib.Omega.{arith}
 use lib.ListN.{length, getD}
 use lib.Dec.{leb, ltb, eqb}
-use Rattle.fields.specs.Parsed.{Parsed, ok, fault, bind, ensure}
-use Rattle.fields.specs.Number.{fieldAt}
-use Rattle.fields.specs.Table.{manyOf, tableFrom, tableAt}
+use Rattle.image_fields.specs.Parsed.{Parsed, ok, fault, bind, ensure}
+use Rattle.image_fields.specs.Number.{fieldAt}
+use Rattle.image_fields.specs.Table.{manyOf, tableFrom, tableAt}
 use Rattle.tables.specs.Limits.{Limits}
 use Rattle.tables.specs.Name.{nameAt, namesAt}
 use Rattle.tables.specs.Ty.{Ty, partsAt, typeAt, typesAt}
 use Rattle.tables.specs.Signature.{Method, Struct, Global, Param, methodAt, structRestAt, structAt, structsAt, globalAt, globalsAt, paramAt, entryAt}
-use Rattle.body.specs.Expr.{Head, Expr, Exprs, Scope, none, more, headAt, endAt, restAt, exprAt}
-use Rattle.body.specs.Stmt.{StmtHead, Front, Stmt, Block, done, before, stmtHeadAt, valuesAt, frontAt, backAt, stmtAt, blockAt}
+use Rattle.image_body.specs.Expr.{Head, Expr, Exprs, Scope, none, more, headAt, endAt, restAt, exprAt}
+use Rattle.image_body.specs.Stmt.{StmtHead, Front, Stmt, Block, done, before, stmtHeadAt, valuesAt, frontAt, backAt, stmtAt, blockAt}
 use Rattle.image.specs.Image.{Image, Decoded, accepted, refused, bodyAt, imageAt, outcome, decode, faultOf}
 use Rattle.image.specs.Image as image
 

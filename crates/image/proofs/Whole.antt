@@ -9,24 +9,24 @@ use borrow.Author.Tests.{eqb-true, eq-eqb, ne-eqb}
 use lib.ListN.{length, getD, take, length-map, length-append}
 use lib.Seq.{length-take-le, getD-take}
 use lib.Dec.{eqb, leb}
-use Rattle.fields.specs.Parsed.{Parsed, ok, fault, bind, ensure}
-use Rattle.fields.specs.Number.{fieldAt, two, four}
-use Rattle.fields.specs.Table.{tableFrom, tableAt, entries}
-use Rattle.fields.specs.Answer.{readOf}
-use Rattle.fields.specs.declared.Read.{Read}
-use Rattle.fields.specs.declared.Read.the-variants.{Next, Fault}
-use Rattle.fields.specs.declared.Number.{Number}
-use Rattle.fields.specs.declared.Number.the-variants.{Is, Wrong}
-use Rattle.fields.proofs.Inverse.{ensure-ok, bound, impossible}
-use Rattle.fields.proofs.Numbers.{Field, field-ok}
-use Rattle.fields.proofs.Tables.{table-parts, table-all, table-entries}
+use Rattle.image_fields.specs.Parsed.{Parsed, ok, fault, bind, ensure}
+use Rattle.image_fields.specs.Number.{fieldAt, two, four}
+use Rattle.image_fields.specs.Table.{tableFrom, tableAt, entries}
+use Rattle.image_fields.specs.Answer.{readOf}
+use Rattle.image_fields.specs.declared.Read.{Read}
+use Rattle.image_fields.specs.declared.Read.the-variants.{Next, Fault}
+use Rattle.image_fields.specs.declared.Number.{Number}
+use Rattle.image_fields.specs.declared.Number.the-variants.{Is, Wrong}
+use Rattle.image_fields.proofs.Inverse.{ensure-ok, bound, impossible}
+use Rattle.image_fields.proofs.Numbers.{Field, field-ok}
+use Rattle.image_fields.proofs.Tables.{table-parts, table-all, table-entries}
 use Rattle.tables.specs.Limits.{Limits, version1}
 use Rattle.tables.specs.Name.{nameOf, nameAt, namesAt}
 use Rattle.tables.specs.Ty.{Ty, typeAt, typesAt, typeIn, genericFlag, genericFlags}
 use Rattle.tables.specs.Signature.{Struct, Global, Entry, structsAt, globalAt, globalsAt, entryAt, structIn, globalIn}
 use Rattle.tables.specs.Answer.{Within, Listed}
-use Rattle.body.specs.Expr.{Scope}
-use Rattle.body.specs.Stmt.{Block, blockAt}
+use Rattle.image_body.specs.Expr.{Scope}
+use Rattle.image_body.specs.Stmt.{Block, blockAt}
 use Rattle.image.specs.Image.{Image, Decoded, accepted, refused, lengthOk, bodyAt, restAt, imageAt, outcome, decode, faultOf, scopeIn}
 use Rattle.image.specs.Layout.{headFault, wrongOf, faultIn, RestStands, RestReads, Laid, Reads}
 use Rattle.image.specs.declared.Rest.{Rest}

@@ -5,18 +5,18 @@ use mathlib.Core.List.{List, [], _∷_, _++_}
 use mathlib.Core.Bool.{Bool, _&&_}
 use lib.ListN.{length, getD}
 use lib.Dec.{leb, eqb}
-use Rattle.fields.specs.Parsed.{Parsed, ok, fault, bind, ensure}
-use Rattle.fields.specs.Number.{four}
-use Rattle.fields.specs.Bytes.{fourBytes}
+use Rattle.image_fields.specs.Parsed.{Parsed, ok, fault, bind, ensure}
+use Rattle.image_fields.specs.Number.{four}
+use Rattle.image_fields.specs.Bytes.{fourBytes}
 use Rattle.tables.specs.Limits.{Limits}
 use Rattle.tables.specs.Name.{namesAt}
 use Rattle.tables.specs.Ty.{Ty, typesAt, genericFlags}
 use Rattle.tables.specs.Signature.{Struct, Global, Entry, structsAt, globalsAt, entryAt}
 use Rattle.tables.specs.Tables.{Tables}
-use Rattle.body.specs.Expr.{Scope}
-use Rattle.body.specs.Stmt.{Block, blockAt}
-use Rattle.encoding.specs.Tables.{encodeTables, encodeEntry}
-use Rattle.encoding.specs.Body.{encodeBlock}
+use Rattle.image_body.specs.Expr.{Scope}
+use Rattle.image_body.specs.Stmt.{Block, blockAt}
+use Rattle.image_encoding.specs.Tables.{encodeTables, encodeEntry}
+use Rattle.image_encoding.specs.Body.{encodeBlock}
 
 pub record Image : Type 0 where
   pub tables : Tables

@@ -5,18 +5,18 @@ use mathlib.Core.List.{List}
 use mathlib.Core.Bool.{cond}
 use lib.ListN.{length, getD}
 use lib.Dec.{eqb}
-use Rattle.fields.specs.Parsed.{ok}
-use Rattle.fields.specs.Table.{entries}
-use Rattle.fields.specs.declared.Read.{Read}
-use Rattle.fields.specs.declared.Read.the-variants.{Next, Fault}
-use Rattle.fields.specs.declared.Number.{Number}
-use Rattle.fields.specs.declared.Number.the-variants.{Is, Wrong}
+use Rattle.image_fields.specs.Parsed.{ok}
+use Rattle.image_fields.specs.Table.{entries}
+use Rattle.image_fields.specs.declared.Read.{Read}
+use Rattle.image_fields.specs.declared.Read.the-variants.{Next, Fault}
+use Rattle.image_fields.specs.declared.Number.{Number}
+use Rattle.image_fields.specs.declared.Number.the-variants.{Is, Wrong}
 use Rattle.tables.specs.Limits.{Limits, version1}
 use Rattle.tables.specs.Name.{nameOf}
 use Rattle.tables.specs.Ty.{Ty, typeIn}
 use Rattle.tables.specs.Signature.{globalIn, structIn, entryAt}
 use Rattle.tables.specs.Answer.{Listed}
-use Rattle.body.specs.Stmt.{blockAt}
+use Rattle.image_body.specs.Stmt.{blockAt}
 use Rattle.image.specs.Image.{Image, Decoded, accepted, decode, outcome, faultOf, lengthOk, restAt, scopeIn}
 use Rattle.image.specs.declared.Layout.{Layout}
 use Rattle.image.specs.declared.Rest.{Rest}

@@ -2,7 +2,7 @@
 use Prim.Native.Nat.{ℕ, _≤_}
 use lib.ListN.{length}
 use Rattle.tables.specs.Limits.{Limits}
-use Rattle.encoding.specs.Valid.{ValidTables, ValidEntry, ValidBlock}
+use Rattle.image_encoding.specs.Valid.{ValidTables, ValidEntry, ValidBlock}
 use Rattle.image.specs.Image.{Image, scopeIn, encode}
 
 pub record ValidImage (L : Limits) (i : Image) : Type 0 where

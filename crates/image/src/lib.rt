@@ -3,12 +3,12 @@ ghost use mathlib.Core.Path.{_≡_};
 ghost use Prim.Native.Nat.{_+_, _≤_, _<_};
 ghost use mathlib.Core.List.{List, [], map};
 ghost use lib.ListN.{length};
-ghost use Rattle.fields.specs.Answer.{readOf};
+ghost use Rattle.image_fields.specs.Answer.{readOf};
 ghost use Rattle.tables.specs.Limits.{version1};
 ghost use Rattle.tables.specs.Name.{nameOf};
 ghost use Rattle.tables.specs.Ty.{Ty, genericFlags};
 ghost use Rattle.tables.specs.Answer.{Within};
-ghost use Rattle.body.specs.Answer.{scopeOf};
+ghost use Rattle.image_body.specs.Answer.{scopeOf};
 ghost use Rattle.image.specs.Image.{bodyAt, decode, faultOf};
 ghost use Rattle.image.specs.Layout.{headFault, wrongOf, faultIn, RestReads, Reads};
 
@@ -50,26 +50,26 @@ fn head_fault(s: &[u8]) -> u8
     if 65536 < s.len() {
         return 1;
     }
-    if fields::four_at(s, 0) + 4 != s.len() {
+    if image_fields::four_at(s, 0) + 4 != s.len() {
         return 1;
     }
-    if fields::peek(s, 4) != 1 {
+    if image_fields::peek(s, 4) != 1 {
         return 2;
     }
     0
 }
 
 // The body block, up to the end of the bytes.
-fn read_body(s: &[u8], flags: &[u8], env: body::Env, at: usize) -> fields::Read
+fn read_body(s: &[u8], flags: &[u8], env: image_body::Env, at: usize) -> image_fields::Read
     ensures { λ r. ⌜ r ≡ readOf (bodyAt version1 (scopeOf env (now (flags .entry))) (now (s .entry)) at) ⌝ }
 {
-    match reading::read_block(s, flags, env, 12, at) {
-        fields::Read::Fault(f) => fields::Read::Fault(f),
-        fields::Read::Next(p) => {
+    match image_reading::read_block(s, flags, env, 12, at) {
+        image_fields::Read::Fault(f) => image_fields::Read::Fault(f),
+        image_fields::Read::Next(p) => {
             if p == s.len() {
-                fields::Read::Next(p)
+                image_fields::Read::Next(p)
             } else {
-                fields::Read::Fault(10)
+                image_fields::Read::Fault(10)
             }
         }
     }
@@ -95,25 +95,25 @@ fn read_rest(s: &[u8], names: &[usize], flags: &[u8], structs: &mut [usize], at:
     ensures { λ r. ⌜ ((ts : List Ty) → now (flags .entry) ≡ genericFlags [] ts
         → RestReads (map (nameOf (now (s .entry))) (now (names .entry))) ts (now (s .entry)) at (now (structs .exit)) r) ⌝ }
 {
-    let struct_table = signatures::read_structs(s, names, structs, at);
-    let fields::Number::Is(struct_count, p) = struct_table else {
+    let struct_table = tables_signatures::read_structs(s, names, structs, at);
+    let image_fields::Number::Is(struct_count, p) = struct_table else {
         return no_rest(wrong(struct_table));
     };
-    let global_table = signatures::read_globals(s, names.len(), p);
-    let fields::Number::Is(global_count, q) = global_table else {
+    let global_table = tables_signatures::read_globals(s, names.len(), p);
+    let image_fields::Number::Is(global_count, q) = global_table else {
         return no_rest(wrong(global_table));
     };
-    let entry = signatures::read_entry(s, names.len(), flags.len(), q);
-    let fields::Read::Next(r) = entry else {
+    let entry = tables_signatures::read_entry(s, names.len(), flags.len(), q);
+    let image_fields::Read::Next(r) = entry else {
         return no_rest(fault(entry));
     };
-    let env = body::Env {
+    let env = image_body::Env {
         names: names.len(),
         types: flags.len(),
         depth: 24,
     };
     let whole = read_body(s, flags, env, r);
-    let fields::Read::Next(_) = whole else {
+    let image_fields::Read::Next(_) = whole else {
         return no_rest(fault(whole));
     };
     Rest {
@@ -127,21 +127,21 @@ fn read_rest(s: &[u8], names: &[usize], flags: &[u8], structs: &mut [usize], at:
 }
 
 // The fault of an answer, or 0.
-fn wrong(n: fields::Number) -> u8
+fn wrong(n: image_fields::Number) -> u8
     ensures { λ r. ⌜ r ≡ wrongOf n ⌝ }
 {
     match n {
-        fields::Number::Is(_, _) => 0,
-        fields::Number::Wrong(f) => f,
+        image_fields::Number::Is(_, _) => 0,
+        image_fields::Number::Wrong(f) => f,
     }
 }
 
-fn fault(n: fields::Read) -> u8
+fn fault(n: image_fields::Read) -> u8
     ensures { λ r. ⌜ r ≡ faultIn n ⌝ }
 {
     match n {
-        fields::Read::Next(_) => 0,
-        fields::Read::Fault(f) => f,
+        image_fields::Read::Next(_) => 0,
+        image_fields::Read::Fault(f) => f,
     }
 }
 
@@ -174,13 +174,13 @@ pub fn read_image(s: &[u8]) -> ImageRead
     }
     let mut names = [0usize; 512];
     let name_table = tables::name::read_names(s, &mut names, 5);
-    let fields::Number::Is(name_count, p) = name_table else {
+    let image_fields::Number::Is(name_count, p) = name_table else {
         return refusal(wrong(name_table));
     };
     let mut types = [0usize; 256];
     let mut flags = [0u8; 256];
     let type_table = tables::ty::read_types(s, &mut types, &mut flags, name_count, p);
-    let fields::Number::Is(type_count, q) = type_table else {
+    let image_fields::Number::Is(type_count, q) = type_table else {
         return refusal(wrong(type_table));
     };
     let mut structs = [0usize; 64];

@@ -1,4 +1,4 @@
 -- What the proofs of several functions use, and the theorems about report records.
-pub mod Marks
 pub mod Records
 pub mod Reports
+pub mod Stacks

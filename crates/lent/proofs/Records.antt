@@ -8,7 +8,7 @@ use lib.Dec.{eqb, ltb}
 use lib.ListN.{length, getD, drop, set, length-append, length-drop}
 use lib.Seq.{drop-cons, set-at}
 use borrow.Author.Tests.{ltb-false}
-use Rattle.fields.proofs.Tests.{false-true}
+use Rattle.image_fields.proofs.Tests.{false-true}
 use Rattle.lent.specs.declared.Report.{Report}
 use Rattle.lent.specs.Records.{recordAt, records, tooFew, Writes}
 

@@ -1,17 +1,27 @@
 // Forms over lent memory (document 01, "What changes shape"): a stack that is changed in place, and errors as records.
 ghost use mathlib.Core.Path.{_≡_};
 ghost use mathlib.Core.Bool.{cond, _||_};
-ghost use Prim.Native.Nat.{_≤_, _+_, _*_};
+ghost use mathlib.Core.List.{[], _∷_};
+ghost use Prim.Native.Nat.{_≤_, _<_, _+_, _*_};
 ghost use lib.Dec.{eqb, ltb};
 ghost use lib.ListN.{length};
-ghost use Rattle.rules.specs.State.{deleted, moved, consumed, alive, handState};
-ghost use Rattle.rules.specs.Stack.{mark as marked};
-ghost use Rattle.rules.specs.Rules.{states, register};
-ghost use Rattle.scope.specs.View.{view, Sound};
-ghost use Rattle.lent.specs.Registered.{InPlace};
+ghost use Rattle.scope_state.specs.Kinds.{said, put};
+ghost use Rattle.lent.specs.Changed.{Whole, Marked, Registered};
 ghost use Rattle.lent.specs.Records.{recordAt, Writes};
-use scope::Next;
-use scope::Stack;
+use scope_stack::Locals;
+use scope_stack::States;
+
+// The scope stack; the places of a state that has several stand in rows elsewhere, which no function here needs.
+pub struct Stack {
+    pub locals: Locals,
+    pub states: States,
+}
+
+// A stack, and whether it has what it was to get.
+pub struct Next {
+    pub ok: bool,
+    pub stack: Stack,
+}
 
 // An error as C has it: of the places, the first count.
 #[repr(C)]
@@ -23,64 +33,61 @@ pub struct Report {
     pub places: [u32; 8],
 }
 
-// Each mark changes the stack lent as its namesake by value does.
-pub fn mark_deleted(stack: &mut Stack, name: u16, place: u32)
-    requires { ⌜ Sound (now stack) ⌝ }
-    ensures { λ _. ⌜ Sound (now (stack .exit)) × (view (now (stack .exit)) ≡ marked name (states .killed deleted place) (view (now (stack .entry)))) ⌝ }
+// The stack with a mark.
+fn marked(stack: Stack, name: u16, kind: u8, place: u32, only_alive: bool) -> Stack
+    requires { ⌜ Whole stack × (kind < 7) ⌝ }
+    ensures { λ r. ⌜ Marked stack name (put «only_alive» (said kind (place ∷ []))) r ⌝ }
 {
-    *stack = (*stack).mark_deleted(name, place);
+    let l = stack.locals;
+    let t = stack.states;
+    let u = t.mark(&l.names, &l.depths, l.count, name, kind, place, only_alive);
+    Stack {
+        locals: l,
+        states: u,
+    }
 }
 
-pub fn mark_moved(stack: &mut Stack, name: u16, place: u32)
-    requires { ⌜ Sound (now stack) ⌝ }
-    ensures { λ _. ⌜ Sound (now (stack .exit)) × (view (now (stack .exit)) ≡ marked name (states .killed moved place) (view (now (stack .entry)))) ⌝ }
+// Kind 0 is Alive, 1 deleted, 2 moved, 3 consumed; a temporary that is taken over has 2, where `only_alive`.
+pub fn mark(stack: &mut Stack, name: u16, kind: u8, place: u32, only_alive: bool)
+    requires { ⌜ Whole (now stack) × (kind < 7) ⌝ }
+    ensures { λ _. ⌜ Marked (now (stack .entry)) name (put «only_alive» (said kind (place ∷ []))) (now (stack .exit)) ⌝ }
 {
-    *stack = (*stack).mark_moved(name, place);
-}
-
-pub fn mark_consumed(stack: &mut Stack, name: u16, place: u32)
-    requires { ⌜ Sound (now stack) ⌝ }
-    ensures { λ _. ⌜ Sound (now (stack .exit)) × (view (now (stack .exit)) ≡ marked name (states .killed consumed place) (view (now (stack .entry)))) ⌝ }
-{
-    *stack = (*stack).mark_consumed(name, place);
-}
-
-pub fn mark_assigned_alive(stack: &mut Stack, name: u16)
-    requires { ⌜ Sound (now stack) ⌝ }
-    ensures { λ _. ⌜ Sound (now (stack .exit)) × (view (now (stack .exit)) ≡ marked name (λ a. alive) (view (now (stack .entry)))) ⌝ }
-{
-    *stack = (*stack).mark_assigned_alive(name);
-}
-
-// Moves what is Alive only.
-pub fn mark_compiler_temp_consumed(stack: &mut Stack, name: u16, place: u32)
-    requires { ⌜ Sound (now stack) ⌝ }
-    ensures { λ _. ⌜ Sound (now (stack .exit)) × (view (now (stack .exit)) ≡ marked name (handState place) (view (now (stack .entry)))) ⌝ }
-{
-    *stack = (*stack).mark_compiler_temp_consumed(name, place);
+    *stack = marked(*stack, name, kind, place, only_alive);
 }
 
 // The stack with a new local; refused, it is as it was.
-fn registered(stack: Stack, name: u16, ty: u16, depth: u8) -> Next
-    requires { ⌜ Sound stack ⌝ }
-    ensures { λ r. ⌜ InPlace stack (r .ok) (r .stack) (register states name ty depth (view stack)) ⌝ }
+fn registered(stack: Stack, name: u16, ty: u16, depth: u8, dtor: bool) -> Next
+    requires { ⌜ Whole stack ⌝ }
+    ensures { λ r. ⌜ Registered stack name ty depth dtor (r .ok) (r .stack) ⌝ }
 {
-    let next = stack.register_local(name, ty, depth);
-    if next.ok {
-        return next;
+    let l = stack.locals;
+    if 64 <= l.count {
+        return Next {
+            ok: false,
+            stack: stack,
+        };
     }
+    let m = l.register_local(name, ty, depth, dtor);
+    let mut t = stack.states;
+    if scope_stack::needs_revival(&m.names, &m.depths, t.words, name, depth) {
+        t = t.mark(&m.names, &m.depths, m.count, name, 0, 0, false);
+    }
+    let new = Stack {
+        locals: m,
+        states: t,
+    };
     Next {
-        ok: false,
-        stack: stack,
+        ok: true,
+        stack: new,
     }
 }
 
 // False: 64 locals are there.
-pub fn register_local(stack: &mut Stack, name: u16, ty: u16, depth: u8) -> bool
-    requires { ⌜ Sound (now stack) ⌝ }
-    ensures { λ r. ⌜ InPlace (now (stack .entry)) r (now (stack .exit)) (register states name ty depth (view (now (stack .entry)))) ⌝ }
+pub fn register_local(stack: &mut Stack, name: u16, ty: u16, depth: u8, dtor: bool) -> bool
+    requires { ⌜ Whole (now stack) ⌝ }
+    ensures { λ r. ⌜ Registered (now (stack .entry)) name ty depth dtor r (now (stack .exit)) ⌝ }
 {
-    let next = registered(*stack, name, ty, depth);
+    let next = registered(*stack, name, ty, depth, dtor);
     *stack = next.stack;
     next.ok
 }

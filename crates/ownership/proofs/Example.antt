@@ -2,8 +2,8 @@
 use mathlib.Core.Path.{_≡_, refl}
 use mathlib.Core.List.{List, [], _∷_}
 use Prim.Native.Nat.{ℕ}
-use Rattle.writing.specs.Memory.{memory}
-use Rattle.judge.specs.declared.Outcome.the-variants.{Accepted, Refused}
+use Rattle.image_writing.specs.Memory.{memory}
+use Rattle.entries_verdict.specs.declared.Outcome.the-variants.{Accepted, Refused}
 use Rattle.ownership.specs.Text.{spell, numbers, lines, textOf}
 
 -- `accepted 81 1 0 0`, `error 1 15 0 13`

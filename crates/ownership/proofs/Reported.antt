@@ -4,13 +4,13 @@ use Prim.Native.Nat.{ℕ, _*_}
 use mathlib.Core.Path.{_≡_, subst}
 use mathlib.Core.List.{List, [], _∷_}
 use lib.ListN.{length}
-use Rattle.writing.specs.Stored.{Stored}
-use Rattle.writing.proofs.Stores.{both-stored}
-use Rattle.writing.specs.Memory.{Memory}
-use Rattle.judge.specs.Passes.{Passes}
-use Rattle.judge.specs.declared.Totals.{Totals}
-use Rattle.judge.specs.declared.Outcome.{Outcome}
-use Rattle.judge.specs.declared.Outcome.the-variants.{Accepted, Refused}
+use Rattle.image_writing.specs.Stored.{Stored}
+use Rattle.image_writing.proofs.Stores.{both-stored}
+use Rattle.image_writing.specs.Memory.{Memory}
+use Rattle.entries_verdict.specs.Passes.{Passes}
+use Rattle.entries_verdict.specs.declared.Totals.{Totals}
+use Rattle.entries_verdict.specs.declared.Outcome.{Outcome}
+use Rattle.entries_verdict.specs.declared.Outcome.the-variants.{Accepted, Refused}
 use Rattle.ownership.specs.Text.{acceptedWord, refusedWord, warningWord, leftWord, line, lines, errorLine, pairLine, Reports}
 
 -- what the program lends

@@ -8,9 +8,9 @@ use mathlib.Core.List.{List, [], _∷_, _++_, append-assoc}
 use borrow.Author.Tests.{lt-ltb, le-ltb}
 use lib.ListN.{length, getD}
 use lib.Seq.{slice, slice-empty}
-use Rattle.writing.specs.Stored.{Stored}
-use Rattle.writing.proofs.Stores.{both-stored, none-stored, slice-step}
-use Rattle.fronts.proofs.Wrotes.{stored-as}
+use Rattle.image_writing.specs.Stored.{Stored}
+use Rattle.image_writing.proofs.Stores.{both-stored, none-stored, slice-step}
+use Rattle.blocks_laws.proofs.Wrotes.{stored-as}
 use Rattle.ownership.specs.Text.{spell, numbers, line, errorLine, lines}
 
 module _ {xs ys : List ℕ} {at r : ℕ} where

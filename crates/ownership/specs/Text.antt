@@ -6,11 +6,11 @@ use mathlib.Core.List.{List, [], _∷_, _++_}
 use lib.Dec.{ltb}
 use lib.ListN.{length, getD}
 use lib.Seq.{slice}
-use Rattle.writing.specs.Stored.{Stored}
-use Rattle.writing.specs.Memory.{Memory}
-use Rattle.judge.specs.Passes.{Passes}
-use Rattle.judge.specs.declared.Outcome.{Outcome}
-use Rattle.judge.specs.declared.Outcome.the-variants.{Accepted, Refused}
+use Rattle.image_writing.specs.Stored.{Stored}
+use Rattle.image_writing.specs.Memory.{Memory}
+use Rattle.entries_verdict.specs.Passes.{Passes}
+use Rattle.entries_verdict.specs.declared.Outcome.{Outcome}
+use Rattle.entries_verdict.specs.declared.Outcome.the-variants.{Accepted, Refused}
 
 -- the decimal digits of a number of at most k + 1 digits
 unfoldable pub spell : ℕ → ℕ → List ℕ

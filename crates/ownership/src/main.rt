@@ -5,10 +5,10 @@ ghost use mathlib.Core.List.{List, [], _∷_, _++_};
 ghost use Prim.Native.Nat.{_+_, _-_, _*_, _≤_, _<_, min};
 ghost use lib.ListN.{length};
 ghost use lib.Seq.{slice};
-ghost use Rattle.writing.specs.Stored.{Stored};
+ghost use Rattle.image_writing.specs.Stored.{Stored};
 ghost use Rattle.ownership.specs.Text.{acceptedWord, refusedWord, spell, numbers, line, errorLine, pairLine, lines, Reports};
-use judge::Outcome;
-use judge::Totals;
+use entries_verdict::Outcome;
+use entries_verdict::Totals;
 use libc::STDIN_FILENO;
 use libc::STDOUT_FILENO;
 
@@ -24,13 +24,13 @@ fn put_digits(out: &mut [u8], at: usize, n: u64, more: usize) -> usize
     ensures { λ r. ⌜ Stored (now (out .entry)) at (spell more n) (now (out .exit)) r × (r ≤ at + more + 1) ⌝ }
 {
     if more == 0 {
-        return writing::put(out, at, (48 + n % 10) as u8);
+        return image_writing::put(out, at, (48 + n % 10) as u8);
     }
     if n < 10 {
-        return writing::put(out, at, (48 + n) as u8);
+        return image_writing::put(out, at, (48 + n) as u8);
     }
     let next = put_digits(out, at, n / 10, more - 1);
-    writing::put(out, next, (48 + n % 10) as u8)
+    image_writing::put(out, next, (48 + n % 10) as u8)
 }
 
 // A blank and a number.
@@ -38,7 +38,7 @@ fn put_number(out: &mut [u8], at: usize, n: u64) -> usize
     requires { ⌜ at < 4294960000 ⌝ }
     ensures { λ r. ⌜ Stored (now (out .entry)) at (32 ∷ spell 19 n) (now (out .exit)) r × (r ≤ at + 21) ⌝ }
 {
-    let next = writing::put(out, at, 32);
+    let next = image_writing::put(out, at, 32);
     put_digits(out, next, n, 19)
 }
 
@@ -61,7 +61,7 @@ fn put_text(out: &mut [u8], at: usize, text: &[u8]) -> usize
     requires { ⌜ (at < 4294967296) × (length (now text) ≤ 16) ⌝ }
     ensures { λ r. ⌜ Stored (now (out .entry)) at (now (text .entry)) (now (out .exit)) r × (r ≡ at + length (now (text .entry))) ⌝ }
 {
-    writing::copy_bytes(text, 0, text.len(), out, at)
+    image_writing::copy_bytes(text, 0, text.len(), out, at)
 }
 
 // How many other places an error's entry shows: its count, of which it has room for 8.

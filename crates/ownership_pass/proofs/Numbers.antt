@@ -10,10 +10,10 @@ use Rattle.tables.specs.Limits.{version1}
 use Rattle.image.specs.Image.{decode}
 use Rattle.rules.specs.Verdict.{Answer, Verdict, refuses, answers, roomFaultOf, roomFault}
 use Rattle.rules.proofs.Numbers.{verdict-numbers, room-numbers}
-use Rattle.writing.specs.Memory.{Memory}
-use Rattle.judge.specs.declared.Outcome.{Outcome}
-use Rattle.judge.specs.declared.Outcome.the-variants.{Accepted, Refused}
-use Rattle.judge.specs.Passes.{Passes, lentOf, outcomeOf, verdictOn}
+use Rattle.image_writing.specs.Memory.{Memory}
+use Rattle.entries_verdict.specs.declared.Outcome.{Outcome}
+use Rattle.entries_verdict.specs.declared.Outcome.the-variants.{Accepted, Refused}
+use Rattle.entries_verdict.specs.Passes.{Passes, lentOf, outcomeOf, verdictOn}
 use Rattle.ownership_pass.specs.declared.Answer.{Answer as Room}
 use Rattle.ownership_pass.specs.declared.Answer.the-variants.{Needed, Denied}
 use Rattle.ownership_pass.specs.Entries.{outcomeNumber, answerNumber, PassLeaves, RoomIs, RoomLeaves}

@@ -7,7 +7,7 @@ use mathlib.Core.Bool.{Bool, true, false, cond}
 use mathlib.Core.List.{List}
 use mathlib.Core.Option.{Option, none, some}
 use lib.ListN.{length, getD}
-use Rattle.fields.specs.Bytes.{Bytes}
+use Rattle.image_fields.specs.Bytes.{Bytes}
 use Rattle.tables.specs.Limits.{version1}
 use Rattle.image.specs.Image.{Image, Decoded, accepted, refused, decode, encode}
 use Rattle.image.proofs.RoundTrip.{image-written}
@@ -18,11 +18,11 @@ use Rattle.rules.specs.Verdict.{Lent, Answer, answerOf, Verdict, refuses, answe
 use Rattle.rules.proofs.AsReturned.{returned-body}
 use Rattle.rules.specs.Pieces.{Struck}
 use Rattle.rules.proofs.Pieces.{struck}
-use Rattle.writing.specs.Memory.{Memory}
-use Rattle.judge.specs.declared.Totals.{Totals}
-use Rattle.judge.specs.declared.Outcome.{Outcome}
-use Rattle.judge.specs.declared.Outcome.the-variants.{Accepted, Refused}
-use Rattle.judge.specs.Passes.{Passes, outcomeOf, over, memoryAfter, verdictOn}
+use Rattle.image_writing.specs.Memory.{Memory}
+use Rattle.entries_verdict.specs.declared.Totals.{Totals}
+use Rattle.entries_verdict.specs.declared.Outcome.{Outcome}
+use Rattle.entries_verdict.specs.declared.Outcome.the-variants.{Accepted, Refused}
+use Rattle.entries_verdict.specs.Passes.{Passes, outcomeOf, over, memoryAfter, verdictOn}
 use Rattle.ownership_pass.specs.Entries.{outcomeNumber, totalsAfter, PassLeaves}
 use Rattle.ownership_pass.specs.Promise.{Promise, Kept}
 use Rattle.ownership_pass.proofs.Numbers.{refused-numbers}

@@ -6,7 +6,7 @@ use mathlib.Core.Path.{_≡_, refl, sym, ap, _∙_, subst}
 use mathlib.Core.List.{List, [], _∷_}
 use mathlib.Core.Option.{Option, none, some}
 use lib.ListN.{length, take, length-take, length-map}
-use Rattle.fields.specs.Bytes.{Bytes}
+use Rattle.image_fields.specs.Bytes.{Bytes}
 use Rattle.tables.specs.Name.{nameOf}
 use Rattle.tables.specs.Ty.{typeIn}
 use Rattle.tables.specs.Signature.{structIn}
@@ -23,23 +23,24 @@ use Rattle.rules.specs.Walk.{imageFault}
 use Rattle.rules.specs.Verdict.{roomFault, roomFaultOf, RoomFor}
 use Rattle.rules.proofs.Longer.{room-met}
 use Rattle.rules.proofs.Numbers.{real-image}
-use Rattle.steps.specs.Own.{numberOf}
-use Rattle.steps.proofs.Faults.{real-none}
-use Rattle.writing.specs.Memory.{Memory}
-use Rattle.fronts.specs.declared.Env.{Env}
-use Rattle.fronts.specs.declared.Walk.{Walk}
+use Rattle.statements_steps.specs.Own.{numberOf}
+use Rattle.statements_steps.proofs.Faults.{real-none}
+use Rattle.image_writing.specs.Memory.{Memory}
+use Rattle.blocks_ends.specs.declared.Env.{Env}
+use Rattle.entries_verdict.specs.declared.Parts.{Parts}
+use Rattle.entries_verdict.specs.declared.Seen.{Seen}
 use Rattle.ownership_pass.specs.declared.Answer.{Answer}
 use Rattle.ownership_pass.specs.declared.Answer.the-variants.{Needed, Denied}
-use Rattle.judge.specs.declared.Totals.{Totals}
-use Rattle.judge.specs.declared.Outcome.{Outcome}
-use Rattle.judge.specs.declared.Outcome.the-variants.{Accepted, Refused}
-use Rattle.judge.specs.Passes.{Passes}
+use Rattle.entries_verdict.specs.declared.Totals.{Totals}
+use Rattle.entries_verdict.specs.declared.Outcome.{Outcome}
+use Rattle.entries_verdict.specs.declared.Outcome.the-variants.{Accepted, Refused}
+use Rattle.entries_verdict.specs.Passes.{Passes}
 use Rattle.ownership_pass.specs.Entries.{PassLeaves, RoomIs, RoomLeaves}
-use Rattle.whole_image.specs.Images.{Stands, Measures}
-use Rattle.judge.proofs.Rooms.{fault-some}
+use Rattle.entries_verdict.specs.Images.{Stands, Measures}
+use Rattle.entries_verdict.proofs.Rooms.{fault-some}
 
 abbrev pub envIn : Layout → Env
-envIn l = record { globals = l .rest .«global_count»; first = l .rest .globals; left = 12 }
+envIn l = record { globals = l .rest .«global_count»; first = l .rest .globals; left = 12; limit = 64; width = 8; cur = 0 }
 
 -- as many positions as entries
 listed-few : {A : Type 0} (view : ℕ → A) (s starts : List ℕ) (xs : List A) → Listed view s starts xs → length xs ≤ length starts
@@ -65,22 +66,26 @@ module _ (s : List ℕ) (r : ImageRead) (g : Reads s r) (z : 0 < r .fault → �
   pub structs-few : r .layout .rest .«struct_count» ≤ length (r .layout .structs)
   structs-few = omega (arith, laid .rest .structCount, listed-few (structIn s) s _ _ (laid .rest .structs))
 
-  pub stands-of : (env : Env) → env ≡ envIn (r .layout)
-      → Stands s (take (r .layout .«name_count») (r .layout .names)) (take (r .layout .«type_count») (r .layout .types)) (take (r .layout .rest .«struct_count») (r .layout .structs)) env (r .layout .rest .entry) (r .layout .rest .body)
-  stands-of env ee =
+  pub stands-of : (env : Env) → env ≡ envIn (r .layout) → (parts : Parts) → parts ≡ record { entry = r .layout .rest .entry; body = r .layout .rest .body }
+      → Stands s (take (r .layout .«name_count») (r .layout .names)) (take (r .layout .«type_count») (r .layout .types)) (take (r .layout .rest .«struct_count») (r .layout .structs)) env (parts .entry) (parts .body)
+  stands-of env ee parts ep =
       let a = asking s (found .0) (r .layout) (found .1) laid in
-      subst (λ (x : Env). Stands s (take (r .layout .«name_count») (r .layout .names)) (take (r .layout .«type_count») (r .layout .types)) (take (r .layout .rest .«struct_count») (r .layout .structs)) x (r .layout .rest .entry) (r .layout .rest .body)) (sym ee)
+      subst (λ (y : Parts). Stands s (take (r .layout .«name_count») (r .layout .names)) (take (r .layout .«type_count») (r .layout .types)) (take (r .layout .rest .«struct_count») (r .layout .structs)) env (y .entry) (y .body)) (sym ep)
+      (subst (λ (x : Env). Stands s (take (r .layout .«name_count») (r .layout .names)) (take (r .layout .«type_count») (r .layout .types)) (take (r .layout .rest .«struct_count») (r .layout .structs)) x (r .layout .rest .entry) (r .layout .rest .body)) (sym ee)
       (record {
         i = found .0;
         read = found .1;
         lent = record { names = a .namesWithin; types = a .typesWithin; structs = a .structsWithin; lower = a .lower; globals = laid .rest .globalsFit };
         says = record { names = a .names; types = a .types; structs = a .structs; globals = laid .rest .globals };
         left = refl;
+        limit = refl;
+        width = refl;
+        cur = refl;
         entered = laid .rest .entry;
         walked = laid .rest .body;
-      })
+      }))
 
-  module _ (w : Walk) (h : Measures s w) where
+  module _ (w : Seen) (h : Measures s w) where
     walk-fault : w .fault ≡ numberOf (imageFault version1 (found .0))
     walk-fault = h .walks (found .0) (found .1) .0
 

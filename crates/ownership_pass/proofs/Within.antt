@@ -14,11 +14,11 @@ use Rattle.image.specs.Image.{Image, Decoded, accepted, refused, decode}
 use Rattle.rules.specs.Report.{returnedImage}
 use Rattle.rules.specs.Walk.{imageFault}
 use Rattle.rules.specs.Verdict.{Answer, answerOf, Verdict, refuses, answers, imageCountsFit, fitted, walked, decided, passVerdict}
-use Rattle.writing.specs.Memory.{Memory}
-use Rattle.judge.specs.declared.Totals.{Totals}
-use Rattle.judge.specs.declared.Outcome.{Outcome}
-use Rattle.judge.specs.declared.Outcome.the-variants.{Accepted, Refused}
-use Rattle.judge.specs.Passes.{lentOf, outcomeOf, verdictOn, Passes}
+use Rattle.image_writing.specs.Memory.{Memory}
+use Rattle.entries_verdict.specs.declared.Totals.{Totals}
+use Rattle.entries_verdict.specs.declared.Outcome.{Outcome}
+use Rattle.entries_verdict.specs.declared.Outcome.the-variants.{Accepted, Refused}
+use Rattle.entries_verdict.specs.Passes.{lentOf, outcomeOf, verdictOn, Passes}
 
 pub record Within (m : Memory) (t : Totals) : Type 0 where
   pub written : t .written ≤ length (m .out)

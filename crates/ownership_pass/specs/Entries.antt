@@ -7,10 +7,10 @@ use Rattle.tables.specs.Limits.{version1}
 use Rattle.image.specs.Image.{Image, accepted, decode}
 use Rattle.rules.specs.Walk.{imageFault}
 use Rattle.rules.specs.Verdict.{roomFault, RoomFor}
-use Rattle.writing.specs.Memory.{Memory}
-use Rattle.judge.specs.Passes.{Passes}
-use Rattle.judge.specs.declared.Outcome.{Outcome}
-use Rattle.judge.specs.declared.Outcome.the-variants.{Accepted, Refused}
+use Rattle.image_writing.specs.Memory.{Memory}
+use Rattle.entries_verdict.specs.Passes.{Passes}
+use Rattle.entries_verdict.specs.declared.Outcome.{Outcome}
+use Rattle.entries_verdict.specs.declared.Outcome.the-variants.{Accepted, Refused}
 use Rattle.ownership_pass.specs.declared.Answer.{Answer}
 use Rattle.ownership_pass.specs.declared.Answer.the-variants.{Needed, Denied}
 

@@ -5,12 +5,12 @@ use mathlib.Core.List.{List}
 use lib.ListN.{length}
 use Rattle.tables.specs.Limits.{version1}
 use Rattle.image.specs.Image.{Image, accepted, decode, encode}
-use Rattle.body.specs.Stmt.{Tree}
+use Rattle.image_body.specs.Stmt.{Tree}
 use Rattle.rules.specs.Report.{withCode}
 use Rattle.rules.specs.AsReturned.{ReturnedBody}
 use Rattle.rules.specs.Pieces.{Struck}
-use Rattle.writing.specs.Memory.{Memory}
-use Rattle.judge.specs.Passes.{over}
+use Rattle.image_writing.specs.Memory.{Memory}
+use Rattle.entries_verdict.specs.Passes.{over}
 
 -- the image that was read; the bytes written are those of the statements given back for its body, which meet demand 3's first two
 -- sentences; striking out what they show to be put in gives the image again, its third

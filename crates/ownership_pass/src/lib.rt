@@ -1,11 +1,12 @@
 // The entries: one image in, the body with the deletes inserted and the reports out, into lent memory; or the room that needs.
 ghost use mathlib.Core.Path.{_≡_};
-ghost use Rattle.writing.specs.Memory.{memory};
-ghost use Rattle.judge.specs.Passes.{Passes};
+ghost use Rattle.image_writing.specs.Memory.{memory};
+ghost use Rattle.entries_verdict.specs.Passes.{Passes};
 ghost use Rattle.ownership_pass.specs.Entries.{PassLeaves, RoomIs, RoomLeaves};
-use fronts::Env;
+use blocks_ends::Env;
+use entries_verdict::Outcome;
+use entries_verdict::Parts;
 use image::Rest;
-use judge::Outcome;
 
 // What the entry that answers the room answers; of a denial, the fault.
 pub enum Answer {
@@ -15,12 +16,24 @@ pub enum Answer {
 
 // What the walk asks of the rest of an image's layout.
 fn env_of(rest: Rest) -> Env
-    ensures { λ r. ⌜ r ≡ record { globals = rest .«global_count»; first = rest .globals; left = 12 } ⌝ }
+    ensures { λ r. ⌜ r ≡ record { globals = rest .«global_count»; first = rest .globals; left = 12; limit = 64; width = 8; cur = 0 } ⌝ }
 {
     Env {
         globals: rest.global_count,
         first: rest.globals,
         left: 12,
+        limit: 64,
+        width: 8,
+        cur: 0,
+    }
+}
+
+fn parts_of(rest: Rest) -> Parts
+    ensures { λ r. ⌜ r ≡ record { entry = rest .entry; body = rest .body } ⌝ }
+{
+    Parts {
+        entry: rest.entry,
+        body: rest.body,
     }
 }
 
@@ -48,12 +61,9 @@ pub fn pass(
     let ts = &types[..layout.type_count];
     let xs = &structs[..rest.struct_count];
     let env = env_of(rest);
-    let entry = rest.entry;
-    let body = rest.body;
-    if s.len() <= 2048 {
-        return judge::judge_short(s, ns, ts, xs, env, entry, body, out, errs, warns, lefts);
-    }
-    judge::judge_long(s, ns, ts, xs, env, entry, body, out, errs, warns, lefts)
+    let parts = parts_of(rest);
+    let size = entries_verdict::size_for(s.len());
+    entries_verdict::verdict(size, s, ns, ts, xs, env, parts, out, errs, warns, lefts)
 }
 
 // The bytes that the body given back needs.
@@ -73,7 +83,7 @@ pub fn room(s: &[u8]) -> Answer
     let ns = &names[..layout.name_count];
     let ts = &types[..layout.type_count];
     let xs = &structs[..rest.struct_count];
-    let w = whole_image::measure(s, ns, ts, xs, env_of(rest), rest.entry, rest.body);
+    let w = entries_verdict::measure(s, ns, ts, xs, env_of(rest), parts_of(rest));
     let found = w.fault;
     if 0 < found {
         return Answer::Denied(found);

@@ -7,8 +7,8 @@ use mathlib.Core.List.{List, [], _∷_}
 use mathlib.Core.Option.{Option, none, some, Option·map, bind}
 use Rattle.tables.specs.Signature.{Entry}
 use Rattle.tables.specs.Tables.{Tables}
-use Rattle.body.specs.Expr.{Expr, through}
-use Rattle.body.specs.Stmt.{Tree, Block, done, exprStmt, variable, assign, return, bareReturn, block, ifElse, ifThen, while, jump}
+use Rattle.image_body.specs.Expr.{Expr, through}
+use Rattle.image_body.specs.Stmt.{Tree, Block, done, exprStmt, variable, assign, return, bareReturn, block, ifElse, ifThen, while, jump}
 use Rattle.rules.specs.Questions.{auto}
 use Rattle.rules.specs.Expr.{tyOf, view, nameIn, isCall}
 use Rattle.rules.specs.Stack.{Stack}

@@ -8,7 +8,7 @@ use mathlib.Core.List.{[], _∷_}
 use mathlib.Core.Option.{Option, none, some}
 use lib.Dec.{eqb, T as So, eqb→eq, T-not}
 use Rattle.tables.specs.Tables.{Tables}
-use Rattle.body.specs.Expr.{Expr}
+use Rattle.image_body.specs.Expr.{Expr}
 use Rattle.rules.specs.Questions.{auto}
 use Rattle.rules.specs.Expr.{View, anIdent, aThis, aField, aDelete, aCall, other, view, Named, nobody, called, identIn, nameIn}
 use Rattle.rules.specs.Stack.{Static, Local, local, Stack, Shape, shape, inFrame, mark, lookup, staticOf}

@@ -5,7 +5,7 @@ use mathlib.Core.Path.{_≡_, refl, sym, _∙_, ap}
 use mathlib.Core.Bool.{Bool, true, false, cond, _&&_}
 use mathlib.Core.List.{List, [], _∷_, _++_, append-nil, append-assoc}
 use Rattle.tables.specs.Tables.{Tables}
-use Rattle.body.specs.Expr.{Expr, Exprs, none, more, countWidth}
+use Rattle.image_body.specs.Expr.{Expr, Exprs, none, more, countWidth}
 use Rattle.rules.proofs.Nodes.{nodeOf, one}
 use Rattle.rules.specs.Questions.{isTempOf, isMoveOf}
 use Rattle.rules.specs.Stack.{Shape, has}

@@ -8,7 +8,7 @@ use mathlib.Core.Option.{Option, none, some, Option·some-injective}
 use lib.Dec.{eqb, T as So, T-not, not-T}
 use Rattle.tables.specs.Signature.{Param}
 use Rattle.tables.specs.Tables.{Tables}
-use Rattle.body.specs.Stmt.{Tree, done, exprStmt, variable, assign, return, bareReturn, block, ifElse, ifThen, while, jump}
+use Rattle.image_body.specs.Stmt.{Tree, done, exprStmt, variable, assign, return, bareReturn, block, ifElse, ifThen, while, jump}
 use Rattle.rules.specs.Expr.{view, identIn, nameIn}
 use Rattle.rules.specs.Stack.{Static, Stack, Shape, shape, staticOf, has}
 use Rattle.rules.specs.Rules.{holding, Drop, dropOf, Decided, excludes, register, tailDrops, decide, entered, Fresh, PlainIn, decideIn}

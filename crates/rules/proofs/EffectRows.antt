@@ -4,10 +4,10 @@ use Prim.Native.Nat.{ℕ}
 use mathlib.Core.Path.{_≡_, refl}
 use mathlib.Core.List.{List, [], _∷_, map}
 use Rattle.tables.specs.Name.{sameBytes, startsWith}
-use Rattle.lookup.specs.First.{firstFrom, andThen, orElse}
-use Rattle.lookup.specs.Ty.{inside, structNamed, classOfTy, classOf}
-use Rattle.lookup.specs.Signature.{modifierIn, modifierOf, isConsuming, globalOf}
-use Rattle.body.specs.Expr.{Expr, countWidth, through, none, more}
+use Rattle.tables_lookup.specs.First.{firstFrom, andThen, orElse}
+use Rattle.tables_lookup.specs.Ty.{inside, structNamed, classOfTy, classOf}
+use Rattle.tables_lookup.specs.Signature.{modifierIn, modifierOf, isConsuming, globalOf}
+use Rattle.image_body.specs.Expr.{Expr, countWidth, through, none, more}
 use Rattle.rules.proofs.Nodes.{nodeOf, one, ident, this, unary, call, field, move, tables}
 use Rattle.rules.specs.Questions.{isTempOf, isMoveOf, consumes, globalIn}
 use Rattle.rules.specs.Stack.{Static, Shape}

@@ -7,11 +7,11 @@ use mathlib.Core.Bool.{Bool, true, false}
 use mathlib.Core.List.{List, [], _∷_}
 use Rattle.tables.specs.Name.{sameBytes, startsWith}
 use Rattle.tables.specs.Signature.{Entry}
-use Rattle.lookup.specs.First.{firstFrom, andThen, orElse}
-use Rattle.lookup.specs.Ty.{inside, structNamed, structShaped, structOfGeneric, structOfTy, structOf, hasDestructor, shouldAutoDelete, classOfTy, classOf}
-use Rattle.lookup.specs.Signature.{modifierIn, modifierOf, isConsuming, globalOf}
-use Rattle.body.specs.Expr.{Expr, countWidth, through, none}
-use Rattle.body.specs.Stmt.{Tree, Block, variable, assign, return, block, ifElse, ifThen, while, exprStmt}
+use Rattle.tables_lookup.specs.First.{firstFrom, andThen, orElse}
+use Rattle.tables_lookup.specs.Ty.{inside, structNamed, structShaped, structOfGeneric, structOfTy, structOf, hasDestructor, shouldAutoDelete, classOfTy, classOf}
+use Rattle.tables_lookup.specs.Signature.{modifierIn, modifierOf, isConsuming, globalOf}
+use Rattle.image_body.specs.Expr.{Expr, countWidth, through, none}
+use Rattle.image_body.specs.Stmt.{Tree, Block, variable, assign, return, block, ifElse, ifThen, while, exprStmt}
 use Rattle.rules.proofs.Nodes.{one, ident, literal, call, field, moving, deletion, end, tables}
 use Rattle.rules.specs.Expr.{called}
 use Rattle.rules.specs.Questions.{auto, isTempOf, isMoveOf, consumes, globalIn}

@@ -11,8 +11,8 @@ use lib.ListN.{length}
 use lib.Dec.{eqb, T as So, eqb→eq}
 use Rattle.tables.specs.Signature.{Param, Entry}
 use Rattle.tables.specs.Tables.{Tables}
-use Rattle.body.specs.Expr.{Expr}
-use Rattle.body.specs.Stmt.{Code, Tree, Block, done, exprStmt, variable, assign, return, bareReturn, block, ifElse, ifThen, while, jump}
+use Rattle.image_body.specs.Expr.{Expr}
+use Rattle.image_body.specs.Stmt.{Code, Tree, Block, done, exprStmt, variable, assign, return, bareReturn, block, ifElse, ifThen, while, jump}
 use Rattle.image.specs.Image.{Image}
 use Rattle.rules.proofs.ByTag.{by-tag}
 use Rattle.rules.specs.Effects.{resolveAll}

@@ -6,14 +6,14 @@ use mathlib.Core.Path.{_≡_, refl, _∙_, ap, subst}
 use mathlib.Core.Bool.{Bool, true, false, cond}
 use mathlib.Core.List.{List, [], _∷_, _++_}
 use lib.ListN.{length, length-append}
-use Rattle.fields.specs.Bytes.{Bytes, twoBytes, fourBytes, numberBytes}
+use Rattle.image_fields.specs.Bytes.{Bytes, twoBytes, fourBytes, numberBytes}
 use Rattle.tables.specs.Limits.{Limits}
 use Rattle.image.specs.Image.{Image, accepted, decode, encode}
 use Rattle.image.proofs.RoundTrip.{image-written}
-use Rattle.encoding.specs.Body.{encodeExpr, encodeExprs, encodeCode, encodeBlock, size, withCount}
-use Rattle.body.specs.Expr.{Expr, countWidth, argWidth, lastWidth}
-use Rattle.body.specs.Stmt.{Code, Tree, done, exprStmt, variable, assign, return, bareReturn, block, ifElse, ifThen, while, jump}
-use Rattle.encoding.specs.Tables.{encodeTables, encodeEntry}
+use Rattle.image_encoding.specs.Body.{encodeExpr, encodeExprs, encodeCode, encodeBlock, size, withCount}
+use Rattle.image_body.specs.Expr.{Expr, countWidth, argWidth, lastWidth}
+use Rattle.image_body.specs.Stmt.{Code, Tree, done, exprStmt, variable, assign, return, bareReturn, block, ifElse, ifThen, while, jump}
+use Rattle.image_encoding.specs.Tables.{encodeTables, encodeEntry}
 use Rattle.rules.specs.Rules.{Drop, dropOf, Decided, decideBody}
 use Rattle.rules.specs.Report.{deleteNode, identNode, inserts, flatten, strike, withCode, returnedImage}
 use Rattle.rules.specs.Run.{code}

@@ -8,11 +8,11 @@ use mathlib.Core.Option.{Option, none, some}
 use lib.Dec.{T as So, T-not}
 use Rattle.tables.specs.Name.{sameBytes, startsWith}
 use Rattle.tables.specs.Signature.{Entry}
-use Rattle.lookup.specs.First.{firstFrom, andThen, orElse}
-use Rattle.lookup.specs.Ty.{inside, structNamed, structShaped, structOfGeneric, structOfTy, structOf, hasDestructor, shouldAutoDelete, classOfTy, classOf}
-use Rattle.lookup.specs.Signature.{modifierIn, modifierOf, isConsuming, globalOf}
-use Rattle.body.specs.Expr.{Expr, countWidth, through}
-use Rattle.body.specs.Stmt.{Tree, Block, variable, assign, bareReturn, ifThen, while, jump}
+use Rattle.tables_lookup.specs.First.{firstFrom, andThen, orElse}
+use Rattle.tables_lookup.specs.Ty.{inside, structNamed, structShaped, structOfGeneric, structOfTy, structOf, hasDestructor, shouldAutoDelete, classOfTy, classOf}
+use Rattle.tables_lookup.specs.Signature.{modifierIn, modifierOf, isConsuming, globalOf}
+use Rattle.image_body.specs.Expr.{Expr, countWidth, through}
+use Rattle.image_body.specs.Stmt.{Tree, Block, variable, assign, bareReturn, ifThen, while, jump}
 use Rattle.rules.proofs.Nodes.{ident, literal, moving, end, tables}
 use Rattle.rules.specs.Questions.{auto, isTempOf, isMoveOf, consumes, globalIn}
 use Rattle.rules.specs.Stack.{Stack, shape, has}

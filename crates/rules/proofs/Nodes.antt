@@ -4,8 +4,8 @@ use mathlib.Core.List.{[], _∷_}
 use Rattle.tables.specs.Ty.{Ty}
 use Rattle.tables.specs.Signature.{Param}
 use Rattle.tables.specs.Tables.{Tables}
-use Rattle.body.specs.Expr.{Expr, Exprs, node, none, more}
-use Rattle.body.specs.Stmt.{Tree, done, exprStmt}
+use Rattle.image_body.specs.Expr.{Expr, Exprs, node, none, more}
+use Rattle.image_body.specs.Stmt.{Tree, done, exprStmt}
 
 -- a node of a tag, span, type and argument, with its children and items
 abbrev pub nodeOf : ℕ → ℕ → ℕ → ℕ → Exprs → Exprs → Expr

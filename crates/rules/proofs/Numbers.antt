@@ -11,8 +11,8 @@ use lib.Dec.{ltb}
 use lib.ListN.{length}
 use Rattle.tables.specs.Limits.{Limits}
 use Rattle.tables.specs.Tables.{Tables}
-use Rattle.lookup.specs.First.{orElse}
-use Rattle.body.specs.Stmt.{Tree, done, exprStmt, variable, assign, return, bareReturn, block, ifElse, ifThen, while, jump}
+use Rattle.tables_lookup.specs.First.{orElse}
+use Rattle.image_body.specs.Stmt.{Tree, done, exprStmt, variable, assign, return, bareReturn, block, ifElse, ifThen, while, jump}
 use Rattle.image.specs.Image.{Image, Decoded, accepted, refused, decode}
 use Rattle.image.proofs.Numbered.{fault-numbers}
 use Rattle.rules.specs.State.{State}

@@ -10,20 +10,20 @@ use borrow.Author.Tests.{eqb-true}
 use lib.ListN.{length, getD, length-append}
 use lib.Dec.{eqb}
 use lib.Seq.{drop-length}
-use Rattle.fields.specs.Bytes.{Bytes, twoBytes, fourBytes, numberBytes}
-use Rattle.fields.proofs.Tests.{split, and-true, false-true}
+use Rattle.image_fields.specs.Bytes.{Bytes, twoBytes, fourBytes, numberBytes}
+use Rattle.image_fields.proofs.Tests.{split, and-true, false-true}
 use Rattle.tables.specs.Limits.{Limits}
 use Rattle.tables.specs.Tables.{Tables}
-use Rattle.body.specs.Expr.{Head, Expr, Exprs, node, none, more, argWidth, countWidth, lastWidth, noopUnary, through, throughFirst}
-use Rattle.body.specs.Stands.{count}
-use Rattle.encoding.specs.Body.{encodeExpr, encodeExprs, encodeCode, size, withCount, encodeBlock}
-use Rattle.encoding.specs.Tables.{encodeTables, encodeEntry}
+use Rattle.image_body.specs.Expr.{Head, Expr, Exprs, node, none, more, argWidth, countWidth, lastWidth, noopUnary, through, throughFirst}
+use Rattle.image_body.specs.Stands.{count}
+use Rattle.image_encoding.specs.Body.{encodeExpr, encodeExprs, encodeCode, size, withCount, encodeBlock}
+use Rattle.image_encoding.specs.Tables.{encodeTables, encodeEntry}
 use Rattle.image.specs.Image.{Image, accepted, decode, encodeParts, encode}
 use Rattle.image.proofs.RoundTrip.{image-written}
-use Rattle.encoding.specs.Written.{Written}
-use Rattle.encoding.proofs.Parts.{first, second, being}
+use Rattle.image_encoding.specs.Written.{Written}
+use Rattle.image_encoding.proofs.Parts.{first, second, being}
 use mathlib.Core.Option.{Option, some}
-use Rattle.body.specs.Stmt.{Tree, done, exprStmt, variable, assign, return, bareReturn, block, ifElse, ifThen, while, jump}
+use Rattle.image_body.specs.Stmt.{Tree, done, exprStmt, variable, assign, return, bareReturn, block, ifElse, ifThen, while, jump}
 use Rattle.rules.specs.Questions.{auto}
 use Rattle.rules.specs.Stack.{Local, local, Stack, shape, lookup}
 use Rattle.rules.specs.State.{State, alive, gone, deleted, moved, consumed}

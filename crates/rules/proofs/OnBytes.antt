@@ -3,17 +3,17 @@
 use Prim.Native.Nat.{ℕ}
 use mathlib.Core.Path.{_≡_, refl, ap, _∙_}
 use mathlib.Core.List.{List, [], _∷_}
-use Rattle.fields.specs.Bytes.{twoBytes, fourBytes, numberBytes, eachBytes}
-use Rattle.fields.specs.Table.{member}
+use Rattle.image_fields.specs.Bytes.{twoBytes, fourBytes, numberBytes, eachBytes}
+use Rattle.image_fields.specs.Table.{member}
 use Rattle.tables.specs.Limits.{version1}
 use Rattle.tables.specs.Name.{sameBytes, startsWith}
 use Rattle.tables.specs.Ty.{ofWidth, shapeWidth}
-use Rattle.lookup.specs.First.{firstFrom, andThen, orElse}
-use Rattle.lookup.specs.Ty.{inside, structNamed, structShaped, structOfGeneric, structOfTy, structOf, hasDestructor, shouldAutoDelete, classOfTy, classOf}
-use Rattle.lookup.specs.Signature.{modifierIn, modifierOf, isConsuming, globalOf}
-use Rattle.body.specs.Expr.{argWidth, countWidth, lastWidth, through}
-use Rattle.encoding.specs.Tables.{encodeName, encodeType, encodeMethod, encodeStruct, encodeGlobal, encodeParam, encodeEntry, encodeTables}
-use Rattle.encoding.specs.Body.{encodeExpr, size, encodeCode, encodeBlock}
+use Rattle.tables_lookup.specs.First.{firstFrom, andThen, orElse}
+use Rattle.tables_lookup.specs.Ty.{inside, structNamed, structShaped, structOfGeneric, structOfTy, structOf, hasDestructor, shouldAutoDelete, classOfTy, classOf}
+use Rattle.tables_lookup.specs.Signature.{modifierIn, modifierOf, isConsuming, globalOf}
+use Rattle.image_body.specs.Expr.{argWidth, countWidth, lastWidth, through}
+use Rattle.image_encoding.specs.Tables.{encodeName, encodeType, encodeMethod, encodeStruct, encodeGlobal, encodeParam, encodeEntry, encodeTables}
+use Rattle.image_encoding.specs.Body.{encodeExpr, size, encodeCode, encodeBlock}
 use Rattle.image.specs.Image.{encode}
 use Rattle.image.proofs.Example.{bytes, example-read}
 use Rattle.rules.specs.Questions.{auto, isTempOf, isMoveOf, consumes, globalIn}

@@ -8,8 +8,8 @@ use mathlib.Core.Option.{some}
 use lib.Dec.{eqb, T as So}
 use Rattle.tables.specs.Signature.{Param, Entry}
 use Rattle.tables.specs.Tables.{Tables}
-use Rattle.body.specs.Expr.{Expr}
-use Rattle.body.specs.Stmt.{Code, Tree, Block, done, exprStmt, variable, assign, return, bareReturn, block, ifElse, ifThen, while, jump}
+use Rattle.image_body.specs.Expr.{Expr}
+use Rattle.image_body.specs.Stmt.{Code, Tree, Block, done, exprStmt, variable, assign, return, bareReturn, block, ifElse, ifThen, while, jump}
 use Rattle.rules.specs.Questions.{auto}
 use Rattle.rules.specs.Expr.{tyOf, view, Named, nobody, called, identIn, isCall}
 use Rattle.rules.specs.Stack.{Static, local, Stack, Shape, lookup, has}

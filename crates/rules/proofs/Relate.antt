@@ -7,7 +7,7 @@ use mathlib.Core.List.{List, [], _∷_}
 use lib.Dec.{eqb}
 use Rattle.tables.specs.Signature.{Param}
 use Rattle.tables.specs.Tables.{Tables}
-use Rattle.body.specs.Expr.{Expr}
+use Rattle.image_body.specs.Expr.{Expr}
 use Rattle.rules.specs.Expr.{view, Named, nobody, called, nameIn}
 use Rattle.rules.specs.Stack.{Static, local, Stack, Shape, shape, inFrame, mark, pop}
 use Rattle.rules.specs.State.{Kind}

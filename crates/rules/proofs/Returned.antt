@@ -6,7 +6,7 @@ use mathlib.Core.Bool.{Bool, true, false, cond, _&&_}
 use mathlib.Core.List.{List, [], _∷_}
 use Rattle.tables.specs.Signature.{Entry}
 use Rattle.tables.specs.Tables.{Tables}
-use Rattle.body.specs.Stmt.{Tree, Block, done, exprStmt, variable, assign, return, bareReturn, block, ifElse, ifThen, while, jump}
+use Rattle.image_body.specs.Stmt.{Tree, Block, done, exprStmt, variable, assign, return, bareReturn, block, ifElse, ifThen, while, jump}
 use Rattle.rules.specs.Expr.{view, nameIn}
 use Rattle.rules.specs.Stack.{Stack}
 use Rattle.rules.specs.Rules.{Alg, states, Drop, dropOf, sureFrom, localsOf, joins, merge, tailDrops, returnDrops, assignDrops, evaluate, afterExpr, afterVariable, beforeAssign, afterAssign, exit, decide, entered}

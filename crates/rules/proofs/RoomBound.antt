@@ -10,7 +10,7 @@ use lib.ListN.{length}
 use lib.Dec.{eqb}
 use Rattle.tables.specs.Signature.{Param, Entry}
 use Rattle.tables.specs.Tables.{Tables}
-use Rattle.body.specs.Stmt.{Tree, Block, done, exprStmt, variable, assign, return, bareReturn, block, ifElse, ifThen, while, jump}
+use Rattle.image_body.specs.Stmt.{Tree, Block, done, exprStmt, variable, assign, return, bareReturn, block, ifElse, ifThen, while, jump}
 use Rattle.rules.specs.Questions.{auto}
 use Rattle.rules.specs.Expr.{tyOf, view, Named, nobody, called, identIn, nameIn, isCall}
 use Rattle.rules.specs.Stack.{Static, Local, local, Stack, Shape, shape, lookup}

@@ -2,7 +2,7 @@
 -- Assumes nothing.
 use mathlib.Core.List.{List, [], _∷_}
 use mathlib.Core.Option.{Option, none, some}
-use Rattle.body.specs.Stmt.{done, exprStmt, variable, assign, return, bareReturn, block, ifElse, ifThen, while, jump}
+use Rattle.image_body.specs.Stmt.{done, exprStmt, variable, assign, return, bareReturn, block, ifElse, ifThen, while, jump}
 use Rattle.rules.specs.Rules.{Drop, Decided}
 use Rattle.rules.specs.Run.{next, into, second, Path}
 

@@ -6,12 +6,12 @@ use mathlib.Core.Bool.{Bool, true, false}
 use mathlib.Core.List.{List, []}
 use Rattle.tables.specs.Signature.{Entry}
 use Rattle.tables.specs.Tables.{Tables}
-use Rattle.fields.specs.Bytes.{Bytes}
+use Rattle.image_fields.specs.Bytes.{Bytes}
 use Rattle.tables.specs.Limits.{Limits}
 use Rattle.image.specs.Image.{Image, accepted, decode, encode}
 use Rattle.image.proofs.RoundTrip.{image-written}
-use Rattle.body.specs.Expr.{Expr}
-use Rattle.body.specs.Stmt.{Tree, Block, done, exprStmt, variable, assign, return, bareReturn, block, ifElse, ifThen, while, jump}
+use Rattle.image_body.specs.Expr.{Expr}
+use Rattle.image_body.specs.Stmt.{Tree, Block, done, exprStmt, variable, assign, return, bareReturn, block, ifElse, ifThen, while, jump}
 use Rattle.rules.specs.Stack.{Stack}
 use Rattle.rules.specs.Rules.{Alg, states, localsOf, decide, entered, decideBody}
 use Rattle.rules.specs.Report.{strike, withCode}

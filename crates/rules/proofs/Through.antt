@@ -7,8 +7,8 @@ use mathlib.Core.Bool.{Bool, true, false, not, cond, _&&_}
 use mathlib.Core.List.{List, [], _∷_, _++_}
 use lib.Dec.{T as So, T-not}
 use Rattle.tables.specs.Tables.{Tables}
-use Rattle.body.specs.Expr.{Expr}
-use Rattle.body.specs.Stmt.{Code, Tree, done, exprStmt, variable, assign, return, bareReturn, block, ifElse, ifThen, while, jump}
+use Rattle.image_body.specs.Expr.{Expr}
+use Rattle.image_body.specs.Stmt.{Code, Tree, done, exprStmt, variable, assign, return, bareReturn, block, ifElse, ifThen, while, jump}
 use Rattle.rules.specs.Stack.{Stack, Shape, shape, pop, has}
 use Rattle.rules.specs.Effects.{effects, exprStmtEffects, assignEffects}
 use Rattle.rules.specs.Rules.{holding, Drop, dropOf, Decided, sureFrom, isDone, joins, merge, Keeps, tailDrops, assignDrops, evaluate, afterExpr, afterVariable, beforeAssign, afterAssign, exit, decide, Plain}

@@ -3,17 +3,17 @@
 use mathlib.Core.Path.{_≡_, refl, _∙_, ap}
 use mathlib.Core.List.{[], _∷_}
 use lib.ListN.{getD}
-use Rattle.fields.specs.Bytes.{twoBytes, fourBytes, numberBytes, eachBytes}
+use Rattle.image_fields.specs.Bytes.{twoBytes, fourBytes, numberBytes, eachBytes}
 use Rattle.tables.specs.Limits.{version1}
 use Rattle.tables.specs.Name.{sameBytes, startsWith}
 use Rattle.tables.specs.Ty.{ofWidth, shapeWidth}
-use Rattle.lookup.specs.First.{firstFrom, andThen, orElse}
-use Rattle.lookup.specs.Ty.{inside, structNamed, structShaped, structOfGeneric, structOfTy, structOf, hasDestructor, shouldAutoDelete, classOfTy, classOf}
-use Rattle.lookup.specs.Signature.{modifierIn, modifierOf, isConsuming, globalOf}
-use Rattle.body.specs.Expr.{argWidth, countWidth, lastWidth, through, none}
-use Rattle.body.specs.Stmt.{exprStmt}
-use Rattle.encoding.specs.Tables.{encodeName, encodeType, encodeMethod, encodeStruct, encodeGlobal, encodeParam, encodeEntry, encodeTables}
-use Rattle.encoding.specs.Body.{encodeExpr, size, encodeCode, encodeBlock}
+use Rattle.tables_lookup.specs.First.{firstFrom, andThen, orElse}
+use Rattle.tables_lookup.specs.Ty.{inside, structNamed, structShaped, structOfGeneric, structOfTy, structOf, hasDestructor, shouldAutoDelete, classOfTy, classOf}
+use Rattle.tables_lookup.specs.Signature.{modifierIn, modifierOf, isConsuming, globalOf}
+use Rattle.image_body.specs.Expr.{argWidth, countWidth, lastWidth, through, none}
+use Rattle.image_body.specs.Stmt.{exprStmt}
+use Rattle.image_encoding.specs.Tables.{encodeName, encodeType, encodeMethod, encodeStruct, encodeGlobal, encodeParam, encodeEntry, encodeTables}
+use Rattle.image_encoding.specs.Body.{encodeExpr, size, encodeCode, encodeBlock}
 use Rattle.image.specs.Image.{Image, accepted, decode, encode}
 use Rattle.image.proofs.Example.{bytes, tree, example-read, example-written}
 use Rattle.rules.proofs.Nodes.{ident, unary, call, delete, end}

@@ -6,16 +6,16 @@ use mathlib.Core.Path.{_≡_, refl}
 use mathlib.Core.Bool.{true, false, _&&_}
 use mathlib.Core.List.{List, [], _∷_, map}
 use mathlib.Core.Option.{Option, some}
-use Rattle.fields.specs.Table.{member}
+use Rattle.image_fields.specs.Table.{member}
 use Rattle.tables.specs.Limits.{Limits, version1}
 use Rattle.tables.specs.Name.{sameBytes, startsWith}
 use Rattle.tables.specs.Signature.{Param}
-use Rattle.lookup.specs.First.{firstFrom, andThen, orElse}
-use Rattle.lookup.specs.Ty.{inside, structNamed, structShaped, structOfGeneric, structOfTy, structOf, hasDestructor, shouldAutoDelete, classOfTy, classOf}
-use Rattle.lookup.specs.Signature.{modifierIn, modifierOf, isConsuming, globalOf}
-use Rattle.body.specs.Expr.{Expr, countWidth, through}
-use Rattle.body.specs.Stmt.{Tree, variable, assign, return, bareReturn, block, ifElse, ifThen, while}
-use Rattle.encoding.specs.Body.{size}
+use Rattle.tables_lookup.specs.First.{firstFrom, andThen, orElse}
+use Rattle.tables_lookup.specs.Ty.{inside, structNamed, structShaped, structOfGeneric, structOfTy, structOf, hasDestructor, shouldAutoDelete, classOfTy, classOf}
+use Rattle.tables_lookup.specs.Signature.{modifierIn, modifierOf, isConsuming, globalOf}
+use Rattle.image_body.specs.Expr.{Expr, countWidth, through}
+use Rattle.image_body.specs.Stmt.{Tree, variable, assign, return, bareReturn, block, ifElse, ifThen, while}
+use Rattle.image_encoding.specs.Body.{size}
 use Rattle.image.specs.Image.{Image, accepted, refused}
 use Rattle.rules.proofs.Nodes.{one, ident, literal, move, moving, end, tables, param}
 use Rattle.rules.specs.Questions.{auto, isTempOf, isMoveOf, consumes, globalIn}

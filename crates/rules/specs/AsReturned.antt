@@ -7,8 +7,8 @@ use mathlib.Core.Option.{Option, some, Option·map, bind}
 use lib.Dec.{eqb}
 use Rattle.tables.specs.Signature.{Entry}
 use Rattle.tables.specs.Tables.{Tables}
-use Rattle.body.specs.Expr.{Expr, Exprs, node, none, more}
-use Rattle.body.specs.Stmt.{Code, Tree, Block, done, exprStmt, variable, assign, return, bareReturn, block, ifElse, ifThen, while, jump}
+use Rattle.image_body.specs.Expr.{Expr, Exprs, node, none, more}
+use Rattle.image_body.specs.Stmt.{Code, Tree, Block, done, exprStmt, variable, assign, return, bareReturn, block, ifElse, ifThen, while, jump}
 use Rattle.rules.specs.Expr.{view, isCall}
 use Rattle.rules.specs.Rules.{Drop, dropOf, Decided, localsOf, PlainBody}
 use Rattle.rules.specs.Report.{forget}

@@ -7,7 +7,7 @@ use mathlib.Core.Option.{Option, some}
 use lib.ListN.{getD}
 use lib.Dec.{eqb}
 use Rattle.tables.specs.Tables.{Tables}
-use Rattle.body.specs.Expr.{Head, Expr, Exprs, node, none, more, countWidth, headOf, through}
+use Rattle.image_body.specs.Expr.{Head, Expr, Exprs, node, none, more, countWidth, headOf, through}
 use Rattle.rules.specs.Questions.{isTempOf, isMoveOf, consumes, globalIn}
 use Rattle.rules.specs.Expr.{View, Named, anIdent, aThis, aField, aDelete, aCall, other, nobody, called, view, nameIn}
 use Rattle.rules.specs.Stack.{Static, Shape, has, staticOf}

@@ -2,7 +2,7 @@
 use Prim.Native.Nat.{ℕ, _+_}
 use mathlib.Core.Bool.{Bool, true, false, cond}
 use lib.Dec.{eqb}
-use Rattle.body.specs.Expr.{Head, Expr, Exprs, node, none, more, headOf, through, noopUnary}
+use Rattle.image_body.specs.Expr.{Head, Expr, Exprs, node, none, more, headOf, through, noopUnary}
 
 -- HirExpr::ty, of the node as it stands
 abbrev pub tyOf : Expr → ℕ

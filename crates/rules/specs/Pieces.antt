@@ -4,11 +4,11 @@ use mathlib.Core.Path.{_≡_}
 use mathlib.Core.Bool.{Bool, true, false, cond}
 use mathlib.Core.List.{List, [], _∷_, _++_}
 use lib.ListN.{length}
-use Rattle.fields.specs.Bytes.{twoBytes, fourBytes}
+use Rattle.image_fields.specs.Bytes.{twoBytes, fourBytes}
 use Rattle.tables.specs.Limits.{Limits}
-use Rattle.body.specs.Stmt.{done, exprStmt, variable, assign, return, bareReturn, block, ifElse, ifThen, while, jump}
-use Rattle.encoding.specs.Tables.{encodeTables, encodeEntry}
-use Rattle.encoding.specs.Body.{encodeExpr, size}
+use Rattle.image_body.specs.Stmt.{done, exprStmt, variable, assign, return, bareReturn, block, ifElse, ifThen, while, jump}
+use Rattle.image_encoding.specs.Tables.{encodeTables, encodeEntry}
+use Rattle.image_encoding.specs.Body.{encodeExpr, size}
 use Rattle.image.specs.Image.{Image}
 use Rattle.rules.specs.Rules.{Drop, dropOf, Decided}
 use Rattle.rules.specs.Report.{deleteNode, identNode}

@@ -5,9 +5,9 @@ use mathlib.Core.List.{[]}
 use mathlib.Core.Option.{Option}
 use lib.ListN.{getD}
 use Rattle.tables.specs.Tables.{Tables}
-use Rattle.lookup.specs.Ty.{shouldAutoDelete}
-use Rattle.lookup.specs.Signature.{modifierOf, isConsuming, globalOf}
-use Rattle.lookup.specs.Name.{isTemp, isMove}
+use Rattle.tables_lookup.specs.Ty.{shouldAutoDelete}
+use Rattle.tables_lookup.specs.Signature.{modifierOf, isConsuming, globalOf}
+use Rattle.tables_lookup.specs.Name.{isTemp, isMove}
 
 -- should_auto_delete: is the type one with a destructor
 unfoldable pub auto : Tables → ℕ → Bool

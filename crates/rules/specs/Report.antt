@@ -6,10 +6,10 @@ use mathlib.Core.Option.{Option, some}
 use lib.ListN.{length}
 use Rattle.tables.specs.Signature.{Entry}
 use Rattle.tables.specs.Tables.{Tables}
-use Rattle.body.specs.Expr.{Expr, node, none, more}
-use Rattle.body.specs.Stmt.{Code, Tree, Block, done, exprStmt, variable, assign, return, bareReturn, block, ifElse, ifThen, while, jump}
-use Rattle.encoding.specs.Tables.{encodeTables, encodeEntry}
-use Rattle.encoding.specs.Body.{encodeExpr, encodeCode}
+use Rattle.image_body.specs.Expr.{Expr, node, none, more}
+use Rattle.image_body.specs.Stmt.{Code, Tree, Block, done, exprStmt, variable, assign, return, bareReturn, block, ifElse, ifThen, while, jump}
+use Rattle.image_encoding.specs.Tables.{encodeTables, encodeEntry}
+use Rattle.image_encoding.specs.Body.{encodeExpr, encodeCode}
 use Rattle.image.specs.Image.{Image}
 use Rattle.rules.specs.Questions.{auto}
 use Rattle.rules.specs.Expr.{nobody, view, isCall, tyOf, calleeAt}

@@ -3,7 +3,7 @@ use Prim.Native.Nat.{ℕ, suc, _+_, _*_}
 use mathlib.Core.Bool.{cond}
 use lib.ListN.{length}
 use Rattle.tables.specs.Signature.{Entry}
-use Rattle.body.specs.Stmt.{Code, Block, done, exprStmt, variable, assign, return, bareReturn, block, ifElse, ifThen, while, jump}
+use Rattle.image_body.specs.Stmt.{Code, Block, done, exprStmt, variable, assign, return, bareReturn, block, ifElse, ifThen, while, jump}
 use Rattle.rules.specs.Rules.{Decided, localsOf}
 
 -- the bytes that the insertions add: 21 for a delete statement, 7 for a delete round an unused result

@@ -7,8 +7,8 @@ use mathlib.Core.Option.{Option, none, some}
 use lib.Dec.{eqb, ltb, T as So}
 use Rattle.tables.specs.Signature.{Param, Entry}
 use Rattle.tables.specs.Tables.{Tables}
-use Rattle.body.specs.Expr.{Expr}
-use Rattle.body.specs.Stmt.{Code, Tree, Block, done, exprStmt, variable, assign, return, bareReturn, block, ifElse, ifThen, while, jump}
+use Rattle.image_body.specs.Expr.{Expr}
+use Rattle.image_body.specs.Stmt.{Code, Tree, Block, done, exprStmt, variable, assign, return, bareReturn, block, ifElse, ifThen, while, jump}
 use Rattle.rules.specs.Questions.{auto}
 use Rattle.rules.specs.Expr.{Named, nobody, called, view, identIn, nameIn, isCall, tyOf}
 use Rattle.rules.specs.Stack.{Static, Local, local, Stack, Shape, shape, has, inFrame, mark, lookup, pop}

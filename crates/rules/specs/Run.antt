@@ -8,8 +8,8 @@ use mathlib.Core.Option.{Option, none, some}
 use lib.Dec.{eqb, T as So}
 use Rattle.tables.specs.Signature.{Param}
 use Rattle.tables.specs.Tables.{Tables}
-use Rattle.body.specs.Expr.{Expr}
-use Rattle.body.specs.Stmt.{done, exprStmt, variable, assign, return, bareReturn, block, ifElse, ifThen, while, jump}
+use Rattle.image_body.specs.Expr.{Expr}
+use Rattle.image_body.specs.Stmt.{done, exprStmt, variable, assign, return, bareReturn, block, ifElse, ifThen, while, jump}
 use Rattle.rules.specs.Questions.{auto}
 use Rattle.rules.specs.Expr.{view, Named, identIn, nameIn}
 use Rattle.rules.specs.Stack.{Static, Local, local, Stack, shape, mark, lookup, pop, staticOf, has}

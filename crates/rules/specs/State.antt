@@ -3,7 +3,7 @@ use Prim.Native.Nat.{ℕ}
 use mathlib.Core.Bool.{Bool, true, false, cond, _&&_, Bool·beq}
 use mathlib.Core.List.{List, [], _∷_, _++_}
 use lib.Dec.{eqb}
-use Rattle.fields.specs.Table.{member}
+use Rattle.image_fields.specs.Table.{member}
 
 pub data Kind : Type 0 where
   deleted moved consumed : Kind

@@ -7,8 +7,8 @@ use mathlib.Core.Option.{Option, some}
 use lib.ListN.{length, take, replicate}
 use lib.Dec.{leb}
 use Rattle.tables.specs.Limits.{Limits}
-use Rattle.encoding.specs.Body.{size}
-use Rattle.body.specs.Stmt.{Tree, done, exprStmt, variable, assign, return, bareReturn, block, ifElse, ifThen, while, jump}
+use Rattle.image_encoding.specs.Body.{size}
+use Rattle.image_body.specs.Stmt.{Tree, done, exprStmt, variable, assign, return, bareReturn, block, ifElse, ifThen, while, jump}
 use Rattle.image.specs.Image.{Image, Decoded, accepted, refused, decode, encode}
 use Rattle.rules.specs.Report.{Report, error, warning, left, reports, errors, warnings, lefts, returnedImage}
 use Rattle.rules.specs.Room.{roomBound}

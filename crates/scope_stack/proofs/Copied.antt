@@ -8,10 +8,10 @@ use mathlib.Core.Logic.{_⊎_, inl, inr, ⊎-elim}
 use native.Mathlib.Omega.{arith}
 use lib.ListN.{length, getD}
 use lib.Seq.{length-take-le}
-use Rattle.fields.proofs.Tests.{less, false-true}
-use Rattle.state.specs.Kinds.{said}
-use Rattle.state.specs.View.{listed, Roomy}
-use Rattle.state.specs.declared.Places.{Places}
+use Rattle.image_fields.proofs.Tests.{less, false-true}
+use Rattle.scope_state.specs.Kinds.{said}
+use Rattle.scope_state.specs.View.{listed, Roomy}
+use Rattle.scope_state.specs.declared.Places.{Places}
 use Rattle.scope_stack.specs.declared.Entry.{Entry}
 use Rattle.scope_stack.specs.View.{rowOf, rowAt, saidAt, Row, Known}
 use Rattle.scope_stack.specs.Rows.{Else, Wrote, Copied, Copies}
@@ -95,8 +95,8 @@ module _ (n width : ℕ) (kinds rows : List ℕ) (src dst : ℕ) (g : Copied n w
               (less k i);
         })
 
-    pub copying-short : length new ≤ rowOf dst width i + width → Copies n width kinds rows src dst false new
-    copying-short s = record {
+    pub copying-short : 8 ≤ getD kinds i 0 → length new ≤ rowOf dst width i + width → Copies n width kinds rows src dst false new
+    copying-short big s = record {
       rest = record {
         room = h .else .room;
         same = λ k o. ⊎-elim (λ (q : k < dst). h .else .same k (inl q)) (λ (q : rowOf dst width n ≤ k). h .else .same k (inr (omega (arith, row-before dst width i n l)))) o;
@@ -104,6 +104,7 @@ module _ (n width : ℕ) (kinds rows : List ℕ) (src dst : ℕ) (g : Copied n w
       is = λ e. false-true e;
       known = λ e. false-true e;
       short = λ e. omega (arith, h .else .room, row-before dst width i n l);
+      why = λ e. (i, l, nine-up new width (rowOf src width i) (getD kinds i 0) known-src big, omega (arith, h .else .room));
     }
 
   pub copying-all : i ≡ n → Copies n width kinds rows src dst true new
@@ -112,4 +113,5 @@ module _ (n width : ℕ) (kinds rows : List ℕ) (src dst : ℕ) (g : Copied n w
     is = λ e k l f. h .is k (omega arith) f;
     known = λ e k l. h .known k (omega arith);
     short = λ e. false-true (sym e);
+    why = λ e. false-true (sym e);
   }

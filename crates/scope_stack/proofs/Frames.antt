@@ -12,7 +12,7 @@ use Rattle.rules.specs.Stack.{Static, local, Shape, shape, inFrame, mark, pop, 
 use Rattle.rules.specs.Rules.{states, register, joins}
 use Rattle.rules.proofs.Bools.{eqb-self}
 use Rattle.rules.proofs.Shapes.{popS, shape-frame, shape-mark, shape-pop, shape-joins}
-use Rattle.state.specs.Kinds.{put}
+use Rattle.scope_state.specs.Kinds.{put}
 use Rattle.scope_stack.specs.View.{Nested, depthOf}
 
 mark-step : (b : Bool) (n : ℕ) (f : Status → Status) (s : Static) (a : Status) (σ : Scope Status) → mark n f σ ≡ inFrame n (depthOf n σ) f σ

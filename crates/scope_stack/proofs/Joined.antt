@@ -9,15 +9,15 @@ use borrow.Author.Tests.{eqb-true, eqb-false, ne-eqb, eq-eqb, le-ltb}
 use native.Mathlib.Omega.{arith}
 use lib.Dec.{eqb, ltb}
 use lib.ListN.{length, getD}
-use Rattle.fields.proofs.Tests.{split, less, or-true, false-true}
+use Rattle.image_fields.proofs.Tests.{split, less, or-true, false-true}
 use Rattle.tables.specs.Limits.{Limits}
 use Rattle.rules.specs.State.{State as Status, alive, gone, joinState, placesEq, combine}
 use Rattle.rules.specs.Stack.{Static, local, Stack as Scope}
 use Rattle.rules.specs.Rules.{states, joins}
 use Rattle.rules.specs.Walk.{placesOf, crowded}
 use Rattle.rules.proofs.Bools.{eqb-self}
-use Rattle.state.specs.Kinds.{said, family, kindOf}
-use Rattle.state.proofs.Numbers.{join-given}
+use Rattle.scope_state.specs.Kinds.{said, family, kindOf}
+use Rattle.scope_state.proofs.Numbers.{join-given}
 use Rattle.scope_stack.specs.declared.Locals.{Locals}
 use Rattle.scope_stack.specs.declared.States.{States}
 use Rattle.scope_stack.specs.declared.Entry.{Entry}

@@ -9,10 +9,10 @@ use borrow.Author.Tests.{lt-ltb, le-ltb, ne-eqb}
 use native.Mathlib.Omega.{arith}
 use lib.Dec.{eqb, ltb}
 use lib.ListN.{getD}
-use Rattle.fields.proofs.Tests.{split, less}
+use Rattle.image_fields.proofs.Tests.{split, less}
 use Rattle.rules.specs.State.{Kind, State as Status, alive, gone, isAlive}
 use Rattle.rules.specs.Stack.{inFrame, mark}
-use Rattle.state.specs.Kinds.{said, put}
+use Rattle.scope_state.specs.Kinds.{said, put}
 use Rattle.scope_stack.specs.declared.Locals.{Locals}
 use Rattle.scope_stack.specs.declared.States.{States}
 use Rattle.scope_stack.specs.declared.Entry.{Entry}

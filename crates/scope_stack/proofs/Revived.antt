@@ -6,7 +6,7 @@ use mathlib.Core.Bool.{Bool, true, false, not}
 use mathlib.Core.List.{List}
 use mathlib.Core.Logic.{⊎-elim}
 use native.Mathlib.Omega.{arith}
-use Rattle.fields.proofs.Tests.{less, false-true}
+use Rattle.image_fields.proofs.Tests.{less, false-true}
 use Rattle.scope_stack.specs.Word.{wordOf, Newest}
 use Rattle.scope_stack.specs.View.{Named}
 use Rattle.scope_stack.proofs.Words.{word-not, word-zero}

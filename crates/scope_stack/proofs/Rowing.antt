@@ -11,15 +11,15 @@ use native.Mathlib.Omega.{arith}
 use lib.Dec.{eqb, ltb}
 use lib.ListN.{length, getD, set, take, drop, length-set, length-drop}
 use lib.Seq.{getD-set-other, getD-set-same, getD-take, getD-drop, ext-getD, length-take-le}
-use Rattle.fields.proofs.Tests.{split, less, false-true}
+use Rattle.image_fields.proofs.Tests.{split, less, false-true}
 use Rattle.rules.specs.State.{State as Status, joinState}
 use Rattle.rules.specs.Walk.{placesOf}
-use Rattle.state.specs.Kinds.{said}
-use Rattle.state.specs.View.{listed, stateOf, Roomy, Made, Joins}
-use Rattle.state.specs.declared.Places.{Places}
-use Rattle.state.specs.declared.State.{State}
-use Rattle.state.specs.declared.NextState.{NextState}
-use Rattle.state.proofs.Numbers.{not-not}
+use Rattle.scope_state.specs.Kinds.{said}
+use Rattle.scope_state.specs.View.{listed, stateOf, Roomy, Made, Joins}
+use Rattle.scope_state.specs.declared.Places.{Places}
+use Rattle.scope_state.specs.declared.State.{State}
+use Rattle.scope_state.specs.declared.NextState.{NextState}
+use Rattle.scope_state.proofs.Numbers.{not-not}
 use Rattle.scope_stack.specs.declared.Entry.{Entry}
 use Rattle.scope_stack.specs.View.{rowOf, rowAt, saidAt, Row, Known}
 use Rattle.scope_stack.specs.Rows.{Outside, Else, Wrote, joinOf, over, Loads, JoinsAt}
@@ -159,7 +159,7 @@ positive k ne = omega arith
 pub nine-up : (rows : List ℕ) (width at k : ℕ) → Known rows width at k → 8 ≤ k → 9 ≤ k
 nine-up rows width at k h l = ⊎-elim (λ (q : k < 9). absurd (let s : k < 7 = h .single q in omega arith)) (λ (q : 9 ≤ k). q) (less k 9)
 
--- a row that the crate state's places have room for
+-- a row that the crate scope_state's places have room for
 pub loads : (rows : List ℕ) (width at k : ℕ) → Known rows width at k → width ≤ 8 → Loads rows at k
 loads rows width at k h le = (
   record { kind = h .kind; single = h .single; row = λ l. record { few = h .row l .few; most = omega arith; room = omega (arith, h .row l .room, h .row l .most) } },

@@ -10,20 +10,20 @@ use native.Mathlib.Omega.{arith}
 use lib.Bits.{bitAnd}
 use lib.Dec.{eqb}
 use lib.ListN.{length, getD}
-use Rattle.fields.proofs.Tests.{split, less, and-true}
+use Rattle.image_fields.proofs.Tests.{split, less, and-true}
 use Rattle.tables.specs.Tables.{Tables}
 use Rattle.rules.specs.Questions.{auto}
 use Rattle.rules.specs.State.{State as Status, deleted, moved, consumed, alive, isAlive, handState}
 use Rattle.rules.specs.Stack.{Static, Local, local, shape, inFrame, mark, pop, Stack as Scope}
 use Rattle.rules.specs.Rules.{states, register, Drop, dropOf, collect}
 use Rattle.rules.proofs.Bools.{eqb-self}
-use Rattle.state.specs.Kinds.{said, put}
+use Rattle.scope_state.specs.Kinds.{said, put}
 use Rattle.scope_stack.specs.declared.Locals.{Locals}
 use Rattle.scope_stack.specs.declared.States.{States}
 use Rattle.scope_stack.specs.declared.Entry.{Entry}
 use Rattle.scope_stack.specs.Word.{wordOf, Newest}
 use Rattle.scope_stack.specs.View.{stacked, staticAt, entryAt, aliveAt, rowOf, saidAt, stateAt, view, Known, Kept, Held, Rowed, Sound, Drops, dtorAt, dropAt, Nested, Grows, Marks, Named, Leaves, Extends}
-use Rattle.scope_stack.specs.Rows.{Copies, JoinsAll}
+use Rattle.scope_stack.specs.Rows.{Copied, Copies, JoinsAll}
 use Rattle.scope_stack.proofs.Words.{word-both, word-zero}
 use Rattle.scope_stack.proofs.Stacked.{length-stacked, shape-same, stacked-more, stacked-none, agree, framed}
 use Rattle.scope_stack.proofs.Frames.{pop-keeps, mark-same, hand-put}
@@ -66,6 +66,16 @@ module _ (l : Locals) (t : States) (rows new : List ℕ) (src dst width : ℕ) (
         (less i (l .count));
     free = h .free;
   }
+
+-- a copy to rows further back has room: the row that would not fit stands within the rows at its source
+pub copied-back : (n width : ℕ) (kinds rows : List ℕ) (src dst : ℕ) (ok : Bool) (new : List ℕ) → Copied n width kinds rows src dst → dst ≤ src
+    → Copies n width kinds rows src dst ok new → ok ≡ true
+copied-back n width kinds rows src dst true new g le h = refl
+copied-back n width kinds rows src dst false new g le h =
+    let w = h .why refl in
+    let r = g .known (w .0) (w .1) .row (w .2) .room in
+    let s = w .3 in
+    absurd (omega arith)
 
 -- no local yet
 pub view-none : (l : Locals) (t : States) (rows : List ℕ) (cur width : ℕ) → l .count ≡ 0 → view l t rows cur width ≡ []

@@ -11,7 +11,7 @@ use lib.Bits.{bitAnd, bitOr, and-block, or-block}
 use lib.Count.{leadingZeros, leading-top}
 use lib.Dec.{eqb, ltb}
 use lib.Pow.{pow-pos, pow-mono}
-use Rattle.fields.proofs.Tests.{split, less}
+use Rattle.image_fields.proofs.Tests.{split, less}
 use Rattle.rules.proofs.Bools.{eqb-self}
 use Rattle.scope_stack.specs.Word.{wordOf, Top, Newest}
 

@@ -39,7 +39,7 @@ joinOf x y rows row more = joinState (saidAt rows row x) (saidAt rows more y)
 abbrev pub over : ℕ → Status → Bool
 over width a = ltb width (length (placesOf a))
 
--- a kind whose row, if it has one, fits the places of the crate state
+-- a kind whose row, if it has one, fits the places of the crate scope_state
 abbrev pub Loads : List ℕ → ℕ → ℕ → Type 0
 Loads rows at k = Known rows (getD rows at 0) at k × (9 ≤ k → getD rows at 0 ≤ 8)
 
@@ -88,10 +88,11 @@ pub record Copied (n width : ℕ) (kinds rows : List ℕ) (src dst : ℕ) : Type
   pub apart : (rowOf src width n ≤ dst) ⊎ (rowOf dst width n ≤ src)
   pub fits : (rowOf src width n < 2 ^ 64) × (rowOf dst width n < 2 ^ 64)
 
--- the rows of n locals stand at the other place too, or the rows end before these do
+-- the rows of n locals stand at the other place too, or the rows end before these do: before the one of some local that has a row
 pub record Copies (n width : ℕ) (kinds rows : List ℕ) (src dst : ℕ) (ok : Bool) (new : List ℕ) : Type 0 where
   pub rest : Else dst (rowOf dst width n) rows new
   pub is : ok ≡ true → (i : ℕ) → i < n → (first : ℕ)
       → saidAt new (rowOf dst width i) (record { kind = getD kinds i 0; first = first }) ≡ saidAt rows (rowOf src width i) (record { kind = getD kinds i 0; first = first })
   pub known : ok ≡ true → (i : ℕ) → i < n → Known new width (rowOf dst width i) (getD kinds i 0)
   pub short : ok ≡ false → length rows < rowOf dst width n
+  pub why : ok ≡ false → (i : ℕ) × (i < n) × (9 ≤ getD kinds i 0) × (length rows ≤ rowOf dst width i + width)

@@ -9,14 +9,14 @@ use lib.Dec.{eqb, ltb}
 use lib.ListN.{length, getD, take, drop}
 use Rattle.tables.specs.Limits.{version1}
 use Rattle.tables.specs.Tables.{Tables}
-use Rattle.lookup.specs.declared.Found.{Found}
-use Rattle.lookup.specs.declared.Found.the-variants.{At, Nothing}
+use Rattle.tables_lookup.specs.declared.Found.{Found}
+use Rattle.tables_lookup.specs.declared.Found.the-variants.{At, Nothing}
 use Rattle.rules.specs.Questions.{auto}
 use Rattle.rules.specs.State.{State as Status, joinState}
 use Rattle.rules.specs.Stack.{Static, Local, local, Shape, shape, lookup, mark, Stack as Scope}
 use Rattle.rules.specs.Rules.{states, Drop, dropOf, collect, joins}
 use Rattle.rules.specs.Walk.{placesOf, crowded}
-use Rattle.state.specs.Kinds.{said}
+use Rattle.scope_state.specs.Kinds.{said}
 use Rattle.scope_stack.specs.declared.Locals.{Locals}
 use Rattle.scope_stack.specs.declared.States.{States}
 use Rattle.scope_stack.specs.declared.Entry.{Entry}

@@ -8,17 +8,17 @@ ghost use lib.Dec.{eqb};
 ghost use lib.ListN.{length, getD};
 ghost use Rattle.tables.specs.Tables.{Tables};
 ghost use Rattle.rules.specs.State.{State as Status};
-ghost use Rattle.state.specs.Kinds.{said, put};
+ghost use Rattle.scope_state.specs.Kinds.{said, put};
 ghost use Rattle.scope_stack.specs.declared.Locals.{Locals};
 ghost use Rattle.scope_stack.specs.declared.States.{States};
 ghost use Rattle.scope_stack.specs.Word.{wordOf, Top, Newest};
 ghost use Rattle.scope_stack.specs.View.{stacked, staticAt, depthOf, Kept, Held, Rowed, Drops, Finds, Grows, Marks, Named, Leaves, dropAt};
-ghost use Rattle.state.specs.View.{listed, stateOf, Roomy, Made};
+ghost use Rattle.scope_state.specs.View.{listed, stateOf, Roomy, Made};
 ghost use Rattle.scope_stack.specs.View.{rowAt, saidAt, Known};
 ghost use Rattle.scope_stack.specs.Rows.{Wrote, Loads, Alike, JoinsAt, Branches, JoinsAll, Copied, Copies};
-use lookup::Found;
-use state::Places;
-use state::State;
+use scope_state::Places;
+use scope_state::State;
+use tables_lookup::Found;
 
 // The locals registered, oldest first: the first count of each array. A bit of dtors for each whose type has a destructor.
 pub struct Locals {
@@ -334,7 +334,7 @@ fn write_row(rows: &mut [u32], row: usize, p: Places)
     rows[row] = p.count as u32;
 }
 
-// A state as the crate state has it.
+// A state as the crate scope_state has it.
 fn load(rows: &[u32], e: Entry, row: usize) -> State
     requires { ⌜ Loads (now rows) row (e .kind) ⌝ }
     ensures { λ r. ⌜ (stateOf r ≡ saidAt (now (rows .entry)) row e) × Made (r .kind) (r .places) ⌝ }

@@ -7,24 +7,25 @@ use mathlib.Core.List.{List, [], _∷_, _++_}
 use native.Mathlib.Omega.{arith}
 use lib.ListN.{length, getD}
 use Rattle.tables.specs.Tables.{Tables}
-use Rattle.lookup.specs.declared.Found.{Found}
-use Rattle.lookup.specs.declared.Found.the-variants.{At, Nothing}
+use Rattle.tables_lookup.specs.declared.Found.{Found}
+use Rattle.tables_lookup.specs.declared.Found.the-variants.{At, Nothing}
 use Rattle.rules.specs.Expr.{called}
 use Rattle.rules.specs.Questions.{auto}
 use Rattle.tables.specs.Limits.{version1}
 use Rattle.rules.specs.Report.{leftBehind}
 use Rattle.rules.specs.Verdict.{entriesOf}
-use Rattle.rules.specs.Stack.{Static, Stack as Scope}
+use Rattle.rules.specs.Stack.{Static}
 use Rattle.rules.specs.State.{State as Status, isAlive}
 use Rattle.rules.specs.Rules.{states, Drop, dropOf, collect, dropNewest, dropNamed}
-use Rattle.writing.specs.Stored.{Stored}
-use Rattle.drops.proofs.Laws.{Rest, rest-start, rest-step, rest-end, count-step, count-end}
+use Rattle.image_writing.specs.Stored.{Stored}
+use Rattle.statements_acts.proofs.Laws.{Rest, rest-start, rest-step, rest-end, count-step, count-end}
 use Rattle.scope_stack.specs.declared.Locals.{Locals}
 use Rattle.scope_stack.specs.Word.{wordOf, Top, Newest}
-use Rattle.scope_stack.specs.View.{stacked, foundIn, Finds, Below}
+use Rattle.scope_stack.specs.View.{foundIn, Finds}
 use Rattle.scope_stack.proofs.Words.{top-below, top-rest, word-zero}
 use Rattle.scope_stack.proofs.Stacked.{stacked-more, stacked-none}
-use Rattle.statements_acts.specs.Marks.{staticIn, lent, dropIn, Marked}
+use Rattle.statements_acts.specs.Marks.{staticIn, lent, dropIn}
+use Rattle.statements_acts.proofs.Lent.{localsOf, found-is}
 
 -- the numbers of what is left behind at a span
 abbrev pub leftNumbers : ℕ → List Drop → List ℕ
@@ -154,22 +155,17 @@ module _ (T : Tables) (names types depths : List ℕ) (g : ℕ → Status) (q : 
           let e : some′ (h .n) ≡ [] = drops-none (h .n) zero in
           (rest-end f old at (some′ k) out place (some′ (h .n)) (h .rest) (some′ k) refl (ap f e ∙ fn), count-end (length (some′ k)) put (some′ (h .n)) (h .many) e)
 
--- the struct of lent arrays
-abbrev pub localsOf : List ℕ → List ℕ → List ℕ → ℕ → Locals
-localsOf names types depths n = record { count = n; names = names; types = types; depths = depths; dtors = 0 }
-
-pub found-below : (r : Found) (i n : ℕ) → Below r n → r ≡ At i → i < n
-found-below r i n h e = subst (λ (x : Found). Below x n) e h
-
 -- no local of the name, or its newest local
-module _ (T : Tables) (names types depths : List ℕ) (g : ℕ → Status) (k p n s : ℕ) (r : Found) (f : Finds n (localsOf names types depths k) g r) where
+module _ (T : Tables) (names types depths : List ℕ) (g : ℕ → Status) (k p n s : ℕ) (r : Found)
+    (f : (l : Locals) (g : ℕ → Status) → l .names ≡ names → l .count ≡ k → Finds n l g r) where
+  drop-is : (x : Found) → r ≡ x → dropNamed states T p (called n s) (lent names types depths g k) ≡ dropNewest states T p n (foundIn (localsOf names types depths k) g x)
+  drop-is x e = ap (dropNewest states T p n) (found-is names k n f types depths g ∙ ap (foundIn (localsOf names types depths k) g) e)
+
   pub assign-none : r ≡ Nothing → dropNamed states T p (called n s) (lent names types depths g k) ≡ []
-  assign-none e = ap (dropNewest states T p n) (f .is ∙ ap (foundIn (localsOf names types depths k) g) e)
+  assign-none e = drop-is Nothing e
 
   pub assign-kept : (i : ℕ) → r ≡ At i → dropIn T types g i ≡ false → dropNamed states T p (called n s) (lent names types depths g k) ≡ []
-  assign-kept i e off =
-      ap (dropNewest states T p n) (f .is ∙ ap (foundIn (localsOf names types depths k) g) e) ∙ ap (λ (b : Bool). cond b (dropOf p n (getD types i 0) ∷ []) []) off
+  assign-kept i e off = drop-is (At i) e ∙ ap (λ (b : Bool). cond b (dropOf p n (getD types i 0) ∷ []) []) off
 
   pub assign-drop : (i : ℕ) → r ≡ At i → dropIn T types g i ≡ true → dropNamed states T p (called n s) (lent names types depths g k) ≡ dropOf p n (getD types i 0) ∷ []
-  assign-drop i e on =
-      ap (dropNewest states T p n) (f .is ∙ ap (foundIn (localsOf names types depths k) g) e) ∙ ap (λ (b : Bool). cond b (dropOf p n (getD types i 0) ∷ []) []) on
+  assign-drop i e on = drop-is (At i) e ∙ ap (λ (b : Bool). cond b (dropOf p n (getD types i 0) ∷ []) []) on

@@ -4,21 +4,19 @@ use Prim.Native.Nat.{ℕ, _+_}
 use mathlib.Core.Path.{_≡_, sym, ap, _∙_}
 use mathlib.Core.List.{List, [], map}
 use lib.ListN.{getD}
-use Rattle.fields.specs.Bytes.{Bytes}
+use Rattle.image_fields.specs.Bytes.{Bytes}
 use Rattle.tables.specs.Tables.{Tables}
 use Rattle.tables.specs.Name.{nameOf}
 use Rattle.tables.specs.Ty.{typeIn}
 use Rattle.tables.specs.Signature.{structIn}
-use Rattle.body.specs.Stmt.{Tree}
+use Rattle.image_body.specs.Stmt.{Tree}
 use Rattle.rules.specs.State.{State as Status}
 use Rattle.rules.specs.Stack.{Stack as Scope}
-use Rattle.drops.specs.declared.Put.{Put}
-use Rattle.statements.specs.declared.Place.{Place}
-use Rattle.statements.specs.declared.Act.{Act}
-use Rattle.statements.specs.Act.{FrontThere, ActsThere}
-use Rattle.statements.specs.Parts.{Copied}
-use Rattle.statements.proofs.Fronts.{front-assign, front-return, front-bare}
-use Rattle.steps.specs.Statement.{frontSize}
+use Rattle.statements_acts.specs.declared.Place.{Place}
+use Rattle.statements_acts.specs.declared.Act.{Act}
+use Rattle.statements_acts.specs.Act.{FrontThere, ActsThere}
+use Rattle.statements_acts.proofs.Fronts.{front-assign, front-return, front-bare}
+use Rattle.statements_steps.specs.Statement.{frontSize}
 use Rattle.statements_acts.specs.Marks.{EndsThere}
 
 -- the tables that stand there, but for the globals

@@ -4,14 +4,14 @@ use mathlib.Core.Path.{_≡_}
 use mathlib.Core.Bool.{Bool, _&&_}
 use mathlib.Core.List.{List, [], _∷_}
 use lib.ListN.{getD}
-use Rattle.fields.specs.Parsed.{Parsed, ok}
+use Rattle.image_fields.specs.Parsed.{Parsed, ok}
 use Rattle.tables.specs.Tables.{Tables}
-use Rattle.body.specs.Expr.{Scope as Reading}
-use Rattle.body.specs.Stmt.{Tree, Block, Stmt, before, stmtAt}
+use Rattle.image_body.specs.Expr.{Scope as Reading}
+use Rattle.image_body.specs.Stmt.{Tree, Block, Stmt, before, stmtAt}
 use Rattle.rules.specs.Questions.{auto}
 use Rattle.rules.specs.State.{State as Status, isAlive}
 use Rattle.rules.specs.Stack.{Static, local, Stack as Scope}
-use Rattle.steps.specs.Statement.{frontSize}
+use Rattle.statements_steps.specs.Statement.{frontSize}
 use Rattle.scope_stack.specs.Word.{wordOf}
 use Rattle.scope_stack.specs.View.{stacked}
 

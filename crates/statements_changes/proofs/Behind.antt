@@ -7,31 +7,31 @@ use mathlib.Core.Bool.{Bool, true, false}
 use mathlib.Core.List.{List}
 use mathlib.Core.Option.{Option, none}
 use lib.ListN.{length, getD}
-use Rattle.fields.specs.Parsed.{ok}
-use Rattle.fields.specs.Bytes.{Bytes}
+use Rattle.image_fields.specs.Parsed.{ok}
+use Rattle.image_fields.specs.Bytes.{Bytes}
 use Rattle.tables.specs.Limits.{version1}
 use Rattle.tables.specs.Tables.{Tables}
-use Rattle.body.specs.Expr.{Exprs, Scope as Reading}
-use Rattle.body.specs.Stmt.{Tree, Stmt, before, blockAt, stmtIn}
+use Rattle.image_body.specs.Expr.{Exprs, Scope as Reading}
+use Rattle.image_body.specs.Stmt.{Tree, Stmt, before, blockAt, stmtIn}
 use Rattle.rules.specs.State.{State as Status}
 use Rattle.rules.specs.Stack.{Stack as Scope}
 use Rattle.rules.specs.Walk.{tooMany, walkFault}
 use Rattle.rules.specs.Verdict.{entriesOf}
-use Rattle.writing.specs.Stored.{Stored}
-use Rattle.returns.specs.Front.{frontAt}
-use Rattle.statements.specs.declared.Place.{Place}
-use Rattle.statements.specs.declared.Act.{Act}
-use Rattle.statements.specs.Act.{changeIn, takenIn, Acts, ActsThere}
-use Rattle.steps.specs.Statement.{valuesOf, frontSize, settle}
-use Rattle.steps.specs.Own.{numberOf, valued, ownFault, ownAfter, restOf, blocksFault}
-use Rattle.steps.proofs.Plain.{blockless-fault}
-use Rattle.writing.specs.Memory.{Memory, memory}
-use Rattle.fronts.specs.Walks.{Walked, StmtDone, StmtWalks, StmtsWalk, BlocksWalk, TagWalks, LeadsAll, blocked}
-use Rattle.fronts.proofs.Fronts.{plain-done, blocks-done}
-use Rattle.fronts.proofs.Leads.{next-of, leads-next, leads-fault}
-use Rattle.fronts.proofs.Turns.{else-number, all-fault, all-loud}
-use Rattle.fronts.proofs.Values.{ValuesAt, values-in, values-of}
-use Rattle.fronts.proofs.Acted.{tag-walks, no-blocks}
+use Rattle.image_writing.specs.Stored.{Stored}
+use Rattle.statements_returns.specs.Front.{frontAt}
+use Rattle.statements_acts.specs.declared.Place.{Place}
+use Rattle.statements_acts.specs.declared.Act.{Act}
+use Rattle.statements_acts.specs.Act.{changeIn, takenIn, Acts, ActsThere}
+use Rattle.statements_steps.specs.Statement.{valuesOf, frontSize, settle}
+use Rattle.statements_steps.specs.Own.{numberOf, valued, ownFault, ownAfter, restOf, blocksFault}
+use Rattle.statements_steps.proofs.Plain.{blockless-fault}
+use Rattle.image_writing.specs.Memory.{Memory, memory}
+use Rattle.blocks_laws.specs.Walks.{Walked, StmtDone, StmtWalks, StmtsWalk, BlocksWalk, TagWalks, LeadsAll, blocked}
+use Rattle.blocks_laws.proofs.Fronts.{plain-done, blocks-done}
+use Rattle.blocks_laws.proofs.Leads.{next-of, leads-next, leads-fault}
+use Rattle.blocks_laws.proofs.Turns.{else-number, all-fault, all-loud}
+use Rattle.blocks_laws.proofs.Values.{ValuesAt, values-in, values-of}
+use Rattle.blocks_laws.proofs.Tags.{tag-walks, no-blocks}
 use Rattle.expressions_scan.specs.Changes.{afterAll, toldAll}
 use Rattle.expressions_scan.proofs.Entries.{stored-eq}
 use Rattle.expressions_scan.proofs.Values.{Valued, valued as through}
@@ -40,16 +40,15 @@ use Rattle.rules.specs.Rules.{states, register}
 use Rattle.rules.specs.Stack.{mark}
 use Rattle.rules.specs.State.{deleted, alive}
 use Rattle.rules.proofs.Shapes.{shape-mark}
-use Rattle.steps.proofs.Plain.{few-locals, length-shape}
-use Rattle.fronts.proofs.Changes.{length-taken}
-use Rattle.statements.specs.declared.Change.{Change}
-use Rattle.statements.specs.declared.Change.the-variants as change
-use Rattle.statements.specs.declared.Named.{Named}
-use Rattle.statements.specs.declared.Named.the-variants.{Nobody}
+use Rattle.statements_steps.proofs.Plain.{few-locals, length-shape}
+use Rattle.statements_acts.specs.declared.Change.{Change}
+use Rattle.statements_acts.specs.declared.Change.the-variants as change
+use Rattle.statements_acts.specs.declared.Named.{Named}
+use Rattle.statements_acts.specs.declared.Named.the-variants.{Nobody, Called}
 use mathlib.Core.Bool.{cond}
 use mathlib.Core.Option.{some}
 use lib.Dec.{ltb}
-use Rattle.fields.proofs.Tests.{false-true}
+use Rattle.image_fields.proofs.Tests.{false-true}
 use Rattle.statements_changes.specs.declared.Came.{Came}
 use Rattle.statements_changes.specs.declared.Turn.the-variants.{Blocks}
 use Rattle.statements_changes.specs.Turns.{retold, betweenOf, turnOf, cameOf, Midst, Stood, Faulty, After}
@@ -57,6 +56,10 @@ use Rattle.statements_changes.specs.Turns.{retold, betweenOf, turnOf, ca
 -- marks keep how many locals there are
 length-marked : (n : ℕ) (f : Status → Status) (σ : Scope Status) → length (mark n f σ) ≡ length σ
 length-marked n f σ = sym (length-shape (mark n f σ)) ∙ ap length (shape-mark n f σ) ∙ length-shape σ
+
+length-taken : (n : Named) (σ : Scope Status) → length (takenIn n σ) ≡ length σ
+length-taken Nobody σ = refl
+length-taken (Called n p) σ = length-marked n (states .killed deleted p) σ
 
 same-many : (σ τ : Scope Status) → length σ ≡ length τ → tooMany version1 σ ≡ tooMany version1 τ
 same-many σ τ e = ap (λ (k : ℕ). cond (ltb (version1 .locals) k) (some 12) none) e

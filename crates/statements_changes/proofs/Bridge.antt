@@ -9,12 +9,12 @@ use borrow.Author.Tests.{lt-ltb, le-ltb}
 use native.Mathlib.Omega.{arith}
 use lib.Dec.{ltb, eqb}
 use lib.ListN.{length, getD}
-use Rattle.fields.proofs.Tests.{less}
+use Rattle.image_fields.proofs.Tests.{less}
 use Rattle.tables.specs.Tables.{Tables}
 use Rattle.rules.specs.Questions.{auto}
 use Rattle.rules.specs.State.{State as Status, isAlive}
 use Rattle.rules.specs.Stack.{Stack as Scope}
-use Rattle.state.specs.Kinds.{said}
+use Rattle.scope_state.specs.Kinds.{said}
 use Rattle.expressions_scan.specs.States.{lowOf, statusOf, stateAt, Kept, AllKept}
 use Rattle.scope_stack.specs.declared.Locals.{Locals}
 use Rattle.scope_stack.specs.declared.States.{States}

@@ -1,4 +1,4 @@
--- What is to be done behind a statement, as the code says it; and a stack that lent arrays hold.
+-- What is to be done behind a statement, as the code says it; a stack that lent arrays hold; positions and tables lent.
 -- Assumes nothing.
 use Prim.Native.Nat.{ℕ, zero, suc, _≤_}
 use native.Mathlib.Omega.{arith}
@@ -6,13 +6,16 @@ use mathlib.Core.Path.{_≡_, refl, sym, ap, _∙_, subst}
 use mathlib.Core.Bool.{Bool, true, false, cond}
 use mathlib.Core.List.{List, [], _∷_}
 use lib.ListN.{length, getD}
+use Rattle.tables.specs.Tables.{Tables}
 use Rattle.rules.specs.State.{State as Status}
 use Rattle.rules.specs.Stack.{local, Stack as Scope}
-use Rattle.statements.specs.declared.Named.{Named}
-use Rattle.statements.specs.declared.Named.the-variants.{Nobody}
-use Rattle.statements.specs.declared.Change.{Change}
-use Rattle.statements.specs.declared.Place.{Place}
-use Rattle.fronts.specs.Walks.{blocked}
+use Rattle.expressions_effects.specs.Asked.{Lent, Says}
+use Rattle.statements_acts.specs.Act.{Positions, Tabled}
+use Rattle.statements_acts.specs.declared.Named.{Named}
+use Rattle.statements_acts.specs.declared.Named.the-variants.{Nobody}
+use Rattle.statements_acts.specs.declared.Change.{Change}
+use Rattle.statements_acts.specs.declared.Place.{Place}
+use Rattle.blocks_laws.specs.Walks.{blocked}
 use Rattle.expressions_scan.specs.States.{Holds}
 use Rattle.statements_acts.specs.Marks.{HoldsAll}
 use Rattle.statements_changes.specs.declared.Turn.{Turn}
@@ -45,3 +48,10 @@ module _ (names types depths : List ℕ) (at : ℕ → Status) where
   held-length zero (l ∷ σ) h = absurd h
   held-length (suc n) [] h = absurd h
   held-length (suc n) (local s a ∷ σ) h = ap suc (held-length n σ (h .4))
+
+-- what statements are told of the positions and tables lent
+pub positions-of : {s ns ts xs : List ℕ} {count first : ℕ} → Lent s ns ts xs count first → Positions s ns ts xs
+positions-of g = record { names = g .names; types = g .types; structs = g .structs; lower = g .lower }
+
+pub tabled-of : {s ns ts xs : List ℕ} {count first : ℕ} {T : Tables} → Says s ns ts xs count first T → Tabled s ns ts xs T
+tabled-of g = record { names = g .names; types = g .types; structs = g .structs }

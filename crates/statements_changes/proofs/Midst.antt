@@ -5,18 +5,18 @@ use native.Mathlib.Omega.{arith}
 use mathlib.Core.Path.{_≡_, refl, sym, ap, _∙_, subst}
 use mathlib.Core.Bool.{Bool, true, false}
 use mathlib.Core.List.{List}
-use Rattle.fields.proofs.Tests.{false-true}
+use Rattle.image_fields.proofs.Tests.{false-true}
 use Rattle.tables.specs.Tables.{Tables}
 use Rattle.rules.specs.State.{State as Status}
 use Rattle.rules.specs.Stack.{Stack as Scope}
-use Rattle.scan.specs.Scan.{rootOf, topOf}
-use Rattle.returns.specs.Front.{frontAt}
-use Rattle.statements.specs.declared.Named.{Named}
-use Rattle.statements.specs.declared.Named.the-variants.{Nobody, Called}
-use Rattle.statements.specs.declared.Place.{Place}
-use Rattle.statements.specs.Act.{takenIn}
-use Rattle.writing.specs.Memory.{Memory, memory}
-use Rattle.fronts.specs.Walks.{LeadsAll}
+use Rattle.expressions_steps.specs.Scan.{rootOf, topOf}
+use Rattle.statements_returns.specs.Front.{frontAt}
+use Rattle.statements_acts.specs.declared.Named.{Named}
+use Rattle.statements_acts.specs.declared.Named.the-variants.{Nobody, Called}
+use Rattle.statements_acts.specs.declared.Place.{Place}
+use Rattle.statements_acts.specs.Act.{takenIn}
+use Rattle.image_writing.specs.Memory.{Memory, memory}
+use Rattle.blocks_laws.specs.Walks.{LeadsAll}
 use Rattle.expressions_scan.specs.Resumed.{opens, Onward}
 use Rattle.expressions_scan.proofs.Onward.{onward-none, onward-both}
 use Rattle.statements_changes.specs.declared.Cursor.{Cursor}

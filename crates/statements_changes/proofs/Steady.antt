@@ -6,34 +6,34 @@ use mathlib.Core.Path.{_≡_, refl, sym, ap, _∙_, subst}
 use mathlib.Core.Bool.{Bool, true, false, cond}
 use mathlib.Core.List.{List, []}
 use lib.ListN.{length, getD}
-use Rattle.fields.proofs.Tests.{false-true}
-use Rattle.fields.specs.Parsed.{ok}
-use Rattle.fields.specs.Bytes.{Bytes}
+use Rattle.image_fields.proofs.Tests.{false-true}
+use Rattle.image_fields.specs.Parsed.{ok}
+use Rattle.image_fields.specs.Bytes.{Bytes}
 use Rattle.tables.specs.Tables.{Tables}
-use Rattle.body.specs.Stmt.{Tree, Stmt, done, before, blockAt, stmtIn, stmtsAt}
-use Rattle.body.proofs.Statements.{stmts-more}
-use Rattle.effects.proofs.Asked.{tablesOf}
+use Rattle.image_body.specs.Stmt.{Tree, Stmt, done, before, blockAt, stmtIn, stmtsAt}
+use Rattle.image_body.proofs.Statements.{stmts-more}
+use Rattle.expressions_effects.proofs.Asked.{tablesOf}
 use Rattle.rules.specs.State.{State as Status}
 use Rattle.rules.specs.Stack.{Stack as Scope}
-use Rattle.scan.specs.Scan.{fuel}
-use Rattle.scan.proofs.Start.{finished}
-use Rattle.returns.specs.Front.{frontAt}
-use Rattle.returns.specs.Returns.{StmtThere}
-use Rattle.returns.proofs.Surely.{stmt-there}
-use Rattle.steps.specs.Statement.{frontSize}
-use Rattle.steps.proofs.Before.{stmt-end}
-use Rattle.steps.proofs.Plain.{blockless-size}
-use Rattle.statements.specs.declared.Named.{Named}
-use Rattle.statements.specs.declared.Named.the-variants.{Nobody}
-use Rattle.statements.specs.declared.Change.{Change}
-use Rattle.statements.specs.declared.Change.the-variants as change
-use Rattle.statements.specs.declared.Place.{Place}
-use Rattle.statements.specs.declared.Act.{Act}
-use Rattle.statements.specs.Act.{FrontThere, Within, Grows, ActsThere}
-use Rattle.fronts.specs.Walks.{StmtsThere, TagThere, blocked}
-use Rattle.fronts.proofs.Wrotes.{within-on}
-use Rattle.fronts.proofs.Values.{ValuesAt, values-in, front-end}
-use Rattle.fronts.proofs.Acted.{tag-there, no-blocks}
+use Rattle.expressions_steps.specs.Scan.{fuel}
+use Rattle.expressions_steps.proofs.Start.{finished}
+use Rattle.statements_returns.specs.Front.{frontAt}
+use Rattle.statements_returns.specs.Returns.{StmtThere}
+use Rattle.statements_returns.proofs.Surely.{stmt-there}
+use Rattle.statements_steps.specs.Statement.{frontSize}
+use Rattle.statements_steps.proofs.Before.{stmt-end}
+use Rattle.statements_steps.proofs.Plain.{blockless-size}
+use Rattle.statements_acts.specs.declared.Named.{Named}
+use Rattle.statements_acts.specs.declared.Named.the-variants.{Nobody}
+use Rattle.statements_acts.specs.declared.Change.{Change}
+use Rattle.statements_acts.specs.declared.Change.the-variants as change
+use Rattle.statements_acts.specs.declared.Place.{Place}
+use Rattle.statements_acts.specs.declared.Act.{Act}
+use Rattle.statements_acts.specs.Act.{FrontThere, Within, Grows, ActsThere}
+use Rattle.blocks_laws.specs.Walks.{StmtsThere, TagThere, blocked}
+use Rattle.blocks_laws.proofs.Wrotes.{within-on}
+use Rattle.blocks_laws.proofs.Values.{ValuesAt, values-in, front-end}
+use Rattle.blocks_laws.proofs.Tags.{tag-there, no-blocks}
 use Rattle.expressions_scan.specs.Resumed.{opens}
 use Rattle.statements_acts.specs.Marks.{EndsThere}
 use Rattle.statements_changes.specs.declared.Turn.the-variants.{Blocks}
@@ -100,6 +100,18 @@ module _ (s : List ℕ) (left : ℕ) (c : Cursor) (st : SomeSteady s left c) (on
     within-there : Within s (a .place)
     within-there = within-on (st .steady .inside) grows
 
+    -- the errors apart
+    grows-behind : Grows s (retold (c .place) 0) (retold (a .place) 0)
+    grows-behind = record {
+      on = grows .on;
+      inside = grows .inside;
+      written = grows .written;
+      errors = omega (arith, grows .on);
+      warnings = grows .warnings;
+      lefts = grows .lefts;
+      inserted = grows .inserted;
+    }
+
     few-errors : c .place .errors ≤ 300 * a .place .at
     few-errors =
         let v = vals in
@@ -137,16 +149,18 @@ module _ (s : List ℕ) (left : ℕ) (c : Cursor) (st : SomeSteady s left c) (on
     fit-by : (b : Bool) (ch : Change) → blocked (getD s (c .place .at) 0) ≡ b → (r : Came)
         → r ≡ cond b (record { cursor = betweenOf (c .left - 1) behind Nobody; turn = Blocks (getD s (c .place .at) 0) }) (record { cursor = betweenOf (c .left - 1) behind (a .taken); turn = turnOf ch })
         → ((ns : List ℕ) → Fit s left ns (r .cursor) (r .turn)) × (r .cursor .left + 1 ≡ c .left) × (r .cursor .begun ≡ false)
+        × Grows s (retold (c .place) 0) (retold (r .cursor .place) 0)
     fit-by true ch eb r er =
         let l = go-on .some in
-        rw er (λ ns. (tag-there s small (read-there .t) (read-there .deep) left (c .place .at) (here .x) (here .next) (here .read) behind walked eb, as-within (c .place .errors) few-errors), omega arith, refl)
-    fit-by false change.Nothing eb r er = let l = go-on .some in rw er (λ ns. steady-plain eb (a .taken) ns, omega arith, refl)
-    fit-by false (change.Delete n p) eb r er = let l = go-on .some in rw er (λ ns. (steady-plain eb (a .taken) ns, omega arith), omega arith, refl)
-    fit-by false (change.Register n t) eb r er = let l = go-on .some in rw er (λ ns. steady-plain eb (a .taken) ns, omega arith, refl)
-    fit-by false (change.Revive n) eb r er = let l = go-on .some in rw er (λ ns. (steady-plain eb (a .taken) ns, omega arith), omega arith, refl)
+        rw er (λ ns. (tag-there s small (read-there .t) (read-there .deep) left (c .place .at) (here .x) (here .next) (here .read) behind walked eb, as-within (c .place .errors) few-errors, eb, refl), omega arith, refl, grows-behind)
+    fit-by false change.Nothing eb r er = let l = go-on .some in rw er (λ ns. steady-plain eb (a .taken) ns, omega arith, refl, grows-behind)
+    fit-by false (change.Delete n p) eb r er = let l = go-on .some in rw er (λ ns. (steady-plain eb (a .taken) ns, omega arith), omega arith, refl, grows-behind)
+    fit-by false (change.Register n t) eb r er = let l = go-on .some in rw er (λ ns. steady-plain eb (a .taken) ns, omega arith, refl, grows-behind)
+    fit-by false (change.Revive n) eb r er = let l = go-on .some in rw er (λ ns. (steady-plain eb (a .taken) ns, omega arith), omega arith, refl, grows-behind)
 
     pub fit-came : (r : Came) → r ≡ cameOf (getD s (c .place .at) 0) (c .left - 1) behind (a .change) (a .taken)
         → ((ns : List ℕ) → Fit s left ns (r .cursor) (r .turn)) × (r .cursor .left + 1 ≡ c .left) × (r .cursor .begun ≡ false)
+        × Grows s (retold (c .place) 0) (retold (r .cursor .place) 0)
     fit-came r er = fit-by (blocked (getD s (c .place .at) 0)) (a .change) refl r er
 
 -- the place that the code made
@@ -162,6 +176,9 @@ acts-told {T} {s} {σ} {p} {q} {out} {warns} {lefts} {out₁} {warns₁} {lefts�
 
 pub grows-told : {s : List ℕ} {p q z : Place} → q ≡ p → Grows s q z → Grows s p z
 grows-told {s} {p} {q} {z} e h = subst (λ (x : Place). Grows s x z) e h
+
+pub grows-as : {s : List ℕ} {p q z : Place} → Grows s p q → z ≡ q → Grows s p z
+grows-as {s} {p} {q} {z} h e = subst (Grows s p) (sym e) h
 
 pub came-told : (tag left : ℕ) {z y : Place} (ch : Change) (taken : Named) {r : Came} → r ≡ cameOf tag left z ch taken → z ≡ y → r ≡ cameOf tag left y ch taken
 came-told tag left ch taken e f = e ∙ ap (λ (x : Place). cameOf tag left x ch taken) f

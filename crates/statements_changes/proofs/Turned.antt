@@ -6,22 +6,23 @@ use mathlib.Core.Path.{_≡_, refl, sym, ap, _∙_, subst}
 use mathlib.Core.Bool.{Bool, true, false}
 use mathlib.Core.List.{List, [], _∷_}
 use lib.ListN.{length, getD}
-use Rattle.fields.proofs.Tests.{false-true}
+use Rattle.image_fields.proofs.Tests.{false-true}
 use Rattle.tables.specs.Tables.{Tables}
 use Rattle.rules.specs.State.{State as Status}
 use Rattle.rules.specs.Stack.{Stack as Scope}
-use Rattle.scan.specs.Scan.{rootOf, topOf, fuel}
-use Rattle.scan.specs.declared.Open.{Open}
-use Rattle.scan.proofs.Start.{root, starts, ready-start}
-use Rattle.returns.specs.declared.Front.{Front}
-use Rattle.returns.specs.Front.{frontAt}
-use Rattle.statements.specs.declared.Named.{Named}
-use Rattle.statements.specs.declared.Named.the-variants.{Nobody, Called}
-use Rattle.statements.specs.declared.Place.{Place}
-use Rattle.statements.specs.Act.{takenIn, Within}
-use Rattle.writing.specs.Memory.{Memory, memory}
-use Rattle.fronts.specs.Walks.{LeadsAll}
-use Rattle.fronts.proofs.Values.{front-walkable, front-inside}
+use Rattle.expressions_steps.specs.Scan.{rootOf, topOf, fuel}
+use Rattle.expressions_steps.specs.declared.Open.{Open}
+use Rattle.expressions_steps.proofs.Start.{root, starts, ready-start}
+use Rattle.statements_returns.specs.declared.Front.{Front}
+use Rattle.statements_returns.specs.Front.{frontAt}
+use Rattle.statements_acts.specs.declared.Named.{Named}
+use Rattle.statements_acts.specs.declared.Named.the-variants.{Nobody, Called}
+use Rattle.statements_acts.specs.declared.Place.{Place}
+use Rattle.statements_acts.specs.Act.{takenIn, Within, Grows}
+use Rattle.image_writing.specs.Memory.{Memory, memory}
+use Rattle.blocks_laws.specs.Walks.{LeadsAll}
+use Rattle.blocks_laws.proofs.Values.{front-walkable, front-inside}
+use Rattle.blocks_laws.proofs.Wrotes.{grows-none}
 use Rattle.expressions_scan.specs.declared.Scanned.{Scanned}
 use Rattle.expressions_scan.specs.declared.Change.{Change}
 use Rattle.expressions_scan.specs.declared.Change.the-variants as change
@@ -32,7 +33,7 @@ use Rattle.statements_changes.specs.declared.Turn.{Turn}
 use Rattle.statements_changes.specs.declared.Turn.the-variants.{Nothing, Over, Mark}
 use Rattle.statements_changes.specs.declared.Cursor.{Cursor}
 use Rattle.statements_changes.specs.declared.Came.{Came}
-use Rattle.effects.specs.Asked.{Says}
+use Rattle.expressions_effects.specs.Asked.{Says}
 use Rattle.statements_changes.specs.Turns.{Lends, retold, betweenOf, withinOf, Begun, Stood, After, Steady, SomeSteady, Fit, owes, ahead}
 use Rattle.statements_changes.proofs.Midst.{stood-begin, stood-on}
 use Rattle.statements_changes.proofs.Steady.{next-there}
@@ -42,7 +43,7 @@ abbrev pub Began : List ℕ → ℕ → List ℕ → Cursor → List ℕ → Cur
 Began s left ns c ns′ r =
     ((T : Tables) (all : ℕ) (σ₀ : Scope Status) (p₀ : Place) (m₀ : Memory) (σ : Scope Status) (out errs warns lefts : List ℕ)
     → Stood T s left (12 - left) all σ₀ p₀ m₀ ns c σ (memory out errs warns lefts) → Stood T s left (12 - left) all σ₀ p₀ m₀ ns′ r σ (memory out errs warns lefts))
-    × Steady s left ns′ r × (r .begun ≡ true) × (r .left ≡ c .left) × (length ns′ ≡ 26) × (ahead s r ≤ ahead s c)
+    × Steady s left ns′ r × (r .begun ≡ true) × (r .left ≡ c .left) × (length ns′ ≡ 26) × (ahead s r ≤ ahead s c) × (r .place ≡ c .place)
 
 module _ (s : List ℕ) (left : ℕ) (ns : List ℕ) (c : Cursor) (st : Steady s left ns c) where
   module _ (free : c .taken ≡ Nobody) (some : 0 < c .left) (off : c .begun ≡ false) (ns′ : List ℕ) where
@@ -69,6 +70,7 @@ module _ (s : List ℕ) (left : ℕ) (ns : List ℕ) (c : Cursor) (st : Steady s
           refl,
           sym (length-opens ns′) ∙ room,
           let l = st .inside .small in rw (off, free) (omega arith),
+          refl,
         )
 
     pub began : (f : Front) → f ≡ frontAt s (c .place .at) → (topOf (opens ns′) 1 ≡ rootOf (f .values)) × (length (opens ns′) ≡ 26) → (r : Cursor) → r ≡ withinOf (c .left) 1 (f .first) (c .place)
@@ -139,6 +141,12 @@ module _ (s : List ℕ) (left : ℕ) (ns : List ℕ) (c : Cursor) (st : Steady s
       subst (λ (k : ℕ). LeadsAll T s left (12 - left) all σ₀ p₀ m₀ k σ (c .place) m) e
       (subst (λ (x : Named). LeadsAll T s left (12 - left) all σ₀ p₀ m₀ (c .left) (takenIn x σ) (c .place) m) free (g .between (none-between e)))
 
+  -- its errors are within bounds there
+  pub over-fit : c .left ≡ 0 → Fit s left ns c Over
+  over-fit e =
+      let w = st .inside in
+      (e, record { small = w .small; inside = w .inside; written = w .written; errors = st .between (none-between e); warnings = w .warnings; lefts = w .lefts; inserted = w .inserted })
+
 -- a mark is handed on
 pub mark-fit : (s : List ℕ) (left : ℕ) (ns : List ℕ) (w y : Cursor) → w ≡ y → Steady s left ns y → (ch : Change) → Marks ch → (n k p : ℕ) (o : Bool) → ch ≡ change.Mark n k p o
     → Fit s left ns w (Mark n k p o)
@@ -174,12 +182,13 @@ module _ (s names types structs : List ℕ) (globals first left : ℕ) (ln lt ld
     pub steady : Steady s left ns c
     pub room : length ns ≡ 26
     pub less : ahead s c ≤ ahead s c₀
+    pub grown : Grows s (retold (c₀ .place) 0) (retold (c .place) 0)
     pub lent : (length out ≡ length out₀) × (length errs ≡ length errs₀) × (length warns ≡ length warns₀) × (length lefts ≡ length lefts₀)
     pub stood : (T : Tables) → Says s names types structs globals first T → (σ : Scope Status) → Lends T mark ln lt ld at n σ → (all : ℕ) (σ₀ : Scope Status) (p₀ : Place) (m₀ : Memory)
         → Stood T s left (12 - left) all σ₀ p₀ m₀ ns₀ c₀ σ (memory out₀ errs₀ warns₀ lefts₀) → Stood T s left (12 - left) all σ₀ p₀ m₀ ns c σ (memory out errs warns lefts)
 
   pub turning-start : Steady s left ns₀ c₀ → length ns₀ ≡ 26 → Turning ns₀ c₀ out₀ errs₀ warns₀ lefts₀
-  turning-start st room = record { steady = st; room = room; less = omega arith; lent = (refl, refl, refl, refl); stood = λ T sy σ h all σ₀ p₀ m₀ g. g }
+  turning-start st room = record { steady = st; room = room; less = omega arith; grown = grows-none (st .inside .inside); lent = (refl, refl, refl, refl); stood = λ T sy σ h all σ₀ p₀ m₀ g. g }
 
 -- nothing was to be done
 pub nothing-stood : (T : Tables) (s : List ℕ) (left d all : ℕ) (σ₀ : Scope Status) (p₀ : Place) (m₀ : Memory) (ns : List ℕ) (c : Cursor) (σ : Scope Status) (m : Memory) (t : Turn) → t ≡ Nothing

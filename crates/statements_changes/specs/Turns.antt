@@ -5,28 +5,28 @@ use mathlib.Core.Bool.{Bool, true, false, cond}
 use mathlib.Core.List.{List, [], _∷_}
 use mathlib.Core.Option.{none}
 use lib.ListN.{getD}
-use Rattle.fields.specs.Parsed.{ok}
+use Rattle.image_fields.specs.Parsed.{ok}
 use Rattle.tables.specs.Limits.{version1}
 use Rattle.tables.specs.Tables.{Tables}
-use Rattle.body.specs.Expr.{Scope as Reading, Exprs}
-use Rattle.body.specs.Stmt.{Tree, stmtsAt}
+use Rattle.image_body.specs.Expr.{Scope as Reading, Exprs}
+use Rattle.image_body.specs.Stmt.{Tree, stmtsAt}
 use Rattle.rules.specs.State.{State as Status}
 use Rattle.rules.specs.Stack.{local, mark, Stack as Scope}
 use Rattle.rules.specs.Rules.{states, register}
 use Rattle.rules.specs.Walk.{tooMany, walkFault}
-use Rattle.scan.specs.Scan.{Stage, Stacked, Ready, fuel, rootOf, topOf}
-use Rattle.scan.specs.declared.Open.{Open}
-use Rattle.state.specs.Kinds.{said, put}
-use Rattle.returns.specs.Front.{frontAt}
-use Rattle.steps.specs.Own.{numberOf}
-use Rattle.statements.specs.declared.Named.{Named}
-use Rattle.statements.specs.declared.Named.the-variants.{Nobody, Called}
-use Rattle.statements.specs.declared.Change.{Change}
-use Rattle.statements.specs.declared.Change.the-variants as change
-use Rattle.statements.specs.declared.Place.{Place}
-use Rattle.statements.specs.Act.{takenIn, Within}
-use Rattle.writing.specs.Memory.{Memory, memory}
-use Rattle.fronts.specs.Walks.{Walked, LeadsAll, StmtsWalk, StmtsThere, TagThere, TagWalks, blocked}
+use Rattle.expressions_steps.specs.Scan.{Stage, Stacked, Ready, fuel, rootOf, topOf}
+use Rattle.expressions_steps.specs.declared.Open.{Open}
+use Rattle.scope_state.specs.Kinds.{said, put}
+use Rattle.statements_returns.specs.Front.{frontAt}
+use Rattle.statements_steps.specs.Own.{numberOf}
+use Rattle.statements_acts.specs.declared.Named.{Named}
+use Rattle.statements_acts.specs.declared.Named.the-variants.{Nobody, Called}
+use Rattle.statements_acts.specs.declared.Change.{Change}
+use Rattle.statements_acts.specs.declared.Change.the-variants as change
+use Rattle.statements_acts.specs.declared.Place.{Place}
+use Rattle.statements_acts.specs.Act.{takenIn, Within}
+use Rattle.image_writing.specs.Memory.{Memory, memory}
+use Rattle.blocks_laws.specs.Walks.{Walked, LeadsAll, StmtsWalk, StmtsThere, TagThere, TagWalks, blocked}
 use Rattle.expressions_scan.specs.Changes.{Standing}
 use Rattle.expressions_scan.specs.Resumed.{opens, Onward}
 use Rattle.statements_acts.specs.Marks.{HoldsAll, Marked}
@@ -118,10 +118,10 @@ pub record SomeSteady (s : List ℕ) (left : ℕ) (c : Cursor) : Type 0 where
 -- what the code that goes on is given
 abbrev pub Fit : List ℕ → ℕ → List ℕ → Cursor → Turn → Type 0
 Fit s left ns c Nothing = Steady s left ns c
-Fit s left ns c Over = c .left ≡ 0
+Fit s left ns c Over = (c .left ≡ 0) × Within s (c .place)
 Fit s left ns c (Mark n k p o) = Steady s left ns c × (k < 7)
 Fit s left ns c (Register n t) = Steady s left ns c
-Fit s left ns c (Blocks tag) = TagThere s left (c .place .at) tag × Within s (c .place)
+Fit s left ns c (Blocks tag) = TagThere s left (c .place .at) tag × Within s (c .place) × (blocked tag ≡ true) × (c .begun ≡ false)
 
 -- what is still ahead of a cursor: it falls with each turn
 abbrev pub owes : Named → ℕ

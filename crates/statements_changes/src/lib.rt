@@ -7,24 +7,24 @@ ghost use mathlib.Core.List.{List};
 ghost use Prim.Native.Nat.{ℕ, _+_, _-_, _*_, _≤_, _<_};
 ghost use lib.ListN.{length, getD};
 ghost use Rattle.tables.specs.Tables.{Tables};
-ghost use Rattle.effects.specs.Asked.{Lent, Says};
+ghost use Rattle.expressions_effects.specs.Asked.{Lent, Says};
 ghost use Rattle.rules.specs.State.{State as Status};
 ghost use Rattle.rules.specs.Stack.{Stack as Scope};
-ghost use Rattle.scan.specs.Scan.{topOf, rootOf};
-ghost use Rattle.returns.specs.Front.{frontAt};
-ghost use Rattle.statements.specs.Act.{Positions, Tabled};
-ghost use Rattle.writing.specs.Memory.{Memory, memory};
-ghost use Rattle.fronts.specs.Walks.{blocked};
+ghost use Rattle.expressions_steps.specs.Scan.{topOf, rootOf};
+ghost use Rattle.statements_returns.specs.Front.{frontAt};
+ghost use Rattle.statements_acts.specs.Act.{Grows, Positions, Tabled};
+ghost use Rattle.image_writing.specs.Memory.{Memory, memory};
+ghost use Rattle.blocks_laws.specs.Walks.{blocked};
 ghost use Rattle.expressions_scan.specs.States.{stateAt, AllKept, Holds};
 ghost use Rattle.expressions_scan.specs.Resumed.{opens};
-ghost use Rattle.statements.specs.declared.Named.the-variants.{Nobody};
+ghost use Rattle.statements_acts.specs.declared.Named.the-variants.{Nobody};
 ghost use Rattle.statements_changes.specs.declared.Turn.the-variants.{Nothing, Over, Mark};
 ghost use Rattle.statements_changes.specs.Turns.{Lends, retold, betweenOf, withinOf, cameOf, Stood, After, Steady, SomeSteady, Fit, ahead};
 use expressions_scan::Env;
-use statements::Act;
-use statements::Change;
-use statements::Named;
-use statements::Place;
+use statements_acts::Act;
+use statements_acts::Change;
+use statements_acts::Named;
+use statements_acts::Place;
 
 // What the stack must do: nothing, the statements are over, a mark (name, kind, place, whether only what is Alive), a registration
 // (name, type), the blocks of a statement of a tag.
@@ -52,7 +52,7 @@ pub struct Came {
     pub turn: Turn,
 }
 
-fn between(left: usize, place: Place, taken: Named) -> Cursor
+pub fn between(left: usize, place: Place, taken: Named) -> Cursor
     ensures { λ r. ⌜ r ≡ betweenOf left place taken ⌝ }
 {
     let at = place.at;
@@ -161,7 +161,8 @@ fn acted<'a>(
         → (all : ℕ) (σ₀ : Scope Status) (p₀ : Place) (m₀ : Memory) (nodes errs : List ℕ)
         → Stood T (now (s .entry)) (env .left) (12 - env .left) all σ₀ p₀ m₀ nodes c σ (memory (now (out .entry)) errs (now (warns .entry)) (now (lefts .entry)))
         → After T (now (s .entry)) (env .left) (12 - env .left) all σ₀ p₀ m₀ nodes (r .cursor) σ (memory (now (out .exit)) errs (now (warns .exit)) (now (lefts .exit))) (r .turn)) ⌝ }
-    ensures { λ r. ⌜ ((nodes : List ℕ) → Fit (now (s .entry)) (env .left) nodes (r .cursor) (r .turn)) × (r .cursor .left + 1 ≡ c .left) × (r .cursor .begun ≡ false) ⌝ }
+    ensures { λ r. ⌜ ((nodes : List ℕ) → Fit (now (s .entry)) (env .left) nodes (r .cursor) (r .turn)) × (r .cursor .left + 1 ≡ c .left) × (r .cursor .begun ≡ false)
+        × Grows (now (s .entry)) (retold (c .place) 0) (retold (r .cursor .place) 0) ⌝ }
 {
     let p = c.place;
     let at = p.at;
@@ -196,6 +197,7 @@ fn due(c: Cursor) -> Came
         × (r .turn ≡ Nothing → (c .taken ≡ Nobody) × (0 < c .left)) × ((r .turn ≡ Nothing → ⊥) → (r .turn ≡ Over → ⊥) → ahead s (r .cursor) < ahead s c)
         × ((T : Tables) (all : ℕ) (σ₀ : Scope Status) (p₀ : Place) (m₀ : Memory) (σ : Scope Status) (m : Memory)
         → Stood T s left (12 - left) all σ₀ p₀ m₀ nodes c σ m → After T s left (12 - left) all σ₀ p₀ m₀ nodes (r .cursor) σ m (r .turn))) ⌝ }
+    ensures { λ r. ⌜ r .cursor .place ≡ c .place ⌝ }
 {
     let taken = c.taken;
     if let Named::Called(name, span) = taken {
@@ -220,13 +222,13 @@ fn begun(s: &[u8], left: usize, nodes: &mut [u64; 26], c: Cursor) -> Cursor
         → Stood T (now (s .entry)) left (12 - left) all σ₀ p₀ m₀ (now (nodes .entry)) c σ (memory out errs warns lefts)
         → Stood T (now (s .entry)) left (12 - left) all σ₀ p₀ m₀ (now (nodes .exit)) r σ (memory out errs warns lefts))
         × Steady (now (s .entry)) left (now (nodes .exit)) r × (r .begun ≡ true) × (r .left ≡ c .left) × (length (now (nodes .exit)) ≡ 26)
-        × (ahead (now (s .entry)) r ≤ ahead (now (s .entry)) c) ⌝ }
+        × (ahead (now (s .entry)) r ≤ ahead (now (s .entry)) c) × (r .place ≡ c .place) ⌝ }
 {
     if c.begun {
         return c;
     }
     let p = c.place;
-    let f = returns::front_at(s, p.at);
+    let f = statements_returns::front_at(s, p.at);
     expressions_scan::start(nodes, f.values);
     within(c.left, 1, f.first, p)
 }
@@ -255,7 +257,8 @@ fn scanned<'a>(
         → After T (now (s .entry)) (env .left) (12 - env .left) all σ₀ p₀ m₀ (now (nodes .exit)) (r .cursor) σ (memory out (now (errs .exit)) warns lefts) (r .turn)) ⌝ }
     ensures { λ r. ⌜ Fit (now (s .entry)) (env .left) (now (nodes .exit)) (r .cursor) (r .turn) × (length (now (nodes .exit)) ≡ 26)
         × (r .turn ≡ Nothing → (r .cursor .begun ≡ true) × (r .cursor .nodes ≡ 0) × (r .cursor .left ≡ c .left))
-        × ((r .turn ≡ Nothing → ⊥) → ahead (now (s .entry)) (r .cursor) < ahead (now (s .entry)) c) ⌝ }
+        × ((r .turn ≡ Nothing → ⊥) → ahead (now (s .entry)) (r .cursor) < ahead (now (s .entry)) c)
+        × (retold (r .cursor .place) 0 ≡ retold (c .place) 0) ⌝ }
 {
     let p = c.place;
     let k = c.nodes;
@@ -320,7 +323,8 @@ pub fn next_change<'a>(
         → Stood T (now (s .entry)) (env .left) (12 - env .left) all σ₀ p₀ m₀ (now (nodes .entry)) cursor σ (memory (now (out .entry)) (now (errs .entry)) (now (warns .entry)) (now (lefts .entry)))
         → After T (now (s .entry)) (env .left) (12 - env .left) all σ₀ p₀ m₀ (now (nodes .exit)) (r .cursor) σ (memory (now (out .exit)) (now (errs .exit)) (now (warns .exit)) (now (lefts .exit))) (r .turn)) ⌝ }
     ensures { λ r. ⌜ Fit (now (s .entry)) (env .left) (now (nodes .exit)) (r .cursor) (r .turn) × (length (now (nodes .exit)) ≡ 26) × (r .turn ≡ Nothing → ⊥)
-        × ((r .turn ≡ Over → ⊥) → ahead (now (s .entry)) (r .cursor) < ahead (now (s .entry)) cursor) ⌝ }
+        × ((r .turn ≡ Over → ⊥) → ahead (now (s .entry)) (r .cursor) < ahead (now (s .entry)) cursor)
+        × Grows (now (s .entry)) (retold (cursor .place) 0) (retold (r .cursor .place) 0) ⌝ }
 {
     let mut c = cursor;
     loop {

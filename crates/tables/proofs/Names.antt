@@ -10,18 +10,18 @@ use native.Mathlib.Nat.{pos-of-ne-zero}
 use borrow.Author.Tests.{leb-true, lt-ltb, le-ltb, eq-eqb, ne-eqb}
 use lib.ListN.{length, getD, take}
 use lib.Dec.{eqb, ltb, leb}
-use Rattle.fields.specs.Parsed.{Parsed, ok, fault, bind, ensure}
-use Rattle.fields.specs.Number.{fieldAt}
-use Rattle.fields.specs.Table.{tableFrom, tableAt, member}
-use Rattle.fields.specs.Answer.{tableOf}
-use Rattle.fields.specs.declared.Number.{Number}
-use Rattle.fields.specs.declared.Number.the-variants.{Is, Wrong}
-use Rattle.fields.proofs.Answers.{is-table, bind-fault}
-use Rattle.fields.proofs.Tables.{table-length, count-stop, count-few, count-good}
+use Rattle.image_fields.specs.Parsed.{Parsed, ok, fault, bind, ensure}
+use Rattle.image_fields.specs.Number.{fieldAt}
+use Rattle.image_fields.specs.Table.{tableFrom, tableAt, member}
+use Rattle.image_fields.specs.Answer.{tableOf}
+use Rattle.image_fields.specs.declared.Number.{Number}
+use Rattle.image_fields.specs.declared.Number.the-variants.{Is, Wrong}
+use Rattle.image_fields.proofs.Answers.{is-table, bind-fault}
+use Rattle.image_fields.proofs.Tables.{table-length, count-stop, count-few, count-good}
 use Rattle.tables.specs.Answer.{Listed}
 use Rattle.tables.proofs.Placing.{Lists, lists-nothing}
-use Rattle.fields.proofs.Inverse.{bound, ensure-ok}
-use Rattle.fields.proofs.Tests.{split, and-true, and-id, or-true, false-true}
+use Rattle.image_fields.proofs.Inverse.{bound, ensure-ok}
+use Rattle.image_fields.proofs.Tests.{split, and-true, and-id, or-true, false-true}
 use Rattle.tables.specs.Limits.{version1}
 use Rattle.tables.specs.Name.{bytesAt, nameOf, sameBytes, belowBytes, nameAt, namesAt, thisName}
 

@@ -7,15 +7,15 @@ use native.Mathlib.Omega.{arith}
 use borrow.Author.Count.{below-more}
 use lib.ListN.{length, getD, take, set, length-set}
 use lib.Seq.{getD-set-same, getD-set-other}
-use Rattle.fields.specs.Parsed.{Parsed, ok, fault}
-use Rattle.fields.specs.Table.{tableFrom, tableAt}
-use Rattle.fields.specs.Number.{fieldAt}
-use Rattle.fields.specs.Answer.{tableOf}
-use Rattle.fields.specs.declared.Number.{Number}
-use Rattle.fields.specs.declared.Number.the-variants.{Is, Wrong}
-use Rattle.fields.proofs.Inverse.{impossible}
-use Rattle.fields.proofs.Answers.{is-table, wrong-table}
-use Rattle.fields.proofs.Tables.{Filling, filling-start, filling-stop, filling-done, filling-next, placed-next, count-stop, count-few, count-good}
+use Rattle.image_fields.specs.Parsed.{Parsed, ok, fault}
+use Rattle.image_fields.specs.Table.{tableFrom, tableAt}
+use Rattle.image_fields.specs.Number.{fieldAt}
+use Rattle.image_fields.specs.Answer.{tableOf}
+use Rattle.image_fields.specs.declared.Number.{Number}
+use Rattle.image_fields.specs.declared.Number.the-variants.{Is, Wrong}
+use Rattle.image_fields.proofs.Inverse.{impossible}
+use Rattle.image_fields.proofs.Answers.{is-table, wrong-table}
+use Rattle.image_fields.proofs.Tables.{Filling, filling-start, filling-stop, filling-done, filling-next, placed-next, count-stop, count-few, count-good}
 use Rattle.tables.specs.Answer.{Within, Listed}
 
 module _ {A : Type 0} (f : List A → ℕ → Parsed A) (view : ℕ → A) (s : List ℕ) where

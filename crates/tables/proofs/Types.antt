@@ -12,16 +12,16 @@ use borrow.Author.Tests.{eqb-true, le-ltb, ne-eqb}
 use lib.ListN.{length, getD, take, set, length-set, length-append}
 use lib.Seq.{take-suc-set, getD-take}
 use lib.Dec.{eqb, ltb}
-use Rattle.fields.specs.Parsed.{Parsed, ok, fault, bind, ensure}
-use Rattle.fields.specs.Number.{numberIn, fieldAt}
-use Rattle.fields.specs.Table.{tableFrom, tableAt}
-use Rattle.fields.specs.Answer.{tableOf}
-use Rattle.fields.specs.declared.Number.{Number}
-use Rattle.fields.specs.declared.Number.the-variants.{Is, Wrong}
-use Rattle.fields.proofs.Inverse.{ensure-ok, bound, impossible}
-use Rattle.fields.proofs.Numbers.{Field, field-ok}
-use Rattle.fields.proofs.Tests.{split}
-use Rattle.fields.proofs.Tables.{filling-stop, filling-done, count-stop, count-few, count-good}
+use Rattle.image_fields.specs.Parsed.{Parsed, ok, fault, bind, ensure}
+use Rattle.image_fields.specs.Number.{numberIn, fieldAt}
+use Rattle.image_fields.specs.Table.{tableFrom, tableAt}
+use Rattle.image_fields.specs.Answer.{tableOf}
+use Rattle.image_fields.specs.declared.Number.{Number}
+use Rattle.image_fields.specs.declared.Number.the-variants.{Is, Wrong}
+use Rattle.image_fields.proofs.Inverse.{ensure-ok, bound, impossible}
+use Rattle.image_fields.proofs.Numbers.{Field, field-ok}
+use Rattle.image_fields.proofs.Tests.{split}
+use Rattle.image_fields.proofs.Tables.{filling-stop, filling-done, count-stop, count-few, count-good}
 use Rattle.tables.specs.Limits.{version1}
 use Rattle.tables.specs.Ty.{Ty, ofWidth, shapeWidth, ofLimit, partsAt, typeAt, typesAt, typeIn, genericFlag, genericFlags}
 use Rattle.tables.specs.Answer.{typeOf, Listed}

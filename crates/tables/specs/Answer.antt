@@ -3,7 +3,7 @@ use Prim.Native.Nat.{ℕ, _<_}
 use mathlib.Core.Path.{_≡_}
 use mathlib.Core.List.{List, map}
 use lib.ListN.{length, getD, take}
-use Rattle.fields.specs.Parsed.{Parsed, ok, fault}
+use Rattle.image_fields.specs.Parsed.{Parsed, ok, fault}
 use Rattle.tables.specs.Ty.{Ty}
 use Rattle.tables.specs.declared.ty.TypeRead.{TypeRead}
 use Rattle.tables.specs.declared.ty.TypeRead.the-variants.{OneType, NoType}

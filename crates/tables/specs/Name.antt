@@ -4,8 +4,8 @@ use mathlib.Core.List.{List, [], _∷_}
 use mathlib.Core.Bool.{Bool, true, false, not, _&&_, _||_}
 use lib.ListN.{length, getD}
 use lib.Dec.{ltb, leb, eqb}
-use Rattle.fields.specs.Parsed.{Parsed, ok, bind, ensure}
-use Rattle.fields.specs.Table.{tableAt, member}
+use Rattle.image_fields.specs.Parsed.{Parsed, ok, bind, ensure}
+use Rattle.image_fields.specs.Table.{tableAt, member}
 use Rattle.tables.specs.Limits.{Limits}
 
 -- n bytes from a position

@@ -4,9 +4,9 @@ use mathlib.Core.List.{List, [], _∷_, map}
 use mathlib.Core.Bool.{Bool, true, false, cond, not, _&&_}
 use lib.ListN.{length, getD}
 use lib.Dec.{ltb, leb, eqb}
-use Rattle.fields.specs.Parsed.{Parsed, ok, bind, ensure}
-use Rattle.fields.specs.Number.{two, four, numberIn, fieldAt}
-use Rattle.fields.specs.Table.{tableAt, member, entries}
+use Rattle.image_fields.specs.Parsed.{Parsed, ok, bind, ensure}
+use Rattle.image_fields.specs.Number.{two, four, numberIn, fieldAt}
+use Rattle.image_fields.specs.Table.{tableAt, member, entries}
 use Rattle.tables.specs.Limits.{Limits}
 use Rattle.tables.specs.Name.{belowBytes}
 

@@ -5,9 +5,9 @@ use mathlib.Core.List.{List, [], _∷_, _++_}
 use mathlib.Core.Bool.{Bool, true, false, cond, _||_}
 use lib.ListN.{length, getD}
 use lib.Dec.{ltb, eqb}
-use Rattle.fields.specs.Parsed.{Parsed, ok, bind, ensure}
-use Rattle.fields.specs.Number.{numberIn, fieldAt}
-use Rattle.fields.specs.Table.{tableAt}
+use Rattle.image_fields.specs.Parsed.{Parsed, ok, bind, ensure}
+use Rattle.image_fields.specs.Number.{numberIn, fieldAt}
+use Rattle.image_fields.specs.Table.{tableAt}
 use Rattle.tables.specs.Limits.{Limits}
 
 -- of: the name, or the lower type (0 of a plain one). shape: of a generic one (0 of any other)

@@ -5,9 +5,9 @@ ghost use mathlib.Core.Bool.{cond, _&&_};
 ghost use mathlib.Core.List.{List, map, []};
 ghost use lib.ListN.{length, getD, take};
 ghost use lib.Dec.{leb};
-ghost use Rattle.fields.specs.Parsed.{ok};
-ghost use Rattle.fields.specs.Table.{member, tableFrom};
-ghost use Rattle.fields.specs.Answer.{tableOf};
+ghost use Rattle.image_fields.specs.Parsed.{ok};
+ghost use Rattle.image_fields.specs.Table.{member, tableFrom};
+ghost use Rattle.image_fields.specs.Answer.{tableOf};
 ghost use Rattle.tables.specs.Limits.{version1};
 ghost use Rattle.tables.specs.Name.{nameOf, sameBytes, belowBytes, thisName, nameAt, namesAt};
 ghost use Rattle.tables.specs.Answer.{Within, Listed};
@@ -17,15 +17,15 @@ fn same_name(s: &[u8], a: usize, b: usize) -> bool
     requires { ⌜ (a < length (now s)) × (b < length (now s)) ⌝ }
     ensures { λ r. ⌜ r ≡ sameBytes (nameOf (now (s .entry)) a) (nameOf (now (s .entry)) b) ⌝ }
 {
-    let n = fields::peek(s, a);
-    let m = fields::peek(s, b);
+    let n = image_fields::peek(s, a);
+    let m = image_fields::peek(s, b);
     if n != m {
         return false;
     }
     let mut k = 0;
     while k < n {
-        let x = fields::peek(s, a + 1 + k);
-        let y = fields::peek(s, b + 1 + k);
+        let x = image_fields::peek(s, a + 1 + k);
+        let y = image_fields::peek(s, b + 1 + k);
         if x != y {
             return false;
         }
@@ -39,15 +39,15 @@ pub fn below_name(s: &[u8], a: usize, b: usize) -> bool
     requires { ⌜ (a < length (now s)) × (b < length (now s)) ⌝ }
     ensures { λ r. ⌜ r ≡ belowBytes (nameOf (now (s .entry)) a) (nameOf (now (s .entry)) b) ⌝ }
 {
-    let n = fields::peek(s, a);
-    let m = fields::peek(s, b);
+    let n = image_fields::peek(s, a);
+    let m = image_fields::peek(s, b);
     let mut k = 0;
     while k < m {
         if k == n {
             return true;
         }
-        let x = fields::peek(s, a + 1 + k);
-        let y = fields::peek(s, b + 1 + k);
+        let x = image_fields::peek(s, a + 1 + k);
+        let y = image_fields::peek(s, b + 1 + k);
         if x != y {
             return x < y;
         }
@@ -76,18 +76,18 @@ fn repeated_name(s: &[u8], starts: &[usize], i: usize, p: usize) -> bool
 fn name_length(s: &[u8], p: usize) -> usize
     ensures { λ r. ⌜ r ≡ cond (leb (getD (now (s .entry)) p 0) 64 && leb (getD (now (s .entry)) p 0 + 1) (length (now (s .entry)) - p)) (getD (now (s .entry)) p 0) 0 ⌝ }
 {
-    let n = fields::peek(s, p);
+    let n = image_fields::peek(s, p);
     if 64 < n {
         return 0;
     }
-    if fields::room(s, p) < n + 1 {
+    if image_fields::room(s, p) < n + 1 {
         return 0;
     }
     n
 }
 
 // So many names, all different, and their positions.
-fn fill_names(s: &[u8], starts: &mut [usize], n: usize, at: usize) -> fields::Number
+fn fill_names(s: &[u8], starts: &mut [usize], n: usize, at: usize) -> image_fields::Number
     requires { ⌜ n ≤ length (now starts) ⌝ }
     ensures { λ r. ⌜ r ≡ tableOf (tableFrom (nameAt version1 (now (s .entry))) [] n at) ⌝ }
     ensures starts { λ r. ⌜ ((ns : List (List ℕ)) (next : ℕ) → tableFrom (nameAt version1 (now (s .entry))) [] n at ≡ ok ns next
@@ -98,16 +98,16 @@ fn fill_names(s: &[u8], starts: &mut [usize], n: usize, at: usize) -> fields::Nu
     while i < n {
         let len = name_length(s, p);
         if len == 0 {
-            return fields::Number::Wrong(3);
+            return image_fields::Number::Wrong(3);
         }
         if repeated_name(s, &starts[..], i, p) {
-            return fields::Number::Wrong(3);
+            return image_fields::Number::Wrong(3);
         }
         starts[i] = p;
         p += len + 1;
         i += 1;
     }
-    fields::Number::Is(n, p)
+    image_fields::Number::Is(n, p)
 }
 
 // Whether the name at p is `this`.
@@ -115,41 +115,41 @@ fn is_this(s: &[u8], p: usize) -> bool
     requires { ⌜ p < length (now s) ⌝ }
     ensures { λ r. ⌜ r ≡ sameBytes (nameOf (now (s .entry)) p) thisName ⌝ }
 {
-    if fields::peek(s, p) != 4 {
+    if image_fields::peek(s, p) != 4 {
         return false;
     }
-    if fields::peek(s, p + 1) != 116 {
+    if image_fields::peek(s, p + 1) != 116 {
         return false;
     }
-    if fields::peek(s, p + 2) != 104 {
+    if image_fields::peek(s, p + 2) != 104 {
         return false;
     }
-    if fields::peek(s, p + 3) != 105 {
+    if image_fields::peek(s, p + 3) != 105 {
         return false;
     }
-    fields::peek(s, p + 4) == 115
+    image_fields::peek(s, p + 4) == 115
 }
 
 // The table of names: its count and the position after it. The names' positions go to `starts`.
-pub fn read_names(s: &[u8], starts: &mut [usize], at: usize) -> fields::Number
+pub fn read_names(s: &[u8], starts: &mut [usize], at: usize) -> image_fields::Number
     requires { ⌜ 512 ≤ length (now starts) ⌝ }
     ensures { λ r. ⌜ r ≡ tableOf (namesAt version1 (now (s .entry)) at) ⌝ }
     ensures starts { λ r. ⌜ ((ns : List (List ℕ)) (next : ℕ) → namesAt version1 (now (s .entry)) at ≡ ok ns next
         → Listed (nameOf (now (s .entry))) (now (s .entry)) (now (starts .exit)) ns) ⌝ }
 {
-    match fields::field(s, 3, 513, 2, at) {
-        fields::Number::Wrong(f) => fields::Number::Wrong(f),
-        fields::Number::Is(n, first) => {
+    match image_fields::field(s, 3, 513, 2, at) {
+        image_fields::Number::Wrong(f) => image_fields::Number::Wrong(f),
+        image_fields::Number::Is(n, first) => {
             if n == 0 {
-                return fields::Number::Wrong(3);
+                return image_fields::Number::Wrong(3);
             }
             match fill_names(s, starts, n, first) {
-                fields::Number::Wrong(f) => fields::Number::Wrong(f),
-                fields::Number::Is(_, next) => {
+                image_fields::Number::Wrong(f) => image_fields::Number::Wrong(f),
+                image_fields::Number::Is(_, next) => {
                     if is_this(s, first) {
-                        fields::Number::Is(n, next)
+                        image_fields::Number::Is(n, next)
                     } else {
-                        fields::Number::Wrong(3)
+                        image_fields::Number::Wrong(3)
                     }
                 }
             }

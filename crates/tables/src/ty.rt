@@ -5,9 +5,9 @@ ghost use mathlib.Core.Bool.{cond, _||_};
 ghost use mathlib.Core.List.{List, map, []};
 ghost use lib.ListN.{length, getD, take};
 ghost use lib.Dec.{ltb, eqb};
-ghost use Rattle.fields.specs.Parsed.{ok};
-ghost use Rattle.fields.specs.Table.{tableFrom};
-ghost use Rattle.fields.specs.Answer.{tableOf};
+ghost use Rattle.image_fields.specs.Parsed.{ok};
+ghost use Rattle.image_fields.specs.Table.{tableFrom};
+ghost use Rattle.image_fields.specs.Answer.{tableOf};
 ghost use Rattle.tables.specs.Limits.{version1};
 ghost use Rattle.tables.specs.Ty.{Ty, ofLimit, partsAt, typeAt, typesAt, typeIn, genericFlags};
 ghost use Rattle.tables.specs.Answer.{typeOf, Listed};
@@ -65,14 +65,14 @@ fn read_parts(s: &[u8], names: usize, i: usize, kind: usize, at: usize) -> TypeR
     requires { ⌜ kind < 5 ⌝ }
     ensures { λ r. ⌜ ((ts : List Ty) → length ts ≡ i → r ≡ typeOf (partsAt names (now (s .entry)) ts kind at)) ⌝ }
 {
-    let of_width = fields::wide(OF_WIDTH[kind]);
-    match fields::field(s, 4, of_limit(names, i, kind), of_width, at) {
-        fields::Number::Wrong(f) => TypeRead::NoType(f),
-        fields::Number::Is(of, p) => {
-            let shape_width = fields::wide(SHAPE_WIDTH[kind]);
-            match fields::field(s, 4, 65536, shape_width, p) {
-                fields::Number::Wrong(f) => TypeRead::NoType(f),
-                fields::Number::Is(_, q) => TypeRead::OneType(kind, of, q),
+    let of_width = image_fields::wide(OF_WIDTH[kind]);
+    match image_fields::field(s, 4, of_limit(names, i, kind), of_width, at) {
+        image_fields::Number::Wrong(f) => TypeRead::NoType(f),
+        image_fields::Number::Is(of, p) => {
+            let shape_width = image_fields::wide(SHAPE_WIDTH[kind]);
+            match image_fields::field(s, 4, 65536, shape_width, p) {
+                image_fields::Number::Wrong(f) => TypeRead::NoType(f),
+                image_fields::Number::Is(_, q) => TypeRead::OneType(kind, of, q),
             }
         }
     }
@@ -82,9 +82,9 @@ fn read_parts(s: &[u8], names: usize, i: usize, kind: usize, at: usize) -> TypeR
 fn read_type(s: &[u8], names: usize, i: usize, at: usize) -> TypeRead
     ensures { λ r. ⌜ ((ts : List Ty) → length ts ≡ i → r ≡ typeOf (typeAt names (now (s .entry)) ts at)) ⌝ }
 {
-    match fields::field(s, 4, 5, 1, at) {
-        fields::Number::Wrong(f) => TypeRead::NoType(f),
-        fields::Number::Is(kind, p) => {
+    match image_fields::field(s, 4, 5, 1, at) {
+        image_fields::Number::Wrong(f) => TypeRead::NoType(f),
+        image_fields::Number::Is(kind, p) => {
             if kind_ok(i, kind) {
                 read_parts(s, names, i, kind, p)
             } else {
@@ -102,7 +102,7 @@ fn fill_types(
     names: usize,
     n: usize,
     at: usize,
-) -> fields::Number
+) -> image_fields::Number
     requires { ⌜ (n ≤ length (now starts)) × (n ≤ length (now flags)) ⌝ }
     ensures { λ r. ⌜ r ≡ tableOf (tableFrom (typeAt names (now (s .entry))) [] n at) ⌝ }
     ensures filled { λ r. ⌜ ((ts : List Ty) (next : ℕ) → tableFrom (typeAt names (now (s .entry))) [] n at ≡ ok ts next
@@ -113,7 +113,7 @@ fn fill_types(
     while i < n {
         match read_type(s, names, i, p) {
             TypeRead::NoType(f) => {
-                return fields::Number::Wrong(f);
+                return image_fields::Number::Wrong(f);
             }
             TypeRead::OneType(kind, of, next) => {
                 let f = generic_flag(&flags[..], kind, of);
@@ -124,7 +124,7 @@ fn fill_types(
             }
         }
     }
-    fields::Number::Is(n, p)
+    image_fields::Number::Is(n, p)
 }
 
 // The table of types: its count and the position after it. The types' positions go to `starts`, and to `flags`, for each of them, 1
@@ -135,17 +135,17 @@ pub fn read_types(
     flags: &mut [u8],
     names: usize,
     at: usize,
-) -> fields::Number
+) -> image_fields::Number
     requires { ⌜ (256 ≤ length (now starts)) × (256 ≤ length (now flags)) ⌝ }
     ensures { λ r. ⌜ r ≡ tableOf (typesAt version1 names (now (s .entry)) at) ⌝ }
     ensures filled { λ r. ⌜ ((ts : List Ty) (next : ℕ) → typesAt version1 names (now (s .entry)) at ≡ ok ts next
         → Listed (typeIn (now (s .entry))) (now (s .entry)) (now (starts .exit)) ts × (take (length ts) (now (flags .exit)) ≡ genericFlags [] ts)) ⌝ }
 {
-    match fields::field(s, 4, 257, 2, at) {
-        fields::Number::Wrong(f) => fields::Number::Wrong(f),
-        fields::Number::Is(n, first) => {
+    match image_fields::field(s, 4, 257, 2, at) {
+        image_fields::Number::Wrong(f) => image_fields::Number::Wrong(f),
+        image_fields::Number::Is(n, first) => {
             if n == 0 {
-                return fields::Number::Wrong(4);
+                return image_fields::Number::Wrong(4);
             }
             fill_types(s, starts, flags, names, n, first)
         }

@@ -1,11 +1,11 @@
-use Rattle.writing.proofs.Stores.{both-stored}
+use Rattle.image_writing.proofs.Stores.{both-stored}
 use borrow.Author.Needs.{needs}
 use Rattle.expressions_scan.proofs.put_error.Statement.{statement}
 use Rattle.expressions_scan.proofs.put_error.Tie as tie
 use Rattle.expressions_scan.proofs.put_error.Reads as reads
 use Rattle.expressions_scan.proofs.put_error.Lts as lts
 use Rattle.expressions_scan.proofs.put_zeros.Reads as put-zeros-reads
-use Rattle.writing.proofs.put_number.Reads as put-number-reads
+use Rattle.image_writing.proofs.put_number.Reads as put-number-reads
 
 -- src/lib.rt:103:9
 put-number-requires : tie.Need-put-number-requires
@@ -37,7 +37,13 @@ same-length c = search needs
 
 -- src/lib.rt:91:1
 returns : tie.Need-returns
-returns c = both-stored (both-stored (both-stored (both-stored (both-stored (c .before .before .before .before .before .before .before .before .before .before .before .before .before .before .before .before .before .before .before .before .before .before .put-number .ensures) (c .before .before .before .before .before .before .before .before .before .before .before .before .before .before .before .before .before .before .put-number2 .ensures)) (c .before .before .before .before .before .before .before .before .before .before .before .before .before .before .put-number3 .ensures)) (c .before .before .before .before .before .before .before .before .before .before .put-number4 .ensures)) (c .before .before .before .before .before .before .put-number5 .ensures)) (c .before .before .put-zeros .ensures)
+returns c =
+    let at-put-number5 = c .before .before .before .before .before .before in
+    let at-put-number4 = at-put-number5 .before .before .before .before in
+    let at-put-number3 = at-put-number4 .before .before .before .before in
+    let at-put-number2 = at-put-number3 .before .before .before .before in
+    let at-put-number = at-put-number2 .before .before .before .before in
+    both-stored (both-stored (both-stored (both-stored (both-stored (at-put-number .put-number .ensures) (at-put-number2 .put-number2 .ensures)) (at-put-number3 .put-number3 .ensures)) (at-put-number4 .put-number4 .ensures)) (at-put-number5 .put-number5 .ensures)) (c .before .before .put-zeros .ensures)
 
 pub put-error-spec : {M : Type 1} → statement M
 put-error-spec =

@@ -1,7 +1,7 @@
 use Rattle.expressions_scan.proofs.Entries.{zeros, place-stored, taken-length, same-taken, row-inside}
 use Rattle.expressions_scan.specs.States.{rowOf}
-use Rattle.writing.proofs.Stores.{none-stored, stored-length}
-use Rattle.writing.specs.Stored.{Stored}
+use Rattle.image_writing.proofs.Stores.{none-stored, stored-length}
+use Rattle.image_writing.specs.Stored.{Stored}
 use lib.ListN.{take, replicate, length-take}
 use mathlib.Core.List.{_++_}
 use Prim.Native.Nat.{_≤_, _-_}
@@ -12,7 +12,7 @@ use Rattle.expressions_scan.proofs.put_places.Tie as tie
 use Rattle.expressions_scan.proofs.put_places.Reads as reads
 use Rattle.expressions_scan.proofs.put_places.Lts as lts
 use Rattle.expressions_scan.proofs.place_of.Reads as place-of-reads
-use Rattle.writing.proofs.put_number.Reads as put-number-reads
+use Rattle.image_writing.proofs.put_number.Reads as put-number-reads
 
 abbrev Inv-loop : tie.InvT-loop
 Inv-loop list₀ at rows row count next₀ i₀ list next i = (i ≤ 8) × Stored list₀ at (take i (rowOf rows row ++ zeros 8)) list next

@@ -6,7 +6,7 @@ use Rattle.expressions_scan.proofs.put_row.Reads as reads
 use Rattle.expressions_scan.proofs.put_row.Lts as lts
 use Rattle.expressions_scan.proofs.put_places.Reads as put-places-reads
 use Rattle.expressions_scan.proofs.wide32.Reads as wide32-reads
-use Rattle.writing.proofs.put_number.Reads as put-number-reads
+use Rattle.image_writing.proofs.put_number.Reads as put-number-reads
 
 -- src/lib.rt:147:18
 mul-others : tie.Need-mul-others
@@ -46,7 +46,13 @@ same-length c = search needs
 
 -- src/lib.rt:143:1
 returns : tie.Need-returns
-returns c = row-stored (c .before .before .before .before .before .before .before .before .before .before .before .before .before .before .before .before .before .before .before .before .before .before .before .before .args .rows .now) (c .before .before .before .before .before .before .before .before .before .before .before .before .before .before .before .before .before .before .before .before .before .before .before .before .args .row) (c .before .before .before .before .before .before .before .before .before .before .before .before .before .before .before .before .before .before .before .before .before .before .before .before .pre .1) (c .before .before .before .before .before .before .before .before .before .before .before .before .before .before .before .before .before .before .before .put-number .ensures) (c .before .before .before .before .before .before .before .before .before .before .before .before .before .before .before .put-number2 .ensures) (c .before .before .before .before .before .before .before .before .before .before .before .put-number3 .ensures) (c .before .before .before .before .before .before .before .put-number4 .ensures) (c .before .before .put-places .ensures)
+returns c =
+    let at-put-number4 = c .before .before .before .before .before .before .before in
+    let at-put-number3 = at-put-number4 .before .before .before .before in
+    let at-put-number2 = at-put-number3 .before .before .before .before in
+    let at-put-number = at-put-number2 .before .before .before .before in
+    let start = at-put-number .before .before .before .before .before in
+    row-stored (start .args .rows .now) (start .args .row) (start .pre .1) (at-put-number .put-number .ensures) (at-put-number2 .put-number2 .ensures) (at-put-number3 .put-number3 .ensures) (at-put-number4 .put-number4 .ensures) (c .before .before .put-places .ensures)
 
 pub put-row-spec : {M : Type 1} → statement M
 put-row-spec =

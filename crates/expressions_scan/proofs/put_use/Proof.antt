@@ -2,7 +2,7 @@ use Prim.Native.Nat.{_+_}
 use lib.ListN.{getD}
 use Rattle.expressions_scan.proofs.Entries.{stored-eq, use-nothing, use-one, use-row, use-first, entry-most, row-length}
 use Rattle.expressions_scan.specs.States.{rowOf}
-use Rattle.writing.proofs.Stores.{none-stored}
+use Rattle.image_writing.proofs.Stores.{none-stored}
 use mathlib.Core.List.{[], _∷_}
 use mathlib.Core.Path.{sym, _∙_}
 use native.Mathlib.Omega.{arith}
@@ -45,7 +45,12 @@ same-length-2 c = search needs
 
 -- src/lib.rt:186:9
 returns-3 : tie.Need-returns-3
-returns-3 c = (stored-eq (use-row (c .before .before .before .before .before .before .before .before .before .before .args .place) (c .before .before .before .before .before .before .before .before .before .before .args .kind) (c .before .before .before .before .before .before .before .before .before .before .args .first) (c .before .before .before .before .before .before .before .before .before .before .args .rows .now) (c .before .before .before .before .before .before .before .before .before .before .args .row) (c .before .before .before .before .before .before .before .before .before .before .pre .0) (c .before .before .before .before .before .before .if2 .left) (sym (c .before .before .before .before .if3 .taken) ∙ c .before .before .before .before .before .gives-all .ensures)) (c .before .before .put-row .ensures), entry-most _ (c .before .before .before .before .before .before .before .before .before .before .args .place) 0 (rowOf (c .before .before .before .before .before .before .before .before .before .before .args .rows .now) (c .before .before .before .before .before .before .before .before .before .before .args .row)) (let l = row-length (c .before .before .before .before .before .before .before .before .before .before .args .rows .now) (c .before .before .before .before .before .before .before .before .before .before .args .row) (c .before .before .before .before .before .before .before .before .before .before .pre .0 .inside (c .before .before .before .before .before .before .if2 .left)) in let m = c .before .before .before .before .before .before .before .before .before .before .pre .0 .most (c .before .before .before .before .before .before .if2 .left) in omega arith) (c .before .before .put-row .ensures))
+returns-3 c =
+    let at-if3 = c .before .before .before .before in
+    let at-gives-all = at-if3 .before in
+    let at-if2 = at-gives-all .before in
+    let start = at-if2 .before .before .before .before in
+    (stored-eq (use-row (start .args .place) (start .args .kind) (start .args .first) (start .args .rows .now) (start .args .row) (start .pre .0) (at-if2 .if2 .left) (sym (at-if3 .if3 .taken) ∙ at-gives-all .gives-all .ensures)) (c .before .before .put-row .ensures), entry-most _ (start .args .place) 0 (rowOf (start .args .rows .now) (start .args .row)) (let l = row-length (start .args .rows .now) (start .args .row) (start .pre .0 .inside (at-if2 .if2 .left)) in let m = start .pre .0 .most (at-if2 .if2 .left) in omega arith) (c .before .before .put-row .ensures))
 
 -- src/lib.rt:188:14
 add-at : tie.Need-add-at
@@ -66,7 +71,12 @@ same-length-3 c = search needs
 
 -- src/lib.rt:166:1
 returns-4 : tie.Need-returns-4
-returns-4 c = (stored-eq (use-first (c .before .before .before .before .before .before .before .before .before .before .before .args .place) (c .before .before .before .before .before .before .before .before .before .before .before .args .kind) (c .before .before .before .before .before .before .before .before .before .before .before .args .first) (c .before .before .before .before .before .before .before .before .before .before .before .args .rows .now) (c .before .before .before .before .before .before .before .before .before .before .before .args .row) (c .before .before .before .before .before .before .before .before .before .before .before .pre .0) (c .before .before .before .before .before .before .before .if2 .left) (sym (c .before .before .before .before .before .if3 .left) ∙ c .before .before .before .before .before .before .gives-all .ensures)) (c .before .before .put-error2 .ensures), entry-most _ (c .before .before .before .before .before .before .before .before .before .before .before .args .place) 0 (getD (c .before .before .before .before .before .before .before .before .before .before .before .args .rows .now) (c .before .before .before .before .before .before .before .before .before .before .before .args .row + 1) 0 ∷ []) (omega arith) (c .before .before .put-error2 .ensures))
+returns-4 c =
+    let at-if3 = c .before .before .before .before .before in
+    let at-gives-all = at-if3 .before in
+    let at-if2 = at-gives-all .before in
+    let start = at-if2 .before .before .before .before in
+    (stored-eq (use-first (start .args .place) (start .args .kind) (start .args .first) (start .args .rows .now) (start .args .row) (start .pre .0) (at-if2 .if2 .left) (sym (at-if3 .if3 .left) ∙ at-gives-all .gives-all .ensures)) (c .before .before .put-error2 .ensures), entry-most _ (start .args .place) 0 (getD (start .args .rows .now) (start .args .row + 1) 0 ∷ []) (omega arith) (c .before .before .put-error2 .ensures))
 
 pub put-use-spec : {M : Type 1} → statement M
 put-use-spec =

@@ -1,7 +1,7 @@
 use Rattle.expressions_scan.proofs.Entries.{zeros, zero-stored, stored-eq, zeros-length, same-zeros}
 use mathlib.Core.Path.{subst}
-use Rattle.writing.proofs.Stores.{none-stored, stored-length}
-use Rattle.writing.specs.Stored.{Stored}
+use Rattle.image_writing.proofs.Stores.{none-stored, stored-length}
+use Rattle.image_writing.specs.Stored.{Stored}
 use Prim.Native.Nat.{_≤_, _-_}
 use native.Mathlib.Omega.{arith}
 use borrow.Author.Needs.{needs}
@@ -9,7 +9,7 @@ use Rattle.expressions_scan.proofs.put_zeros.Statement.{statement}
 use Rattle.expressions_scan.proofs.put_zeros.Tie as tie
 use Rattle.expressions_scan.proofs.put_zeros.Reads as reads
 use Rattle.expressions_scan.proofs.put_zeros.Lts as lts
-use Rattle.writing.proofs.put_number.Reads as put-number-reads
+use Rattle.image_writing.proofs.put_number.Reads as put-number-reads
 
 abbrev Inv-loop : tie.InvT-loop
 Inv-loop list₀ at many next₀ i₀ list next i = (i ≤ many) × Stored list₀ at (zeros i) list next

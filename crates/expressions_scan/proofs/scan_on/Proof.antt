@@ -1,7 +1,7 @@
 use Rattle.expressions_scan.proofs.Loop.{Scan, scan-start, scan-next, scan-stop, scan-end, stops-as, some-goes}
 use Rattle.expressions_scan.specs.States.{stateAt}
-use Rattle.scan.proofs.Start.{few}
-use Rattle.scan.specs.Scan.{fuel}
+use Rattle.expressions_steps.proofs.Start.{few}
+use Rattle.expressions_steps.specs.Scan.{fuel}
 use mathlib.Core.Path.{_∙_}
 use native.Mathlib.Omega.{arith}
 use borrow.Author.Needs.{needs}
@@ -45,8 +45,10 @@ add-depth c =
 -- src/lib.rt:495:13
 effect-on-requires : tie.Need-effect-on-requires Inv-loop μ-loop
 effect-on-requires c κs =
-    let r = c .before .before .before .before .before .before .before .before .before .before .before .before .pre in
-    let m = c .before .before .before .before .before .loop .inv .most in
+    let at-loop = c .before .before .before .before .before in
+    let start = at-loop .before .before .before .before .before .before .before in
+    let r = start .pre in
+    let m = at-loop .loop .inv .most in
     let x = r .3 in
     (r .1, omega arith)
 
@@ -60,15 +62,21 @@ stopped-requires c κs = search needs
 
 -- src/lib.rt:499:13
 same-length : tie.Need-same-length Inv-loop μ-loop
-same-length c = c .before .before .before .before .before .effect-on .kept .1 .1 .1 .1 .1 .1 .1 .1 .0 ∙ c .before .before .before .before .before .before .before .before .before .before .before .loop .inv .room
+same-length c =
+    let at-effect-on = c .before .before .before .before .before in
+    let at-loop = at-effect-on .before .before .before .before .before .before in
+    at-effect-on .effect-on .kept .1 .1 .1 .1 .1 .1 .1 .1 .0 ∙ at-loop .loop .inv .room
 
 -- src/lib.rt:499:13
 returns : tie.Need-returns Inv-loop μ-loop
 returns c =
-    let i = c .before .before .before .before .before .before .before .before .before .before .before .loop .inv in
-    let t = c .before .before .before .before .before .before .before .before .step-on in
+    let at-effect-on = c .before .before .before .before .before in
+    let at-step-on = at-effect-on .before .before .before in
+    let at-loop = at-step-on .before .before .before in
+    let i = at-loop .loop .inv in
+    let t = at-step-on .step-on in
     stops-as _ _ _ _ _ _ _ _ _ _ _ _ _ _ _ _ (c .stopped .ensures)
-    (scan-stop _ _ _ _ _ _ _ _ _ _ _ _ _ _ i _ (t .result) (t .ensures .1) (t .ensures .0) (c .before .before .before .before .before .effect-on .ensures) _ (c .before .enum-told .given .1) (λ b f lt. lt))
+    (scan-stop _ _ _ _ _ _ _ _ _ _ _ _ _ _ i _ (t .result) (t .ensures .1) (t .ensures .0) (at-effect-on .effect-on .ensures) _ (c .before .enum-told .given .1) (λ b f lt. lt))
 
 enum-told-2 : tie.Need-enum-told-2 Inv-loop μ-loop
 enum-told-2 c = search needs
@@ -76,15 +84,20 @@ enum-told-2 c = search needs
 -- src/lib.rt:487:5
 loop-less : tie.Need-loop-less Inv-loop μ-loop
 loop-less c =
-    let t = c .before .before .before .before .before .before .before .step-on in
-    some-goes _ _ _ _ _ _ _ _ _ _ _ _ _ _ (c .before .before .before .before .before .before .before .before .before .before .loop .inv) _ (t .result) (t .ensures .1) (t .ensures .0) .falls
+    let at-step-on = c .before .before .before .before .before .before .before in
+    let at-loop = at-step-on .before .before .before in
+    let t = at-step-on .step-on in
+    some-goes _ _ _ _ _ _ _ _ _ _ _ _ _ _ (at-loop .loop .inv) _ (t .result) (t .ensures .1) (t .ensures .0) .falls
 
 -- src/lib.rt:487:5
 loop-again : tie.Need-loop-again Inv-loop μ-loop
 loop-again c =
-    let t = c .before .before .before .before .before .before .before .step-on in
-    let e = c .before .before .before .before .effect-on in
-    scan-next _ _ _ _ _ _ _ _ _ _ _ _ _ _ (c .before .before .before .before .before .before .before .before .before .before .loop .inv) _ (t .result) (t .ensures .1) (t .ensures .0) (e .ensures) (c .enum-told2 .given .1) (e .kept .1 .1 .1 .1 .1 .1 .1 .1 .0)
+    let at-effect-on = c .before .before .before .before in
+    let at-step-on = at-effect-on .before .before .before in
+    let at-loop = at-step-on .before .before .before in
+    let t = at-step-on .step-on in
+    let e = at-effect-on .effect-on in
+    scan-next _ _ _ _ _ _ _ _ _ _ _ _ _ _ (at-loop .loop .inv) _ (t .result) (t .ensures .1) (t .ensures .0) (e .ensures) (c .enum-told2 .given .1) (e .kept .1 .1 .1 .1 .1 .1 .1 .1 .0)
 
 -- src/lib.rt:502:5
 stopped-requires-2 : tie.Need-stopped-requires-2 Inv-loop μ-loop

@@ -9,7 +9,7 @@ use Rattle.expressions_scan.proofs.start.Tie as tie
 use Rattle.expressions_scan.proofs.start.Reads as reads
 use Rattle.expressions_scan.proofs.start.Lts as lts
 use Rattle.expressions_scan.proofs.pack.Reads as pack-reads
-use Rattle.scan.proofs.root.Reads as root-reads
+use Rattle.expressions_steps.proofs.root.Reads as root-reads
 
 -- src/lib.rt:419:21
 root-requires : tie.Need-root-requires

@@ -1,7 +1,7 @@
 use Rattle.expressions_scan.proofs.Loop.{waits-at}
 use Rattle.expressions_scan.proofs.Nodes.{top-node, step-nodes}
 use Rattle.expressions_scan.specs.Resumed.{opens}
-use Rattle.scan.proofs.Start.{few}
+use Rattle.expressions_steps.proofs.Start.{few}
 use mathlib.Core.Path.{sym, _∙_}
 use native.Mathlib.Omega.{arith}
 use borrow.Author.Needs.{needs}
@@ -11,7 +11,7 @@ use Rattle.expressions_scan.proofs.step_on.Reads as reads
 use Rattle.expressions_scan.proofs.step_on.Lts as lts
 use Rattle.expressions_scan.proofs.pack.Reads as pack-reads
 use Rattle.expressions_scan.proofs.unpack.Reads as unpack-reads
-use Rattle.scan.proofs.advance.Reads as advance-reads
+use Rattle.expressions_steps.proofs.advance.Reads as advance-reads
 
 -- src/lib.rt:438:13
 sub-m : tie.Need-sub-m
@@ -39,11 +39,15 @@ pack-requires c κs = search needs
 
 -- src/lib.rt:443:5
 mul-nodes : tie.Need-mul-nodes
-mul-nodes c = let z = few _ _ _ _ (c .before .before .before .before .before .before .before .before .before .before .pre .1) in omega arith
+mul-nodes c =
+    let start = c .before .before .before .before .before .before .before .before .before .before in
+    let z = few _ _ _ _ (start .pre .1) in omega arith
 
 -- src/lib.rt:443:5
 element-write-nodes : tie.Need-element-write-nodes
-element-write-nodes c = let z = few _ _ _ _ (c .before .before .before .before .before .before .before .before .before .before .pre .1) in omega arith
+element-write-nodes c =
+    let start = c .before .before .before .before .before .before .before .before .before .before in
+    let z = few _ _ _ _ (start .pre .1) in omega arith
 
 -- src/lib.rt:444:20
 pack-requires-2 : tie.Need-pack-requires-2
@@ -51,15 +55,23 @@ pack-requires-2 c κs = search needs
 
 -- src/lib.rt:444:5
 mul-nodes-2 : tie.Need-mul-nodes-2
-mul-nodes-2 c = let z = few _ _ _ _ (c .before .before .before .before .before .before .before .before .before .before .before .pre .1) in omega arith
+mul-nodes-2 c =
+    let start = c .before .before .before .before .before .before .before .before .before .before .before in
+    let z = few _ _ _ _ (start .pre .1) in omega arith
 
 -- src/lib.rt:444:5
 element-write-nodes-2 : tie.Need-element-write-nodes-2
-element-write-nodes-2 c = let z = few _ _ _ _ (c .before .before .before .before .before .before .before .before .before .before .before .pre .1) in omega arith
+element-write-nodes-2 c =
+    let start = c .before .before .before .before .before .before .before .before .before .before .before in
+    let z = few _ _ _ _ (start .pre .1) in omega arith
 
 -- src/lib.rt:423:1
 returns : tie.Need-returns
-returns c = ((λ T sy. c .before .before .before .before .advance .ensures T sy (opens (c .before .before .before .before .before .before .before .before .before .before .before .args .nodes .now)) (c .before .before .before .before .before .before .before .before .before .before .before .args .depth) (c .before .before .before .before .before .before .before .before .before .before .before .pre .1) (c .before .before .before .before .before .before .before .before .before .before .before .pre .2) (top-node (c .before .before .before .before .before .before .before .before .before .before .before .args .nodes .now) (c .before .before .before .before .before .before .before .before .before .before .before .args .depth) ∙ sym (c .before .before .before .before .before .unpack .ensures))), step-nodes (c .before .before .before .before .before .before .before .before .before .before .before .args .nodes .now) (c .before .before .before .before .before .before .before .before .before .before .before .args .depth) (c .before .pack .result) (c .pack2 .result) (c .before .before .before .before .advance .result) (c .before .pack .ensures) (c .pack2 .ensures))
+returns c =
+    let at-advance = c .before .before .before .before in
+    let at-unpack = at-advance .before in
+    let start = at-unpack .before .before .before .before .before .before in
+    ((λ T sy. at-advance .advance .ensures T sy (opens (start .args .nodes .now)) (start .args .depth) (start .pre .1) (start .pre .2) (top-node (start .args .nodes .now) (start .args .depth) ∙ sym (at-unpack .unpack .ensures))), step-nodes (start .args .nodes .now) (start .args .depth) (c .before .pack .result) (c .pack2 .result) (at-advance .advance .result) (c .before .pack .ensures) (c .pack2 .ensures))
 
 pub step-on-spec : {M : Type 1} → statement M
 step-on-spec =

@@ -1,7 +1,7 @@
 use Rattle.expressions_scan.proofs.Effects.{answers-use}
 use Rattle.expressions_scan.proofs.Finding.{found-below, found-local, found-none, use-some, use-none}
 use Rattle.expressions_scan.proofs.Entries.{stored-eq}
-use Rattle.writing.proofs.Stores.{none-stored}
+use Rattle.image_writing.proofs.Stores.{none-stored}
 use Rattle.rules.specs.Verdict.{entriesOf}
 use Rattle.tables.specs.Limits.{version1}
 use mathlib.Core.Path.{sym, ap}

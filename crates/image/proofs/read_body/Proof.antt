@@ -1,4 +1,4 @@
-use Rattle.fields.proofs.Answers.{read-ok, read-fault}
+use Rattle.image_fields.proofs.Answers.{read-ok, read-fault}
 use Rattle.image.proofs.Whole.{body-stop, body-done, body-left}
 use borrow.Author.Needs.{needs}
 use Rattle.image.proofs.read_body.Statement.{statement}

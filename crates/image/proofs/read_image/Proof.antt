@@ -4,7 +4,7 @@ use Rattle.image.proofs.Whole.{names-lent}
 use mathlib.Core.Path.{_≡_, _∙_, subst}
 use native.Mathlib.Omega.{arith}
 use lib.ListN.{take, length-take}
-use Rattle.fields.proofs.Answers.{table-ok, table-wrong}
+use Rattle.image_fields.proofs.Answers.{table-ok, table-wrong}
 use Rattle.image.proofs.Whole.{wrong-is, head-stops, names-stop, types-stop, rest-stop, rest-done, name-limit, type-limit}
 use borrow.Author.Needs.{needs}
 use Rattle.image.proofs.read_image.Statement.{statement}

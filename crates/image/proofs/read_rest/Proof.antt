@@ -1,7 +1,7 @@
 use mathlib.Core.Path.{refl, _∙_}
 use native.Mathlib.Omega.{arith}
 use denote.Ref.{now}
-use Rattle.fields.proofs.Answers.{read-ok, read-fault, table-ok, table-wrong}
+use Rattle.image_fields.proofs.Answers.{read-ok, read-fault, table-ok, table-wrong}
 use Rattle.image.proofs.Whole.{wrong-is, fault-is, rest-structs, rest-globals, rest-entry, rest-body, rest-read, globals-stand}
 use borrow.Author.Needs.{needs}
 use Rattle.image.proofs.read_rest.Statement.{statement}

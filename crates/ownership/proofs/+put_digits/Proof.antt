@@ -7,7 +7,7 @@ use borrow.Fn.PlainCycle.{Measures, is, falls, and}
 use Rattle.ownership.proofs.put_digits.Reads as put-digits
 use Rattle.ownership.proofs.put_digits.Kinds as put-digits-kinds
 use Rattle.ownership.proofs.+put_digits.Lts-put_digits as put-digits-lts
-use Rattle.writing.proofs.put.Reads as put-reads
+use Rattle.image_writing.proofs.put.Reads as put-reads
 use Rattle.ownership.proofs.+put_digits.{statement}
 use Rattle.ownership.proofs.+put_digits.Tie.{close}
 

@@ -1,12 +1,12 @@
 use native.Mathlib.Omega.{arith}
-use Rattle.writing.proofs.Stores.{both-stored}
+use Rattle.image_writing.proofs.Stores.{both-stored}
 use borrow.Author.Needs.{needs}
 use Rattle.ownership.proofs.put_number.Statement.{statement}
 use Rattle.ownership.proofs.put_number.Tie as tie
 use Rattle.ownership.proofs.put_number.Reads as reads
 use Rattle.ownership.proofs.put_number.Lts as lts
 use Rattle.ownership.proofs.put_digits.Reads as put-digits-reads
-use Rattle.writing.proofs.put.Reads as put-reads
+use Rattle.image_writing.proofs.put.Reads as put-reads
 
 -- src/main.rt:41:9
 put-requires : tie.Need-put-requires

@@ -3,10 +3,10 @@ use borrow.Author.Needs.{needs}
 use Prim.Native.Nat.{ℕ, _+_, _-_, _*_, _≤_}
 use mathlib.Core.Path.{_≡_, refl, _∙_}
 use lib.ListN.{length}
-use Rattle.writing.proofs.Stores.{stored-length}
+use Rattle.image_writing.proofs.Stores.{stored-length}
 use mathlib.Core.List.{List}
 use lib.Seq.{slice}
-use Rattle.writing.specs.Stored.{Stored}
+use Rattle.image_writing.specs.Stored.{Stored}
 use Rattle.ownership.specs.Text.{numbers}
 use Rattle.ownership.proofs.Spells.{next-number, no-number}
 use Rattle.ownership.proofs.put_numbers.Statement.{statement}

@@ -1,5 +1,5 @@
 use native.Mathlib.Omega.{arith}
-use Rattle.writing.proofs.Stores.{both-stored}
+use Rattle.image_writing.proofs.Stores.{both-stored}
 use borrow.Author.Needs.{needs}
 use Rattle.ownership.proofs.put_pair.Statement.{statement}
 use Rattle.ownership.proofs.put_pair.Tie as tie

@@ -4,8 +4,8 @@ use Prim.Native.Nat.{ℕ, _+_, _*_, _≤_}
 use mathlib.Core.Path.{_≡_, refl, _∙_}
 use mathlib.Core.List.{List}
 use lib.ListN.{length}
-use Rattle.writing.specs.Stored.{Stored}
-use Rattle.writing.proofs.Stores.{stored-length}
+use Rattle.image_writing.specs.Stored.{Stored}
+use Rattle.image_writing.proofs.Stores.{stored-length}
 use Rattle.ownership.specs.Text.{errorLine, pairLine, lines}
 use Rattle.ownership.proofs.Spells.{next-line, no-line}
 use Rattle.ownership.proofs.put_pairs.Statement.{statement}

@@ -3,13 +3,13 @@ use borrow.Author.Needs.{needs}
 use mathlib.Core.Path.{ap, sym}
 use lib.ListN.{length}
 use lib.Seq.{take-length}
-use Rattle.fronts.proofs.Wrotes.{stored-as}
+use Rattle.blocks_laws.proofs.Wrotes.{stored-as}
 use borrow.Author.Needs.{needs}
 use Rattle.ownership.proofs.put_text.Statement.{statement}
 use Rattle.ownership.proofs.put_text.Tie as tie
 use Rattle.ownership.proofs.put_text.Reads as reads
 use Rattle.ownership.proofs.put_text.Lts as lts
-use Rattle.writing.proofs.copy_bytes.Reads as copy-bytes-reads
+use Rattle.image_writing.proofs.copy_bytes.Reads as copy-bytes-reads
 
 -- src/main.rt:64:5
 copy-bytes-requires : tie.Need-copy-bytes-requires

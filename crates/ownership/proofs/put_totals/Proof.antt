@@ -1,5 +1,5 @@
 use native.Mathlib.Omega.{arith}
-use Rattle.writing.proofs.Stores.{both-stored}
+use Rattle.image_writing.proofs.Stores.{both-stored}
 use Rattle.ownership.proofs.Spells.{one-more, no-more}
 use borrow.Author.Needs.{needs}
 use Rattle.ownership.proofs.put_totals.Statement.{statement}

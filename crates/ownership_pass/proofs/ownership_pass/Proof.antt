@@ -40,7 +40,10 @@ same-length-4 c = search needs
 
 -- src/lib.rt:86:1
 returns : tie.Need-returns
-returns c = leaves-refused (c .before .before .before .before .before .before .before .before .before .before .before .before .before .before .before .before .before .before .before .before .before .args .image .now) _ _ (c .before .before .before .before .before .before .before .before .before .before .before .pass .result) (c .before .before .before .before .before .before .before .before .before .before .before .pass .ensures) _ (c .before .before .before .before .before .before .before .before .before .before .before .before .before .before .before .before .before .before .before .before .before .args .totals .now) (c .before .fault .given .1)
+returns c =
+    let at-pass = c .before .before .before .before .before .before .before .before .before .before .before in
+    let start = at-pass .before .before .before .before .before .before .before .before .before .before in
+    leaves-refused (start .args .image .now) _ _ (at-pass .pass .result) (at-pass .pass .ensures) _ (start .args .totals .now) (c .before .fault .given .1)
 
 -- src/lib.rt:86:1
 same-length-5 : tie.Need-same-length-5
@@ -60,7 +63,10 @@ same-length-8 c = search needs
 
 -- src/lib.rt:86:1
 returns-2 : tie.Need-returns-2
-returns-2 c = leaves-accepted (c .before .before .before .before .before .before .before .before .before .before .before .before .before .before .before .before .before .before .before .before .before .before .args .image .now) _ _ (c .before .before .before .before .before .before .before .before .before .before .before .before .pass .result) (c .before .before .before .before .before .before .before .before .before .before .before .before .pass .ensures) _ (c .before .before .before .before .before .before .before .before .before .before .before .before .before .before .before .before .before .before .before .before .before .before .args .totals .now) (c .before .before .t .given .1)
+returns-2 c =
+    let at-pass = c .before .before .before .before .before .before .before .before .before .before .before .before in
+    let start = at-pass .before .before .before .before .before .before .before .before .before .before in
+    leaves-accepted (start .args .image .now) _ _ (at-pass .pass .result) (at-pass .pass .ensures) _ (start .args .totals .now) (c .before .before .t .given .1)
 
 pub ownership-pass-spec : {M : Type 1} → statement M
 ownership-pass-spec =

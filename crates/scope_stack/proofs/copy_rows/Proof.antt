@@ -48,7 +48,7 @@ same-length c = c .before .before .before .before .loop .inv .1 .else .room
 
 -- src/lib.rt:435:17
 returns : tie.Need-returns Inv-loop μ-loop
-returns c = copying-short (c .before .before .before .before .before .before .args .n) (c .before .before .before .before .before .before .args .width) (c .before .before .before .before .before .before .args .kinds .now) (c .before .before .before .before .before .before .args .rows .now) (c .before .before .before .before .before .before .args .src) (c .before .before .before .before .before .before .args .dst) (c .before .before .before .before .before .before .pre) (c .before .before .before .before .loop .i) (c .before .before .before .before .loop .rows) (c .before .before .before .before .loop .inv .1) (c .before .before .before .loop-test .taken) (c .if2 .taken)
+returns c = copying-short (c .before .before .before .before .before .before .args .n) (c .before .before .before .before .before .before .args .width) (c .before .before .before .before .before .before .args .kinds .now) (c .before .before .before .before .before .before .args .rows .now) (c .before .before .before .before .before .before .args .src) (c .before .before .before .before .before .before .args .dst) (c .before .before .before .before .before .before .pre) (c .before .before .before .before .loop .i) (c .before .before .before .before .loop .rows) (c .before .before .before .before .loop .inv .1) (c .before .before .before .loop-test .taken) (c .before .if1 .taken) (c .if2 .taken)
 
 -- src/lib.rt:437:38
 add-read-row : tie.Need-add-read-row Inv-loop μ-loop

@@ -4,7 +4,7 @@ use mathlib.Core.Logic.{⊎-elim, inl, inr}
 use borrow.Author.Needs.{needs}
 use native.Mathlib.Omega.{arith}
 use borrow.Author.Tests.{not-true, not-false, eqb-true}
-use Rattle.fields.proofs.Tests.{false-true}
+use Rattle.image_fields.proofs.Tests.{false-true}
 use Rattle.scope_stack.proofs.differ.Statement.{statement}
 use Rattle.scope_stack.proofs.differ.Tie as tie
 use Rattle.scope_stack.proofs.differ.Reads as reads

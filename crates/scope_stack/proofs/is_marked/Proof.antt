@@ -1,4 +1,4 @@
-use Rattle.state.proofs.Numbers.{not-not}
+use Rattle.scope_state.proofs.Numbers.{not-not}
 use Prim.Native.Nat.{_-_}
 use borrow.Author.Tests.{eq-eqb, ne-eqb}
 use Rattle.scope_stack.proofs.is_marked.Statement.{statement}

@@ -11,7 +11,7 @@ use Rattle.scope_stack.proofs.join_at.Lts as lts
 use Rattle.scope_stack.proofs.load.Reads as load-reads
 use Rattle.scope_stack.proofs.wide.Reads as wide-reads
 use Rattle.scope_stack.proofs.write_row.Reads as write-row-reads
-use Rattle.state.proofs.State.join.Reads as join-reads
+use Rattle.scope_state.proofs.State.join.Reads as join-reads
 
 -- src/lib.rt:378:9
 load-requires : tie.Need-load-requires
@@ -44,8 +44,14 @@ same-length-2 c = search needs
 
 -- src/lib.rt:391:9
 returns-2 : tie.Need-returns-2
-returns-2 c = let j = joins-from (c .before .before .before .before .before .before .before .before .before .before .before .before .args .x) (c .before .before .before .before .before .before .before .before .before .before .before .before .args .y) (c .before .before .before .before .before .before .before .before .before .before .before .before .args .rows .now) (c .before .before .before .before .before .before .before .before .before .before .before .before .args .row) (c .before .before .before .before .before .before .before .before .before .before .before .before .args .more) (c .before .before .before .before .before .before .before .before .before .load .result) (c .before .before .before .before .before .before .before .load2 .result) (c .before .before .before .before .before .before .join .result) (c .before .before .before .before .before .before .before .before .before .load .ensures .0) (c .before .before .before .before .before .before .before .load2 .ensures .0) (c .before .before .before .before .before .before .join .ensures) in
-    joins-over (c .before .before .before .before .before .before .before .before .before .before .before .before .args .width) (c .before .before .before .before .before .before .before .before .before .before .before .before .args .x) (c .before .before .before .before .before .before .before .before .before .before .before .before .args .y) (c .before .before .before .before .before .before .before .before .before .before .before .before .args .rows .now) (c .before .before .before .before .before .before .before .before .before .before .before .before .args .row) (c .before .before .before .before .before .before .before .before .before .before .before .before .args .more) (c .before .before .before .before .before .before .join .result) j (c .before .before .before .before .before .before .before .before .before .before .before .before .pre .2) (not-false _ (c .before .before .before .before .if1 .left)) (omega (arith, c .before .wide .ensures, c .if2 .taken))
+returns-2 c =
+    let at-if1 = c .before .before .before .before in
+    let at-join = at-if1 .before .before in
+    let at-load2 = at-join .before in
+    let at-load = at-load2 .before .before in
+    let start = at-load .before .before .before in
+    let j = joins-from (start .args .x) (start .args .y) (start .args .rows .now) (start .args .row) (start .args .more) (at-load .load .result) (at-load2 .load2 .result) (at-join .join .result) (at-load .load .ensures .0) (at-load2 .load2 .ensures .0) (at-join .join .ensures) in
+    joins-over (start .args .width) (start .args .x) (start .args .y) (start .args .rows .now) (start .args .row) (start .args .more) (at-join .join .result) j (start .pre .2) (not-false _ (at-if1 .if1 .left)) (omega (arith, c .before .wide .ensures, c .if2 .taken))
 
 -- src/lib.rt:396:17
 element-copy-out-first : tie.Need-element-copy-out-first
@@ -57,8 +63,14 @@ same-length-3 c = search needs
 
 -- src/lib.rt:398:9
 returns-3 : tie.Need-returns-3
-returns-3 c = let j = joins-from (c .before .before .before .before .before .before .before .before .before .before .before .before .before .before .args .x) (c .before .before .before .before .before .before .before .before .before .before .before .before .before .before .args .y) (c .before .before .before .before .before .before .before .before .before .before .before .before .before .before .args .rows .now) (c .before .before .before .before .before .before .before .before .before .before .before .before .before .before .args .row) (c .before .before .before .before .before .before .before .before .before .before .before .before .before .before .args .more) (c .before .before .before .before .before .before .before .before .before .before .before .load .result) (c .before .before .before .before .before .before .before .before .before .load2 .result) (c .before .before .before .before .before .before .before .before .join .result) (c .before .before .before .before .before .before .before .before .before .before .before .load .ensures .0) (c .before .before .before .before .before .before .before .before .before .load2 .ensures .0) (c .before .before .before .before .before .before .before .before .join .ensures) in
-    joins-one (c .before .before .before .before .before .before .before .before .before .before .before .before .before .before .args .width) (c .before .before .before .before .before .before .before .before .before .before .before .before .before .before .args .x) (c .before .before .before .before .before .before .before .before .before .before .before .before .before .before .args .y) (c .before .before .before .before .before .before .before .before .before .before .before .before .before .before .args .rows .now) (c .before .before .before .before .before .before .before .before .before .before .before .before .before .before .args .row) (c .before .before .before .before .before .before .before .before .before .before .before .before .before .before .args .more) (c .before .before .before .before .before .before .before .before .join .result) j (c .before .before .before .before .before .before .before .before .before .before .before .before .before .before .pre .2) (not-false _ (c .before .before .before .before .before .before .if1 .left)) (omega (arith, c .before .before .before .wide .ensures, c .before .before .if2 .left)) (omega (arith, c .before .before .before .wide .ensures, c .if3 .taken))
+returns-3 c =
+    let at-if1 = c .before .before .before .before .before .before in
+    let at-join = at-if1 .before .before in
+    let at-load2 = at-join .before in
+    let at-load = at-load2 .before .before in
+    let start = at-load .before .before .before in
+    let j = joins-from (start .args .x) (start .args .y) (start .args .rows .now) (start .args .row) (start .args .more) (at-load .load .result) (at-load2 .load2 .result) (at-join .join .result) (at-load .load .ensures .0) (at-load2 .load2 .ensures .0) (at-join .join .ensures) in
+    joins-one (start .args .width) (start .args .x) (start .args .y) (start .args .rows .now) (start .args .row) (start .args .more) (at-join .join .result) j (start .pre .2) (not-false _ (at-if1 .if1 .left)) (omega (arith, c .before .before .before .wide .ensures, c .before .before .if2 .left)) (omega (arith, c .before .before .before .wide .ensures, c .if3 .taken))
 
 -- src/lib.rt:403:22
 add-if4 : tie.Need-add-if4
@@ -70,16 +82,31 @@ same-length-4 c = search needs
 
 -- src/lib.rt:404:9
 returns-4 : tie.Need-returns-4
-returns-4 c = let j = joins-from (c .before .before .before .before .before .before .before .before .before .before .before .before .before .before .before .args .x) (c .before .before .before .before .before .before .before .before .before .before .before .before .before .before .before .args .y) (c .before .before .before .before .before .before .before .before .before .before .before .before .before .before .before .args .rows .now) (c .before .before .before .before .before .before .before .before .before .before .before .before .before .before .before .args .row) (c .before .before .before .before .before .before .before .before .before .before .before .before .before .before .before .args .more) (c .before .before .before .before .before .before .before .before .before .before .before .before .load .result) (c .before .before .before .before .before .before .before .before .before .before .load2 .result) (c .before .before .before .before .before .before .before .before .before .join .result) (c .before .before .before .before .before .before .before .before .before .before .before .before .load .ensures .0) (c .before .before .before .before .before .before .before .before .before .before .load2 .ensures .0) (c .before .before .before .before .before .before .before .before .before .join .ensures) in
-    joins-short (c .before .before .before .before .before .before .before .before .before .before .before .before .before .before .before .args .width) (c .before .before .before .before .before .before .before .before .before .before .before .before .before .before .before .args .x) (c .before .before .before .before .before .before .before .before .before .before .before .before .before .before .before .args .y) (c .before .before .before .before .before .before .before .before .before .before .before .before .before .before .before .args .rows .now) (c .before .before .before .before .before .before .before .before .before .before .before .before .before .before .before .args .row) (c .before .before .before .before .before .before .before .before .before .before .before .before .before .before .before .args .more) (c .before .before .before .before .before .before .before .before .before .join .result) j (c .before .before .before .before .before .before .before .before .before .before .before .before .before .before .before .pre .2) (not-false _ (c .before .before .before .before .before .before .before .if1 .left)) (omega (arith, c .before .before .before .before .wide .ensures, c .before .before .before .if2 .left)) (c .if4 .taken)
+returns-4 c =
+    let at-wide = c .before .before .before .before in
+    let at-if1 = at-wide .before .before .before in
+    let at-join = at-if1 .before .before in
+    let at-load2 = at-join .before in
+    let at-load = at-load2 .before .before in
+    let start = at-load .before .before .before in
+    let j = joins-from (start .args .x) (start .args .y) (start .args .rows .now) (start .args .row) (start .args .more) (at-load .load .result) (at-load2 .load2 .result) (at-join .join .result) (at-load .load .ensures .0) (at-load2 .load2 .ensures .0) (at-join .join .ensures) in
+    joins-short (start .args .width) (start .args .x) (start .args .y) (start .args .rows .now) (start .args .row) (start .args .more) (at-join .join .result) j (start .pre .2) (not-false _ (at-if1 .if1 .left)) (omega (arith, at-wide .wide .ensures, c .before .before .before .if2 .left)) (c .if4 .taken)
 
 -- src/lib.rt:409:5
 write-row-requires : tie.Need-write-row-requires
-write-row-requires c κs = (c .before .before .before .before .before .before .before .before .before .before .join .ensures .is (not-false _ (c .before .before .before .before .before .before .before .before .if1 .left)) .1 .roomy, omega (arith, c .before .before .before .before .before .wide .ensures, c .before .before .before .before .if2 .left, c .before .if4 .left))
+write-row-requires c κs =
+    let at-if2 = c .before .before .before .before in
+    let at-wide = at-if2 .before in
+    let at-if1 = at-wide .before .before .before in
+    let at-join = at-if1 .before .before in
+    (at-join .join .ensures .is (not-false _ (at-if1 .if1 .left)) .1 .roomy, omega (arith, at-wide .wide .ensures, at-if2 .if2 .left, c .before .if4 .left))
 
 -- src/lib.rt:410:16
 add-kind : tie.Need-add-kind
-add-kind c = omega (arith, c .before .before .before .before .before .before .before .before .before .before .before .before .before .before .join .ensures .is (not-false _ (c .before .before .before .before .before .before .before .before .before .before .before .before .if1 .left)) .1 .known)
+add-kind c =
+    let at-if1 = c .before .before .before .before .before .before .before .before .before .before .before .before in
+    let at-join = at-if1 .before .before in
+    omega (arith, at-join .join .ensures .is (not-false _ (at-if1 .if1 .left)) .1 .known)
 
 -- src/lib.rt:374:1
 same-length-5 : tie.Need-same-length-5
@@ -87,8 +114,18 @@ same-length-5 c = search needs
 
 -- src/lib.rt:374:1
 returns-5 : tie.Need-returns-5
-returns-5 c = let j = joins-from (c .before .before .before .before .before .before .before .before .before .before .before .before .before .before .before .before .before .before .before .before .args .x) (c .before .before .before .before .before .before .before .before .before .before .before .before .before .before .before .before .before .before .before .before .args .y) (c .before .before .before .before .before .before .before .before .before .before .before .before .before .before .before .before .before .before .before .before .args .rows .now) (c .before .before .before .before .before .before .before .before .before .before .before .before .before .before .before .before .before .before .before .before .args .row) (c .before .before .before .before .before .before .before .before .before .before .before .before .before .before .before .before .before .before .before .before .args .more) (c .before .before .before .before .before .before .before .before .before .before .before .before .before .before .before .before .before .load .result) (c .before .before .before .before .before .before .before .before .before .before .before .before .before .before .before .load2 .result) (c .before .before .before .before .before .before .before .before .before .before .before .before .before .before .join .result) (c .before .before .before .before .before .before .before .before .before .before .before .before .before .before .before .before .before .load .ensures .0) (c .before .before .before .before .before .before .before .before .before .before .before .before .before .before .before .load2 .ensures .0) (c .before .before .before .before .before .before .before .before .before .before .before .before .before .before .join .ensures) in
-    joins-many (c .before .before .before .before .before .before .before .before .before .before .before .before .before .before .before .before .before .before .before .before .args .width) (c .before .before .before .before .before .before .before .before .before .before .before .before .before .before .before .before .before .before .before .before .args .x) (c .before .before .before .before .before .before .before .before .before .before .before .before .before .before .before .before .before .before .before .before .args .y) (c .before .before .before .before .before .before .before .before .before .before .before .before .before .before .before .before .before .before .before .before .args .rows .now) (c .before .before .before .before .before .before .before .before .before .before .before .before .before .before .before .before .before .before .before .before .args .row) (c .before .before .before .before .before .before .before .before .before .before .before .before .before .before .before .before .before .before .before .before .args .more) (c .before .before .before .before .before .before .before .before .before .before .before .before .before .before .join .result) j (c .before .before .before .before .before .before .before .before .before .before .before .before .before .before .before .before .before .before .before .before .pre .2) (not-false _ (c .before .before .before .before .before .before .before .before .before .before .before .before .if1 .left)) (omega (arith, c .before .before .before .before .before .before .before .before .before .wide .ensures, c .before .before .before .before .before .before .before .before .if2 .left)) _ _ (omega (arith, c .before .before .before .before .before .before .before .before .before .wide .ensures, c .before .before .before .before .before .before .if3 .left)) (c .before .before .before .before .before .if4 .left) (c .before .before .before .write-row .ensures)
+returns-5 c =
+    let at-if4 = c .before .before .before .before .before in
+    let at-if3 = at-if4 .before in
+    let at-if2 = at-if3 .before .before in
+    let at-wide = at-if2 .before in
+    let at-if1 = at-wide .before .before .before in
+    let at-join = at-if1 .before .before in
+    let at-load2 = at-join .before in
+    let at-load = at-load2 .before .before in
+    let start = at-load .before .before .before in
+    let j = joins-from (start .args .x) (start .args .y) (start .args .rows .now) (start .args .row) (start .args .more) (at-load .load .result) (at-load2 .load2 .result) (at-join .join .result) (at-load .load .ensures .0) (at-load2 .load2 .ensures .0) (at-join .join .ensures) in
+    joins-many (start .args .width) (start .args .x) (start .args .y) (start .args .rows .now) (start .args .row) (start .args .more) (at-join .join .result) j (start .pre .2) (not-false _ (at-if1 .if1 .left)) (omega (arith, at-wide .wide .ensures, at-if2 .if2 .left)) _ _ (omega (arith, at-wide .wide .ensures, at-if3 .if3 .left)) (at-if4 .if4 .left) (c .before .before .before .write-row .ensures)
 
 pub join-at-spec : {M : Type 1} → statement M
 join-at-spec =

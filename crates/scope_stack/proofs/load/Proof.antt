@@ -3,7 +3,7 @@ use Prim.Native.Nat.{ℕ, _≤_, _<_, _+_, _-_}
 use mathlib.Core.Path.{_≡_, refl, sym, ap, _∙_}
 use mathlib.Core.Logic.{⊎-elim, inl, inr}
 use native.Mathlib.Omega.{arith}
-use Rattle.state.specs.Kinds.{said}
+use Rattle.scope_state.specs.Kinds.{said}
 use Rattle.scope_stack.proofs.Marked.{said-one, said-row}
 use Rattle.scope_stack.proofs.Rowing.{made-row, nine-up, positive}
 use borrow.Author.Needs.{needs}
@@ -12,8 +12,8 @@ use Rattle.scope_stack.proofs.load.Tie as tie
 use Rattle.scope_stack.proofs.load.Reads as reads
 use Rattle.scope_stack.proofs.load.Lts as lts
 use Rattle.scope_stack.proofs.read_row.Reads as read-row-reads
-use Rattle.state.proofs.State.alive.Reads as alive-reads
-use Rattle.state.proofs.State.at.Reads as at-reads
+use Rattle.scope_state.proofs.State.alive.Reads as alive-reads
+use Rattle.scope_state.proofs.State.at.Reads as at-reads
 
 -- src/lib.rt:344:9
 alive-requires : tie.Need-alive-requires

@@ -5,7 +5,7 @@ use borrow.Author.Needs.{needs}
 use native.Mathlib.Omega.{arith}
 use mathlib.Core.Bool.{Bool}
 use lib.Pow.{pow-pos}
-use Rattle.fields.proofs.Tests.{false-true}
+use Rattle.image_fields.proofs.Tests.{false-true}
 use Rattle.scope_stack.specs.Word.{wordOf}
 use Rattle.scope_stack.proofs.Revived.{Looked, looked-none, looked-more, looked-all}
 use Rattle.scope_stack.proofs.needs_revival.Statement.{statement}

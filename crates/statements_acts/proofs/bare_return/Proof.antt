@@ -1,58 +1,89 @@
+use Rattle.image_fields.specs.Bytes.{Bytes}
 use Rattle.statements_acts.proofs.Ends.{bare-ends}
-use Rattle.statements.proofs.Acts.{room-of, none-put-is, listed-is, bare-reach, bare-grows, bare-acts}
+use Rattle.statements_acts.proofs.Acts.{room-of, none-put-is, listed-is, bare-reach, bare-grows, bare-acts}
 use Rattle.statements_acts.specs.Marks.{lent}
-use denote.Ref.{now}
 use native.Mathlib.Omega.{arith}
 use borrow.Author.Needs.{needs}
 use Rattle.statements_acts.proofs.bare_return.Statement.{statement}
 use Rattle.statements_acts.proofs.bare_return.Tie as tie
 use Rattle.statements_acts.proofs.bare_return.Reads as reads
 use Rattle.statements_acts.proofs.bare_return.Lts as lts
-use Rattle.effects.proofs.span_at.Reads as span-at-reads
+use Rattle.expressions_effects.proofs.span_at.Reads as span-at-reads
 use Rattle.statements_acts.proofs.list_left.Reads as list-left-reads
 use Rattle.statements_acts.proofs.listed.Reads as listed-reads
-use Rattle.statements.proofs.behind.Reads as behind-reads
-use Rattle.statements.proofs.nothing_put.Reads as nothing-put-reads
+use Rattle.statements_acts.proofs.behind.Reads as behind-reads
+use Rattle.statements_acts.proofs.nothing_put.Reads as nothing-put-reads
 
--- src/lib.rt:198:27
+-- src/lib.rt:547:27
 add-span-at : tie.Need-add-span-at
 add-span-at c = search needs
 
--- src/lib.rt:198:9
+-- src/lib.rt:547:9
 span-at-requires : tie.Need-span-at-requires
 span-at-requires c κs = search needs
 
--- src/lib.rt:199:9
+-- src/lib.rt:548:9
 list-left-requires : tie.Need-list-left-requires
 list-left-requires c κs = search needs
 
--- src/lib.rt:202:9
+-- src/lib.rt:549:27
 listed-requires : tie.Need-listed-requires
 listed-requires c κs = search needs
 
--- src/lib.rt:203:9
+-- src/lib.rt:549:44
 nothing-put-requires : tie.Need-nothing-put-requires
 nothing-put-requires c κs = search needs
 
--- src/lib.rt:204:9
+-- src/lib.rt:549:60
 add-behind : tie.Need-add-behind
-add-behind c = let w = room-of (c .before .before .before .before .before .before .before .before .before .before .before .before .pre .0) in omega arith
+add-behind c =
+    let start = c .before .before .before .before .before .before .before .before .before .before .before .before in
+    let w = room-of (start .pre .0) in omega arith
 
--- src/lib.rt:200:9
+-- src/lib.rt:549:9
 behind-requires : tie.Need-behind-requires
-behind-requires c κs = let w = room-of (c .before .before .before .before .before .before .before .before .before .before .before .before .before .pre .0) in let e = none-put-is (c .before .before .before .before .before .before .before .before .before .before .before .before .before .args .p) (c .before .before .nothing-put .ensures) in let l = listed-is (c .before .before .before .before .before .before .before .before .before .before .before .before .before .args .p) (c .before .before .before .listed .ensures) in let b = bare-reach (now (c .before .before .before .before .before .before .before .before .before .before .before .before .before .args .s)) (λ k. omega (arith, c .before .before .before .before .before .before .before .before .before .before .before .before .shared-slice-known .given k)) (c .before .before .before .before .before .before .before .before .before .before .before .before .before .args .p) (c .before .before .before .before .before .before .before .before .before .before .before .before .before .pre .1) (c .before .before .before .before .before .before .before .before .before .before .before .before .before .pre .2) (c .before .before .before .before .before .before .before .before .before .before .before .before .before .pre .3) in (omega arith, b, w .0, omega arith, omega arith)
+behind-requires c κs =
+    let at-shared-slice-known = c .before .before .before .before .before .before .before .before .before .before .before .before in
+    let start = at-shared-slice-known .before in
+    let a = start .args in
+    let small : Bytes (a .s .now) = λ k. omega (arith, at-shared-slice-known .shared-slice-known .given k) in
+    let q = start .pre in
+    let w = room-of (q .0) in
+    let e = none-put-is (a .p) (c .before .before .nothing-put .ensures) in
+    let l = listed-is (a .p) (c .before .before .before .listed .ensures) in
+    let v = bare-reach (a .s .now) small (a .p) (q .1) (q .2) (q .3) in
+    (omega arith, v, w .0, omega arith, omega arith)
 
--- src/lib.rt:185:1
+-- src/lib.rt:534:1
 same-length : tie.Need-same-length
 same-length c = search needs
 
--- src/lib.rt:185:1
+-- src/lib.rt:534:1
 same-length-2 : tie.Need-same-length-2
 same-length-2 c = search needs
 
--- src/lib.rt:185:1
+-- src/lib.rt:534:1
 returns : tie.Need-returns
-returns c = (λ T lt ld g n e. bare-acts (now (c .before .before .before .before .before .before .before .before .before .before .before .before .before .before .before .before .args .s)) (λ k. omega (arith, c .before .before .before .before .before .before .before .before .before .before .before .before .before .before .before .shared-slice-known .given k)) (c .before .before .before .before .before .before .before .before .before .before .before .before .before .before .before .before .args .p) (c .before .before .before .before .before .before .before .before .before .before .before .before .before .before .before .before .pre .1) (c .before .before .before .before .before .before .before .before .before .before .before .before .before .before .before .before .pre .2) (c .before .before .before .before .before .before .before .before .before .before .before .before .before .before .before .before .pre .3) (c .before .before .before .before .before .before .before .before .before .list-left .result) (c .before .before .before .before .before .before .listed .result) (c .before .before .before .before .before .before .listed .ensures) (c .before .before .before .before .before .nothing-put .result) (c .before .before .before .before .before .nothing-put .ensures) (c .before .before .behind .result) (c .before .before .behind .ensures) T (lent (c .before .before .before .before .before .before .before .before .before .before .before .before .before .before .before .before .args .ln .now) lt ld g n) (c .before .before .before .before .before .before .before .before .before .before .before .span-at .result) (c .before .before .before .before .before .before .before .before .before .before .before .span-at .ensures) (c .before .before .before .before .before .before .before .before .before .list-left .ensures .1 T lt ld g n e), (bare-grows (now (c .before .before .before .before .before .before .before .before .before .before .before .before .before .before .before .before .args .s)) (λ k. omega (arith, c .before .before .before .before .before .before .before .before .before .before .before .before .before .before .before .shared-slice-known .given k)) (c .before .before .before .before .before .before .before .before .before .before .before .before .before .before .before .before .args .p) (c .before .before .before .before .before .before .before .before .before .before .before .before .before .before .before .before .pre .1) (c .before .before .before .before .before .before .before .before .before .before .before .before .before .before .before .before .pre .2) (c .before .before .before .before .before .before .before .before .before .before .before .before .before .before .before .before .pre .3) (c .before .before .before .before .before .before .before .before .before .list-left .result) (c .before .before .before .before .before .before .listed .result) (c .before .before .before .before .before .before .listed .ensures) (c .before .before .before .before .before .nothing-put .result) (c .before .before .before .before .before .nothing-put .ensures) (c .before .before .behind .result) (c .before .before .behind .ensures) (c .before .before .before .before .before .before .before .before .before .list-left .ensures .0), bare-ends (now (c .before .before .before .before .before .before .before .before .before .before .before .before .before .before .before .before .args .s)) (λ k. omega (arith, c .before .before .before .before .before .before .before .before .before .before .before .before .before .before .before .shared-slice-known .given k)) (c .before .before .before .before .before .before .before .before .before .before .before .before .before .before .before .before .args .p) (c .before .before .before .before .before .before .before .before .before .before .before .before .before .before .before .before .pre .2) (c .before .before .before .before .before .before .before .before .before .before .before .before .before .before .before .before .pre .3) (c .before .before .behind .result) (c .before .before .behind .ensures .at)))
+returns c =
+    let at-nothing-put = c .before .before .before .before .before in
+    let at-listed = at-nothing-put .before in
+    let at-list-left = at-listed .before .before .before in
+    let at-span-at = at-list-left .before .before in
+    let at-shared-slice-known = at-span-at .before .before .before .before in
+    let start = at-shared-slice-known .before in
+    let a = start .args in
+    let small : Bytes (a .s .now) = λ k. omega (arith, at-shared-slice-known .shared-slice-known .given k) in
+    let q = start .pre in
+    let wrote = c .before .before .behind in
+    let none = at-nothing-put .nothing-put in
+    let place = at-listed .listed in
+    let left = at-list-left .list-left in (
+      λ T lt ld g n e. bare-acts (a .s .now) small (a .p) (q .1) (q .2) (q .3) (left .result) (place .result) (place .ensures) (none .result) (none .ensures) (wrote .result) (wrote .ensures) T (lent (a .ln .now) lt ld g n) (at-span-at .span-at .result) (at-span-at .span-at .ensures) (left .ensures .1 T lt ld g n e),
+      (
+        bare-grows (a .s .now) small (a .p) (q .1) (q .2) (q .3) (left .result) (place .result) (place .ensures) (none .result) (none .ensures) (wrote .result) (wrote .ensures) (left .ensures .0),
+        bare-ends (a .s .now) small (a .p) (q .2) (q .3) (wrote .result) (wrote .ensures .at),
+      ),
+    )
 
 pub bare-return-spec : {M : Type 1} → statement M
 bare-return-spec =

@@ -1,6 +1,6 @@
-use Rattle.statements.proofs.Acts.{drop-none, drop-ident}
-use Rattle.statements.proofs.Views.{ident-at, ident-in, no-ident-at}
-use Rattle.drops.proofs.Laws.{none-put}
+use Rattle.statements_acts.proofs.Acts.{drop-none, drop-ident}
+use Rattle.statements_acts.proofs.Views.{ident-at, ident-in, no-ident-at}
+use Rattle.statements_acts.proofs.Laws.{none-put}
 use Rattle.statements_acts.specs.Marks.{lent}
 use denote.Ref.{now}
 use native.Mathlib.Omega.{arith}
@@ -9,45 +9,55 @@ use Rattle.statements_acts.proofs.pre_delete_before_assign.Statement.{s
 use Rattle.statements_acts.proofs.pre_delete_before_assign.Tie as tie
 use Rattle.statements_acts.proofs.pre_delete_before_assign.Reads as reads
 use Rattle.statements_acts.proofs.pre_delete_before_assign.Lts as lts
-use Rattle.body.proofs.node_at.Reads as node-at-reads
-use Rattle.body.proofs.strip_noop_unary.Reads as strip-noop-unary-reads
-use Rattle.effects.proofs.name_at.Reads as name-at-reads
+use Rattle.image_body.proofs.node_at.Reads as node-at-reads
+use Rattle.image_body.proofs.strip_noop_unary.Reads as strip-noop-unary-reads
+use Rattle.expressions_effects.proofs.name_at.Reads as name-at-reads
 use Rattle.statements_acts.proofs.put_assign_drop.Reads as put-assign-drop-reads
 
--- src/lib.rt:255:9
+-- src/lib.rt:598:9
 strip-noop-unary-requires : tie.Need-strip-noop-unary-requires
 strip-noop-unary-requires c κs = search needs
 
--- src/lib.rt:256:26
+-- src/lib.rt:599:26
 node-at-requires : tie.Need-node-at-requires
 node-at-requires c κs = search needs
 
 enum-told : tie.Need-enum-told
 enum-told c = search needs
 
--- src/lib.rt:257:9
+-- src/lib.rt:600:9
 returns : tie.Need-returns
-returns c = (omega arith, omega arith, λ T ld g m e next z. none-put _ _ _ (drop-none T (lent (c .before .before .before .before .before .args .ln .now) (c .before .before .before .before .before .args .lt .now) ld g (c .before .before .before .before .before .args .n)) _ e (no-ident-at (now (c .before .before .before .before .before .args .s)) (c .before .before .before .before .before .args .destination) _ (c .before .before .strip-noop-unary .ensures) (c .before .node-at .ensures) (c .match .keys2) e next z)))
+returns c =
+    let a = c .before .before .before .before .before .args in
+    (omega arith, omega arith, λ T ld g m e next z. none-put _ _ _ (drop-none T (lent (a .ln .now) (a .lt .now) ld g (a .n)) _ e (no-ident-at (a .s .now) (a .destination) _ (c .before .before .strip-noop-unary .ensures) (c .before .node-at .ensures) (c .match .keys2) e next z)))
 
--- src/lib.rt:259:27
+-- src/lib.rt:602:27
 add-name-at : tie.Need-add-name-at
 add-name-at c = let i = ident-in (now (c .before .before .before .before .before .before .args .s)) (c .before .before .before .before .before .before .args .destination) _ (c .before .before .before .strip-noop-unary .ensures) (c .before .before .node-at .ensures) (c .enum-told .given .1) in omega arith
 
--- src/lib.rt:259:9
+-- src/lib.rt:602:9
 name-at-requires : tie.Need-name-at-requires
 name-at-requires c κs = let i = ident-in (now (c .before .before .before .before .before .before .args .s)) (c .before .before .before .before .before .before .args .destination) _ (c .before .before .before .strip-noop-unary .ensures) (c .before .before .node-at .ensures) (c .enum-told .given .1) in omega arith
 
--- src/lib.rt:260:5
+-- src/lib.rt:603:5
 put-assign-drop-requires : tie.Need-put-assign-drop-requires
 put-assign-drop-requires c κs = search needs
 
--- src/lib.rt:238:1
+-- src/lib.rt:581:1
 same-length : tie.Need-same-length
 same-length c = search needs
 
--- src/lib.rt:238:1
+-- src/lib.rt:581:1
 returns-2 : tie.Need-returns-2
-returns-2 c = (c .before .before .put-assign-drop .ensures .0, c .before .before .put-assign-drop .ensures .1, λ T ld g m e next z. drop-ident T (lent (c .before .before .before .before .before .before .before .before .before .before .before .args .ln .now) (c .before .before .before .before .before .before .before .before .before .before .before .args .lt .now) ld g (c .before .before .before .before .before .before .before .before .before .before .before .args .n)) _ e (ident-at (now (c .before .before .before .before .before .before .before .before .before .before .before .args .s)) (c .before .before .before .before .before .before .before .before .before .before .before .args .destination) _ (c .before .before .before .before .before .before .before .before .strip-noop-unary .ensures) (c .before .before .before .before .before .before .before .node-at .ensures) (c .before .before .before .before .before .enum-told .given .1) e next z) (c .before .before .before .before .name-at .ensures) (c .before .before .put-assign-drop .ensures .2 T ld g m))
+returns-2 c =
+    let at-name-at = c .before .before .before .before in
+    let at-enum-told = at-name-at .before in
+    let at-node-at = at-enum-told .before .before in
+    let at-strip-noop-unary = at-node-at .before in
+    let start = at-strip-noop-unary .before .before .before in
+    let a = start .args in
+    let put = c .before .before .put-assign-drop in
+    (put .ensures .0, put .ensures .1, λ T ld g m e next z. drop-ident T (lent (a .ln .now) (a .lt .now) ld g (a .n)) _ e (ident-at (a .s .now) (a .destination) _ (at-strip-noop-unary .strip-noop-unary .ensures) (at-node-at .node-at .ensures) (at-enum-told .enum-told .given .1) e next z) (at-name-at .name-at .ensures) (put .ensures .2 T ld g m))
 
 pub pre-delete-before-assign-spec : {M : Type 1} → statement M
 pre-delete-before-assign-spec =

@@ -1,14 +1,12 @@
-use Rattle.statements_acts.proofs.Dropped.{localsOf, found-below, assign-none, assign-kept, assign-drop}
+use Rattle.statements_acts.proofs.Dropped.{assign-none, assign-kept, assign-drop}
+use Rattle.statements_acts.proofs.Lent.{found-below}
 use Rattle.statements_acts.specs.Marks.{dropIn}
-use Rattle.drops.proofs.Laws.{none-put, one-put}
-use Rattle.writing.proofs.Stores.{delete-length}
-use Rattle.rules.specs.State.{alive}
-use lib.ListN.{getD}
+use Rattle.statements_acts.proofs.Laws.{none-put, one-put}
+use Rattle.image_writing.proofs.Stores.{delete-length}
 use native.Mathlib.Omega.{arith}
-use mathlib.Core.Path.{_≡_, refl, sym, ap, _∙_}
+use mathlib.Core.Path.{_≡_, sym, ap, _∙_}
 use borrow.Author.Tests.{not-true, not-false}
-use mathlib.Core.List.{List, []}
-use Prim.Native.Nat.{ℕ, _+_, _<_}
+use Prim.Native.Nat.{ℕ, _+_}
 use borrow.Author.Needs.{needs}
 use Rattle.statements_acts.proofs.put_assign_drop.Statement.{statement}
 use Rattle.statements_acts.proofs.put_assign_drop.Tie as tie
@@ -16,57 +14,81 @@ use Rattle.statements_acts.proofs.put_assign_drop.Reads as reads
 use Rattle.statements_acts.proofs.put_assign_drop.Lts as lts
 use Rattle.scope_stack.proofs.find_local.Reads as find-local-reads
 use Rattle.scope_stack.proofs.has_bit.Reads as has-bit-reads
-use Rattle.writing.proofs.put_delete.Reads as put-delete-reads
+use Rattle.image_writing.proofs.put_delete.Reads as put-delete-reads
 
--- src/lib.rt:122:24
+-- src/lib.rt:471:24
 find-local-requires : tie.Need-find-local-requires
 find-local-requires c κs = search needs
 
--- src/lib.rt:122:19
+-- src/lib.rt:471:19
 enum-known-i : tie.Need-enum-known-i
 enum-known-i c = search needs
 
--- src/lib.rt:123:9
+-- src/lib.rt:472:9
 enum-told : tie.Need-enum-told
 enum-told c = search needs
 
--- src/lib.rt:123:9
+-- src/lib.rt:472:9
 returns : tie.Need-returns
-returns c = (omega arith, omega arith, λ T depths g e. none-put _ _ _ (assign-none T (c .before .before .before .before .args .names .now) (c .before .before .before .before .args .tys .now) depths g (c .before .before .before .before .args .count) (c .before .before .before .before .args .span) (c .before .before .before .before .args .name) 0 _ (c .before .before .find-local .ensures (localsOf (c .before .before .before .before .args .names .now) (c .before .before .before .before .args .tys .now) depths (c .before .before .before .before .args .count)) g refl refl) (c .enum-told .given .1)))
+returns c =
+    let a = c .before .before .before .before .args in
+    (omega arith, omega arith, λ T depths g e. none-put _ _ _ (assign-none T (a .names .now) (a .tys .now) depths g (a .count) (a .span) (a .name) 0 _ (c .before .before .find-local .ensures) (c .enum-told .given .1)))
 
--- src/lib.rt:125:9
+-- src/lib.rt:474:9
 has-bit-requires : tie.Need-has-bit-requires
-has-bit-requires c κs = let lt = found-below _ _ _ (c .before .before .before .find-local .ensures (localsOf (c .before .before .before .before .before .args .names .now) [] [] (c .before .before .before .before .before .args .count)) (λ i. alive) refl refl .below) (c .before .i .given .1) in omega (arith, lt, c .before .before .before .before .before .pre .0)
+has-bit-requires c κs =
+    let a = c .before .before .before .before .before .args in
+    let lt = found-below (a .names .now) (a .count) _ (c .before .before .before .find-local .ensures) (c .before .i .given .1) in
+    omega (arith, lt, c .before .before .before .before .before .pre .0)
 
--- src/lib.rt:126:9
+-- src/lib.rt:475:9
 returns-2 : tie.Need-returns-2
-returns-2 c = (omega arith, omega arith, λ T depths g e. let lt = found-below _ _ _ (c .before .before .before .before .before .find-local .ensures (localsOf (c .before .before .before .before .before .before .before .args .names .now) [] [] (c .before .before .before .before .before .before .before .args .count)) (λ i. alive) refl refl .below) (c .before .before .before .i .given .1) in none-put _ _ _ (assign-kept T (c .before .before .before .before .before .before .before .args .names .now) (c .before .before .before .before .before .before .before .args .tys .now) depths g (c .before .before .before .before .before .before .before .args .count) (c .before .before .before .before .before .before .before .args .span) (c .before .before .before .before .before .before .before .args .name) 0 _ (c .before .before .before .before .before .find-local .ensures (localsOf (c .before .before .before .before .before .before .before .args .names .now) (c .before .before .before .before .before .before .before .args .tys .now) depths (c .before .before .before .before .before .before .before .args .count)) g refl refl) (c .before .before .before .i .given .0 .0) (c .before .before .before .i .given .1) (sym (c .before .has-bit .ensures (c .before .before .before .before .before .before .before .args .count) (dropIn T (c .before .before .before .before .before .before .before .args .tys .now) g) (c .before .before .before .before .before .before .before .pre .0) lt e) ∙ not-true _ (c .if1 .taken))))
+returns-2 c =
+    let a = c .before .before .before .before .before .before .before .args in
+    let lt = found-below (a .names .now) (a .count) _ (c .before .before .before .before .before .find-local .ensures) (c .before .before .before .i .given .1) in (
+      omega arith,
+      omega arith,
+      λ T depths g e. none-put _ _ _ (assign-kept T (a .names .now) (a .tys .now) depths g (a .count) (a .span) (a .name) 0 _ (c .before .before .before .before .before .find-local .ensures) (c .before .before .before .i .given .0 .0) (c .before .before .before .i .given .1)
+          (sym (c .before .has-bit .ensures (a .count) (dropIn T (a .tys .now) g) (c .before .before .before .before .before .before .before .pre .0) lt e) ∙ not-true _ (c .if1 .taken))),
+    )
 
--- src/lib.rt:128:56
+-- src/lib.rt:477:56
 mul-put-delete : tie.Need-mul-put-delete
-mul-put-delete c = let lt = found-below _ _ _ (c .before .before .before .before .before .before .find-local .ensures (localsOf (c .before .before .before .before .before .before .before .before .args .names .now) [] [] (c .before .before .before .before .before .before .before .before .args .count)) (λ i. alive) refl refl .below) (c .before .before .before .before .i .given .1) in omega (arith, lt, c .before .before .before .before .before .before .before .before .pre .0)
+mul-put-delete c =
+    let a = c .before .before .before .before .before .before .before .before .args in
+    let lt = found-below (a .names .now) (a .count) _ (c .before .before .before .before .before .before .find-local .ensures) (c .before .before .before .before .i .given .1) in
+    omega (arith, lt, c .before .before .before .before .before .before .before .before .pre .0)
 
--- src/lib.rt:128:56
+-- src/lib.rt:477:56
 element-copy-out-put-delete : tie.Need-element-copy-out-put-delete
-element-copy-out-put-delete c = let lt = found-below _ _ _ (c .before .before .before .before .before .before .find-local .ensures (localsOf (c .before .before .before .before .before .before .before .before .args .names .now) [] [] (c .before .before .before .before .before .before .before .before .args .count)) (λ i. alive) refl refl .below) (c .before .before .before .before .i .given .1) in omega (arith, lt, c .before .before .before .before .before .before .before .before .pre .0)
+element-copy-out-put-delete c =
+    let a = c .before .before .before .before .before .before .before .before .args in
+    let lt = found-below (a .names .now) (a .count) _ (c .before .before .before .before .before .before .find-local .ensures) (c .before .before .before .before .i .given .1) in
+    omega (arith, lt, c .before .before .before .before .before .before .before .before .pre .0)
 
--- src/lib.rt:128:9
+-- src/lib.rt:477:9
 put-delete-requires : tie.Need-put-delete-requires
 put-delete-requires c κs = search needs
 
--- src/lib.rt:107:1
+-- src/lib.rt:456:1
 same-length : tie.Need-same-length
 same-length c = search needs
 
--- src/lib.rt:107:1
+-- src/lib.rt:456:1
 returns-3 : tie.Need-returns-3
 returns-3 c =
-    let i = c .before .before .before .before .before .before .before .before .i .given .0 .0 in
-    let l : c .before .before .put-delete .result ≡ c .before .before .before .before .before .before .before .before .before .before .before .before .args .at + 21 = c .before .before .put-delete .ensures .place ∙ ap (λ (k : ℕ). c .before .before .before .before .before .before .before .before .before .before .before .before .args .at + k) (delete-length _ _ _) in
-    let lt = found-below _ _ _ (c .before .before .before .before .before .before .before .before .before .before .find-local .ensures (localsOf (c .before .before .before .before .before .before .before .before .before .before .before .before .args .names .now) [] [] (c .before .before .before .before .before .before .before .before .before .before .before .before .args .count)) (λ i. alive) refl refl .below) (c .before .before .before .before .before .before .before .before .i .given .1) in (
+    let at-if1 = c .before .before .before .before .before in
+    let at-has-bit = at-if1 .before in
+    let at-i = at-has-bit .before .before in
+    let at-find-local = at-i .before .before in
+    let start = at-find-local .before .before in
+    let a = start .args in
+    let l : c .before .before .put-delete .result ≡ a .at + 21 = c .before .before .put-delete .ensures .place ∙ ap (λ (k : ℕ). a .at + k) (delete-length _ _ _) in
+    let lt = found-below (a .names .now) (a .count) _ (at-find-local .find-local .ensures) (at-i .i .given .1) in (
       omega (arith, l),
       omega arith,
-      λ T depths g e. one-put _ _ _ _ _ _ _ _ (assign-drop T (c .before .before .before .before .before .before .before .before .before .before .before .before .args .names .now) (c .before .before .before .before .before .before .before .before .before .before .before .before .args .tys .now) depths g (c .before .before .before .before .before .before .before .before .before .before .before .before .args .count) (c .before .before .before .before .before .before .before .before .before .before .before .before .args .span) (c .before .before .before .before .before .before .before .before .before .before .before .before .args .name) 0 _ (c .before .before .before .before .before .before .before .before .before .before .find-local .ensures (localsOf (c .before .before .before .before .before .before .before .before .before .before .before .before .args .names .now) (c .before .before .before .before .before .before .before .before .before .before .before .before .args .tys .now) depths (c .before .before .before .before .before .before .before .before .before .before .before .before .args .count)) g refl refl) i (c .before .before .before .before .before .before .before .before .i .given .1) (sym (c .before .before .before .before .before .before .has-bit .ensures (c .before .before .before .before .before .before .before .before .before .before .before .before .args .count) (dropIn T (c .before .before .before .before .before .before .before .before .before .before .before .before .args .tys .now) g) (c .before .before .before .before .before .before .before .before .before .before .before .before .pre .0) lt e) ∙ not-false _ (c .before .before .before .before .before .if1 .left))) (c .before .before .put-delete .ensures),
+      λ T depths g e. one-put _ _ _ _ _ _ _ _ (assign-drop T (a .names .now) (a .tys .now) depths g (a .count) (a .span) (a .name) 0 _ (at-find-local .find-local .ensures) (at-i .i .given .0 .0) (at-i .i .given .1)
+          (sym (at-has-bit .has-bit .ensures (a .count) (dropIn T (a .tys .now) g) (start .pre .0) lt e) ∙ not-false _ (at-if1 .if1 .left))) (c .before .before .put-delete .ensures),
     )
 
 pub put-assign-drop-spec : {M : Type 1} → statement M

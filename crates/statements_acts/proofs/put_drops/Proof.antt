@@ -1,17 +1,17 @@
 use borrow.Author.Needs.{needs}
 use Rattle.statements_acts.proofs.Dropped.{Bounded, bounded-none, bounded-more, bounded-one, Left, left-all, left-skip, left-put, left-none}
 use Rattle.statements_acts.specs.Marks.{staticIn, Marked}
-use Rattle.drops.specs.Drops.{admitted, deleteBytes}
-use Rattle.writing.proofs.Stores.{delete-length}
+use Rattle.statements_steps.specs.Drops.{deleteBytes}
+use Rattle.statements_acts.specs.Drops.{admitted}
+use Rattle.image_writing.proofs.Stores.{delete-length}
 use Rattle.rules.specs.State.{State as Status}
 use Rattle.tables.specs.Tables.{Tables}
 use lib.Pow.{pow-pos}
-use lib.ListN.{length, getD}
+use lib.ListN.{length}
 use native.Mathlib.Omega.{arith}
 use mathlib.Core.Logic.{⊎-elim}
-use mathlib.Core.List.{List}
 use mathlib.Core.Path.{_≡_, refl, sym, ap, _∙_}
-use Prim.Native.Nat.{ℕ, _+_, _≤_, _<_}
+use Prim.Native.Nat.{ℕ, _+_}
 use Rattle.statements_acts.proofs.put_drops.Statement.{statement}
 use Rattle.statements_acts.proofs.put_drops.Tie as tie
 use Rattle.statements_acts.proofs.put_drops.Reads as reads
@@ -19,7 +19,7 @@ use Rattle.statements_acts.proofs.put_drops.Lts as lts
 use Rattle.statements_acts.proofs.admits.Reads as admits-reads
 use Rattle.scope_stack.proofs.newest.Reads as newest-reads
 use Rattle.scope_stack.proofs.without.Reads as without-reads
-use Rattle.writing.proofs.put_delete.Reads as put-delete-reads
+use Rattle.image_writing.proofs.put_delete.Reads as put-delete-reads
 
 abbrev Inv-loop : tie.InvT-loop
 Inv-loop names tys depths mark which span out₀ at m₀ place₀ put₀ out m place put =
@@ -29,55 +29,62 @@ Inv-loop names tys depths mark which span out₀ at m₀ place₀ put₀ out m p
 abbrev μ-loop : tie.MeasureT-loop
 μ-loop names tys depths mark which span out₀ at m₀ place₀ put₀ out m place put = m
 
--- src/lib.rt:75:5
+-- src/lib.rt:424:5
 loop-holds : tie.Need-loop-holds Inv-loop μ-loop
 loop-holds c = (refl, bounded-none _ _ (c .before .fits .mark .fits), λ T g n e. left-all T _ _ _ g _ _ deleteBytes _ _ n _ e)
 
--- src/lib.rt:76:13
+-- src/lib.rt:425:13
 newest-requires : tie.Need-newest-requires Inv-loop μ-loop
 newest-requires c κs = search needs
 
--- src/lib.rt:77:20
+-- src/lib.rt:426:20
 mul-name : tie.Need-mul-name Inv-loop μ-loop
 mul-name c = omega (arith, c .newest .ensures .0 .small)
 
--- src/lib.rt:77:20
+-- src/lib.rt:426:20
 element-copy-out-name : tie.Need-element-copy-out-name Inv-loop μ-loop
 element-copy-out-name c = c .newest .ensures .0 .small
 
--- src/lib.rt:78:32
+-- src/lib.rt:427:32
 element-copy-out-admits : tie.Need-element-copy-out-admits Inv-loop μ-loop
 element-copy-out-admits c = c .before .newest .ensures .0 .small
 
--- src/lib.rt:78:12
+-- src/lib.rt:427:12
 admits-requires : tie.Need-admits-requires Inv-loop μ-loop
 admits-requires c κs = search needs
 
--- src/lib.rt:79:65
+-- src/lib.rt:428:65
 mul-put-delete : tie.Need-mul-put-delete Inv-loop μ-loop
 mul-put-delete c = omega (arith, c .before .before .before .before .before .newest .ensures .0 .small)
 
--- src/lib.rt:79:65
+-- src/lib.rt:428:65
 element-copy-out-put-delete : tie.Need-element-copy-out-put-delete Inv-loop μ-loop
 element-copy-out-put-delete c = c .before .before .before .before .before .newest .ensures .0 .small
 
--- src/lib.rt:79:13
+-- src/lib.rt:428:13
 put-delete-requires : tie.Need-put-delete-requires Inv-loop μ-loop
-put-delete-requires c κs = omega (arith, bounded-one _ _ _ _ _ (c .before .before .before .before .before .before .before .before .loop .inv .1) (c .before .before .before .before .before .before .newest .ensures .0) .0, c .before .before .before .before .before .before .before .before .before .before .pre)
+put-delete-requires c κs =
+    let at-newest = c .before .before .before .before .before .before in
+    let at-loop = at-newest .before .before in
+    let start = at-loop .before .before in
+    omega (arith, bounded-one _ _ _ _ _ (at-loop .loop .inv .1) (at-newest .newest .ensures .0) .0, start .pre)
 
--- src/lib.rt:80:13
+-- src/lib.rt:429:13
 add-put : tie.Need-add-put Inv-loop μ-loop
-add-put c = omega (arith, bounded-one _ _ _ _ _ (c .before .before .before .before .before .before .before .before .before .before .before .loop .inv .1) (c .before .before .before .before .before .before .before .before .before .newest .ensures .0) .1)
+add-put c =
+    let at-newest = c .before .before .before .before .before .before .before .before .before in
+    let at-loop = at-newest .before .before in
+    omega (arith, bounded-one _ _ _ _ _ (at-loop .loop .inv .1) (at-newest .newest .ensures .0) .1)
 
--- src/lib.rt:82:9
+-- src/lib.rt:431:9
 without-requires : tie.Need-without-requires Inv-loop μ-loop
 without-requires c κs = (c .before .before .before .before .newest .ensures .0 .small, c .before .before .before .before .newest .ensures .0 .low)
 
--- src/lib.rt:75:5
+-- src/lib.rt:424:5
 loop-less : tie.Need-loop-less Inv-loop μ-loop
 loop-less c = omega (arith, c .without .ensures, pow-pos (c .before .before .before .before .before .newest .result), c .before .before .before .before .before .newest .ensures .0 .low)
 
--- src/lib.rt:75:5
+-- src/lib.rt:424:5
 loop-again : tie.Need-loop-again Inv-loop μ-loop
 loop-again c =
     ⊎-elim
@@ -96,11 +103,11 @@ loop-again c =
     ))
     (c .before .if1 .came)
 
--- src/lib.rt:57:1
+-- src/lib.rt:406:1
 same-length : tie.Need-same-length Inv-loop μ-loop
 same-length c = c .before .loop .inv .0
 
--- src/lib.rt:57:1
+-- src/lib.rt:406:1
 returns : tie.Need-returns Inv-loop μ-loop
 returns c = (
   omega (arith, c .before .loop .inv .1 .room),

@@ -3,7 +3,7 @@ use Rattle.statements_changes.proofs.Steady.{tag-inside, front-there, f
 use Rattle.statements_changes.proofs.Cursors.{held-length}
 use Rattle.statements_changes.proofs.Behind.{acted-after}
 use lib.ListN.{getD}
-use Rattle.fields.specs.Bytes.{Bytes}
+use Rattle.image_fields.specs.Bytes.{Bytes}
 use mathlib.Core.Path.{refl, sym, _∙_}
 use native.Mathlib.Omega.{arith}
 use borrow.Author.Needs.{needs}
@@ -15,30 +15,33 @@ use Rattle.statements_acts.proofs.statement.Reads as statement-reads
 use Rattle.statements_changes.proofs.told.Reads as told-reads
 use Rattle.statements_changes.proofs.turn_of.Reads as turn-of-reads
 
--- src/lib.rt:168:15
+-- src/lib.rt:169:15
 shared-slice-read-tag : tie.Need-shared-slice-read-tag
 shared-slice-read-tag c = let r = c .before .before .before .before .before .before .before .before .before .pre in tag-inside _ _ (c .before .before .before .before .before .before .before .before .before .args .c) (r .3) (r .4) (r .5) .0
 
--- src/lib.rt:172:9
+-- src/lib.rt:173:9
 told-requires : tie.Need-told-requires
 told-requires c κs = search needs
 
--- src/lib.rt:173:9
+-- src/lib.rt:174:9
 statement-requires : tie.Need-statement-requires
 statement-requires c κs =
-    let r = c .before .before .before .before .before .before .before .before .before .before .before .before .before .pre in
+    let start = c .before .before .before .before .before .before .before .before .before .before .before .before .before in
+    let r = start .pre in
     let e = c .before .before .before .told .ensures in
-    (r .0, r .1, within-told e (r .3 .steady .inside), front-told _ _ _ _ e (front-there _ _ (c .before .before .before .before .before .before .before .before .before .before .before .before .before .args .c) (r .3) (r .4) (r .5)))
+    (r .0, r .1, within-told e (r .3 .steady .inside), front-told _ _ _ _ e (front-there _ _ (start .args .c) (r .3) (r .4) (r .5)))
 
--- src/lib.rt:175:9
+-- src/lib.rt:176:9
 told-requires-2 : tie.Need-told-requires-2
 told-requires-2 c κs = search needs
 
--- src/lib.rt:178:18
+-- src/lib.rt:179:18
 sub-turn-of : tie.Need-sub-turn-of
-sub-turn-of c = let r = c .before .before .before .before .before .before .before .before .before .before .before .before .before .before .before .before .before .before .before .before .before .before .before .pre in let l = r .3 .steady .within (r .4) .some in omega arith
+sub-turn-of c =
+    let start = c .before .before .before .before .before .before .before .before .before .before .before .before .before .before .before .before .before .before .before .before .before .before .before in
+    let r = start .pre in let l = r .3 .steady .within (r .4) .some in omega arith
 
--- src/lib.rt:178:5
+-- src/lib.rt:179:5
 turn-of-requires : tie.Need-turn-of-requires
 turn-of-requires c κs = search needs
 
@@ -57,11 +60,15 @@ same-length-3 c = search needs
 -- src/lib.rt:143:1
 returns : tie.Need-returns
 returns c =
-    let a = c .before .before .before .before .before .before .before .before .before .before .before .before .before .before .before .before .before .before .before .before .before .before .before .before .args in
-    let r = c .before .before .before .before .before .before .before .before .before .before .before .before .before .before .before .before .before .before .before .before .before .before .before .before .pre in
-    let b = c .before .before .before .before .before .before .before .before .before .before .statement in
-    let e = c .before .before .before .before .before .before .before .before .before .before .before .before .before .before .told .ensures in
-    let small : Bytes (a .s .now) = λ k. omega (arith, c .before .before .before .before .before .before .before .before .before .before .before .before .before .before .before .before .before .before .before .before .before .before .before .shared-slice-known .given k) in
+    let at-statement = c .before .before .before .before .before .before .before .before .before .before in
+    let at-told = at-statement .before .before .before .before in
+    let at-shared-slice-known = at-told .before .before .before .before .before .before .before .before .before in
+    let start = at-shared-slice-known .before in
+    let a = start .args in
+    let r = start .pre in
+    let b = at-statement .statement in
+    let e = at-told .told .ensures in
+    let small : Bytes (a .s .now) = λ k. omega (arith, at-shared-slice-known .shared-slice-known .given k) in
     let m = came-told (getD (a .s .now) (a .c .place .at) 0) (a .c .left - 1) (b .result .change) (b .result .taken) (c .turn-of .ensures) (c .before .before .told2 .ensures) in (
       λ T tb at σ h all σ₀ p₀ m₀ nodes errs g. acted-after T (a .s .now) small (a .env .left) all σ₀ p₀ m₀ nodes (a .c) σ _ errs _ _ _ _ _ (g .within (r .4)) (omega (arith, r .5)) (b .result)
           (acts-told e (b .ensures .0 T tb at (h .marked) σ (h .held))) (let l = held-length _ _ _ at _ σ (h .held) in let f = r .1 in omega arith) _ m,

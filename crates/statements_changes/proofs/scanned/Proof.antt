@@ -3,6 +3,7 @@ use Rattle.statements_changes.proofs.Midst.{stood-on}
 use Rattle.expressions_scan.proofs.Nodes.{length-opens}
 use Rattle.expressions_scan.specs.declared.Change.the-variants.{Nothing}
 use Rattle.statements_changes.specs.declared.Cursor.{Cursor}
+use Rattle.statements_changes.specs.Turns.{retold}
 use mathlib.Core.Path.{refl, sym, ap, _∙_}
 use borrow.Author.Needs.{needs}
 use Rattle.statements_changes.proofs.scanned.Statement.{statement}
@@ -13,38 +14,40 @@ use Rattle.statements_changes.proofs.told.Reads as told-reads
 use Rattle.statements_changes.proofs.within.Reads as within-reads
 use Rattle.expressions_scan.proofs.scan_on.Reads as scan-on-reads
 
--- src/lib.rt:264:9
+-- src/lib.rt:267:9
 scan-on-requires : tie.Need-scan-on-requires
 scan-on-requires c κs =
     let r = c .before .before .before .before .before .before .before .before .before .pre in
     (r .0, r .1, r .2 .within (r .3) .ready, begun-room _ _ _ (c .before .before .before .before .before .before .before .before .before .args .c) (r .2) (r .3))
 
--- src/lib.rt:265:9
+-- src/lib.rt:268:9
 told-requires : tie.Need-told-requires
 told-requires c κs = search needs
 
--- src/lib.rt:266:9
+-- src/lib.rt:269:9
 within-requires : tie.Need-within-requires
 within-requires c κs = search needs
 
--- src/lib.rt:271:19
+-- src/lib.rt:274:19
 enum-told : tie.Need-enum-told
 enum-told c = search needs
 
--- src/lib.rt:273:40
+-- src/lib.rt:276:40
 enum-known-change : tie.Need-enum-known-change
 enum-known-change c = search needs
 
--- src/lib.rt:235:1
+-- src/lib.rt:237:1
 same-length : tie.Need-same-length
 same-length c = search needs
 
--- src/lib.rt:235:1
+-- src/lib.rt:237:1
 returns : tie.Need-returns
 returns c =
-    let a = c .before .before .before .before .before .before .before .before .before .before .before .before .before .before .before .before .args in
-    let r = c .before .before .before .before .before .before .before .before .before .before .before .before .before .before .before .before .pre in
-    let v = c .before .before .before .before .before .before .scan-on in
+    let at-scan-on = c .before .before .before .before .before .before in
+    let start = at-scan-on .before .before .before .before .before .before .before .before .before .before in
+    let a = start .args in
+    let r = start .pre in
+    let v = at-scan-on .scan-on in
     let w = c .before .before .within .ensures in
     let e = within-as _ _ _ w (c .before .before .before .told .ensures) in
     let i = c .enum-told .given .1 in (
@@ -54,21 +57,25 @@ returns c =
         sym (length-opens _) ∙ v .ensures .1 .ready .room,
         λ z. (ap (λ (x : Cursor). x .begun) w, ap (λ (x : Cursor). x .nodes) w ∙ still-nodes (v .result) (v .ensures .1) i, ap (λ (x : Cursor). x .left) w),
         λ z. absurd (z refl),
+        ap (λ (x : Cursor). retold (x .place) 0) e,
       ),
     )
 
--- src/lib.rt:235:1
+-- src/lib.rt:237:1
 same-length-2 : tie.Need-same-length-2
 same-length-2 c = search needs
 
--- src/lib.rt:235:1
+-- src/lib.rt:237:1
 returns-2 : tie.Need-returns-2
 returns-2 c =
-    let a = c .before .before .before .before .before .before .before .before .before .before .before .before .before .before .before .before .before .args in
-    let r = c .before .before .before .before .before .before .before .before .before .before .before .before .before .before .before .before .before .pre in
-    let v = c .before .before .before .before .before .before .before .scan-on in
+    let at-told = c .before .before .before .before in
+    let at-scan-on = at-told .before .before .before in
+    let start = at-scan-on .before .before .before .before .before .before .before .before .before .before in
+    let a = start .args in
+    let r = start .pre in
+    let v = at-scan-on .scan-on in
     let w = c .before .before .before .within .ensures in
-    let e = within-as _ _ _ w (c .before .before .before .before .told .ensures) in
+    let e = within-as _ _ _ w (at-told .told .ensures) in
     let i = c .before .change .given .1 in (
       λ T sy σ h all σ₀ p₀ m₀ out warns lefts g. stood-as σ (v .result .change) _ (stood-on T _ _ _ all σ₀ p₀ m₀ _ (a .c) σ out _ warns lefts g (r .3) _ (v .ensures .0 T sy σ h)) e i,
       (
@@ -76,6 +83,7 @@ returns-2 c =
         sym (length-opens _) ∙ v .ensures .1 .ready .room,
         λ z. absurd (no-mark _ _ _ _ z),
         λ z. scanned-ahead (a .s .now) (a .c) _ _ _ (v .result) _ (r .3) w (v .ensures .1) _ _ _ _ i,
+        ap (λ (x : Cursor). retold (x .place) 0) e,
       ),
     )
 

@@ -16,7 +16,7 @@ pub fn case(name: &str) -> Vec<u8> {
 
 /// The stored images with their labels and outcomes: 0 if accepted, else the fault.
 pub fn stored() -> Vec<(String, u8, Vec<u8>)> {
-    let (data, lines) = (repository("crates/faults/data/images"), repository("crates/faults/stdout"));
+    let (data, lines) = (repository("crates/programs_faults/data/images"), repository("crates/programs_faults/stdout"));
     let lines = String::from_utf8(lines).unwrap();
     let mut rest = &data[..];
     let mut take = |n: usize| {

@@ -61,23 +61,43 @@ mul-row c = omega (arith, c .before .before .before .before .before .before .bef
 
 -- src/lib.rt:260:45
 add-join-at : tie.Need-add-join-at Inv-loop μ-loop
-add-join-at c = omega (arith, c .before .before .before .before .before .before .before .before .before .before .pre .fits .0, row-before (c .before .before .before .before .before .before .before .before .before .before .args .a) (c .before .before .before .before .before .before .before .before .before .before .args .width) (c .before .before .before .before .before .before .before .before .loop .i) (c .before .before .before .before .before .before .before .before .before .before .args .n) (c .before .before .before .before .before .before .before .loop-test .taken))
+add-join-at c =
+    let at-loop-test = c .before .before .before .before .before .before .before in
+    let at-loop = at-loop-test .before in
+    let start = at-loop .before .before in
+    omega (arith, start .pre .fits .0, row-before (start .args .a) (start .args .width) (at-loop .loop .i) (start .args .n) (at-loop-test .loop-test .taken))
 
 -- src/lib.rt:260:54
 add-join-at-2 : tie.Need-add-join-at-2 Inv-loop μ-loop
-add-join-at-2 c = omega (arith, c .before .before .before .before .before .before .before .before .before .before .pre .fits .1, row-before (c .before .before .before .before .before .before .before .before .before .before .args .b) (c .before .before .before .before .before .before .before .before .before .before .args .width) (c .before .before .before .before .before .before .before .before .loop .i) (c .before .before .before .before .before .before .before .before .before .before .args .n) (c .before .before .before .before .before .before .before .loop-test .taken))
+add-join-at-2 c =
+    let at-loop-test = c .before .before .before .before .before .before .before in
+    let at-loop = at-loop-test .before in
+    let start = at-loop .before .before in
+    omega (arith, start .pre .fits .1, row-before (start .args .b) (start .args .width) (at-loop .loop .i) (start .args .n) (at-loop-test .loop-test .taken))
 
 -- src/lib.rt:260:21
 join-at-requires : tie.Need-join-at-requires Inv-loop μ-loop
-join-at-requires c κs = (known-a (c .before .before .before .before .before .before .before .before .before .before .args .n) (c .before .before .before .before .before .before .before .before .before .before .args .width) (c .before .before .before .before .before .before .before .before .before .before .args .t1) (c .before .before .before .before .before .before .before .before .before .before .args .t2) (c .before .before .before .before .before .before .before .before .before .before .args .rows .now) (c .before .before .before .before .before .before .before .before .before .before .args .a) (c .before .before .before .before .before .before .before .before .before .before .args .b) (c .before .before .before .before .before .before .before .before .before .before .pre) (c .before .before .before .before .before .before .before .before .loop .i) (c .before .before .before .before .before .before .before .before .loop .self) (c .before .before .before .before .before .before .before .before .loop .rows) (c .before .before .before .before .before .before .before .before .loop .inv .2) (c .before .before .before .before .before .before .before .before .loop .i) (omega arith), known-b (c .before .before .before .before .before .before .before .before .before .before .args .n) (c .before .before .before .before .before .before .before .before .before .before .args .width) (c .before .before .before .before .before .before .before .before .before .before .args .t1) (c .before .before .before .before .before .before .before .before .before .before .args .t2) (c .before .before .before .before .before .before .before .before .before .before .args .rows .now) (c .before .before .before .before .before .before .before .before .before .before .args .a) (c .before .before .before .before .before .before .before .before .before .before .args .b) (c .before .before .before .before .before .before .before .before .before .before .pre) (c .before .before .before .before .before .before .before .before .loop .i) (c .before .before .before .before .before .before .before .before .loop .self) (c .before .before .before .before .before .before .before .before .loop .rows) (c .before .before .before .before .before .before .before .before .loop .inv .2) (c .before .before .before .before .before .before .before .loop-test .taken), c .before .before .before .before .before .before .before .before .before .before .pre .wide, omega (arith, c .before .before .before .before .before .before .before .before .before .before .pre .fits .0, row-before (c .before .before .before .before .before .before .before .before .before .before .args .a) (c .before .before .before .before .before .before .before .before .before .before .args .width) (c .before .before .before .before .before .before .before .before .loop .i) (c .before .before .before .before .before .before .before .before .before .before .args .n) (c .before .before .before .before .before .before .before .loop-test .taken)))
+join-at-requires c κs =
+    let at-loop-test = c .before .before .before .before .before .before .before in
+    let at-loop = at-loop-test .before in
+    let start = at-loop .before .before in
+    (known-a (start .args .n) (start .args .width) (start .args .t1) (start .args .t2) (start .args .rows .now) (start .args .a) (start .args .b) (start .pre) (at-loop .loop .i) (at-loop .loop .self) (at-loop .loop .rows) (at-loop .loop .inv .2) (at-loop .loop .i) (omega arith), known-b (start .args .n) (start .args .width) (start .args .t1) (start .args .t2) (start .args .rows .now) (start .args .a) (start .args .b) (start .pre) (at-loop .loop .i) (at-loop .loop .self) (at-loop .loop .rows) (at-loop .loop .inv .2) (at-loop-test .loop-test .taken), start .pre .wide, omega (arith, start .pre .fits .0, row-before (start .args .a) (start .args .width) (at-loop .loop .i) (start .args .n) (at-loop-test .loop-test .taken)))
 
 -- src/lib.rt:263:21
 same-length : tie.Need-same-length Inv-loop μ-loop
-same-length c = c .before .before .before .before .join-at .ensures .rest .room ∙ c .before .before .before .before .before .before .before .before .before .before .before .before .before .loop .inv .2 .else .room
+same-length c =
+    let at-join-at = c .before .before .before .before in
+    let at-loop = at-join-at .before .before .before .before .before .before .before .before .before in
+    at-join-at .join-at .ensures .rest .room ∙ at-loop .loop .inv .2 .else .room
 
 -- src/lib.rt:263:21
 returns : tie.Need-returns Inv-loop μ-loop
-returns c = joining-stop (c .before .before .before .before .before .before .before .before .before .before .before .before .before .before .before .args .n) (c .before .before .before .before .before .before .before .before .before .before .before .before .before .before .before .args .width) (c .before .before .before .before .before .before .before .before .before .before .before .before .before .before .before .args .t1) (c .before .before .before .before .before .before .before .before .before .before .before .before .before .before .before .args .t2) (c .before .before .before .before .before .before .before .before .before .before .before .before .before .before .before .args .rows .now) (c .before .before .before .before .before .before .before .before .before .before .before .before .before .before .before .args .a) (c .before .before .before .before .before .before .before .before .before .before .before .before .before .before .before .args .b) (c .before .before .before .before .before .before .before .before .before .before .before .before .before .before .before .pre) (c .before .before .before .before .before .before .before .before .before .before .before .before .before .loop .i) (c .before .before .before .before .before .before .before .before .before .before .before .before .before .loop .self) (c .before .before .before .before .before .before .before .before .before .before .before .before .before .loop .rows) (c .before .before .before .before .before .before .before .before .before .before .before .before .before .loop .inv .2) (c .before .before .before .before .before .before .before .before .before .before .before .before .loop-test .taken) _ _ (c .before .before .before .before .join-at .ensures) _ refl (c .if2 .taken)
+returns c =
+    let at-join-at = c .before .before .before .before in
+    let at-loop-test = at-join-at .before .before .before .before .before .before .before .before in
+    let at-loop = at-loop-test .before in
+    let start = at-loop .before .before in
+    joining-stop (start .args .n) (start .args .width) (start .args .t1) (start .args .t2) (start .args .rows .now) (start .args .a) (start .args .b) (start .pre) (at-loop .loop .i) (at-loop .loop .self) (at-loop .loop .rows) (at-loop .loop .inv .2) (at-loop-test .loop-test .taken) _ _ (at-join-at .join-at .ensures) _ refl (c .if2 .taken)
 
 -- src/lib.rt:265:17
 element-write-self : tie.Need-element-write-self Inv-loop μ-loop

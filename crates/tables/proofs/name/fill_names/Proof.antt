@@ -7,7 +7,7 @@ use denote.Ref.{now}
 use mathlib.Core.List.{List}
 use Rattle.tables.specs.Limits.{version1}
 use Rattle.tables.specs.Name.{nameAt, nameOf, sameBytes}
-use Rattle.fields.specs.Table.{member}
+use Rattle.image_fields.specs.Table.{member}
 use Rattle.tables.proofs.Placing.{Placing, placing-start, placing-stop, placing-done, placing-next}
 use Rattle.tables.proofs.Names.{name-none, name-stands, name-new, name-twice}
 use Rattle.tables.proofs.name.fill_names.Statement.{statement}

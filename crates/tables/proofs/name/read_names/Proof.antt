@@ -1,7 +1,7 @@
 use mathlib.Core.List.{[]}
-use Rattle.fields.proofs.Numbers.{field-ok}
+use Rattle.image_fields.proofs.Numbers.{field-ok}
 use native.Mathlib.Omega.{arith}
-use Rattle.fields.proofs.Answers.{number-ok, number-wrong, table-ok, table-wrong}
+use Rattle.image_fields.proofs.Answers.{number-ok, number-wrong, table-ok, table-wrong}
 use Rattle.tables.proofs.Names.{names-short, names-empty, names-stop, names-inside, names-other, names-good}
 use borrow.Author.Needs.{needs}
 use Rattle.tables.proofs.name.read_names.Statement.{statement}

@@ -1,6 +1,6 @@
 use denote.Ref.{now}
 use borrow.Author.Tests.{eq-eqb, ne-eqb}
-use Rattle.fields.proofs.Numbers.{past-end}
+use Rattle.image_fields.proofs.Numbers.{past-end}
 use borrow.Author.Needs.{needs}
 use Rattle.tables.proofs.ty.generic_flag.Statement.{statement}
 use Rattle.tables.proofs.ty.generic_flag.Tie as tie

@@ -1,5 +1,5 @@
 use Rattle.tables.specs.Ty.{ofWidth, shapeWidth}
-use Rattle.fields.proofs.Answers.{number-ok, number-wrong}
+use Rattle.image_fields.proofs.Answers.{number-ok, number-wrong}
 use Rattle.tables.proofs.Types.{of-stop, shape-stop, shape-read}
 use borrow.Author.Needs.{needs}
 use Rattle.tables.proofs.ty.read_parts.Statement.{statement}

@@ -1,7 +1,7 @@
 use mathlib.Core.Path.{sym, ap, _∙_}
 use Rattle.tables.specs.Answer.{typeOf}
-use Rattle.fields.proofs.Numbers.{field-ok}
-use Rattle.fields.proofs.Answers.{number-ok, number-wrong}
+use Rattle.image_fields.proofs.Numbers.{field-ok}
+use Rattle.image_fields.proofs.Answers.{number-ok, number-wrong}
 use Rattle.tables.proofs.Types.{kind-stop, kind-bad, kind-good}
 use borrow.Author.Needs.{needs}
 use Rattle.tables.proofs.ty.read_type.Statement.{statement}

@@ -1,6 +1,6 @@
 use native.Mathlib.Omega.{arith}
-use Rattle.fields.proofs.Numbers.{field-ok}
-use Rattle.fields.proofs.Answers.{number-ok, number-wrong}
+use Rattle.image_fields.proofs.Numbers.{field-ok}
+use Rattle.image_fields.proofs.Answers.{number-ok, number-wrong}
 use Rattle.tables.proofs.Types.{types-none, types-few, types-all}
 use borrow.Author.Needs.{needs}
 use Rattle.tables.proofs.ty.read_types.Statement.{statement}

@@ -1,0 +1,4 @@
+pub mod Standing
+pub mod Ending
+pub mod Branching
+pub mod Thens

@@ -1,0 +1,321 @@
+-- What the loop over the statements of a block keeps: the stack that it owns, and what the walk has come to.
+-- Assumes nothing.
+use Prim.Native.Nat.{ℕ, _+_, _-_, _*_, _≤_, _<_}
+use native.Mathlib.Omega.{arith}
+use mathlib.Core.Path.{_≡_, refl, sym, ap, _∙_, subst}
+use mathlib.Core.Bool.{Bool, false, cond}
+use mathlib.Core.List.{List, [], _∷_, map}
+use mathlib.Core.Option.{Option, none, some}
+use borrow.Author.Tests.{lt-ltb, le-ltb}
+use lib.ListN.{length}
+use Rattle.image_fields.proofs.Tests.{false-true}
+use Rattle.image_fields.specs.Number.{two}
+use Rattle.image_fields.specs.Bytes.{Bytes}
+use Rattle.tables.specs.Limits.{version1}
+use Rattle.tables.specs.Tables.{Tables}
+use Rattle.tables.specs.Ty.{Ty, typeIn}
+use Rattle.tables.specs.Signature.{Struct, structIn}
+use Rattle.tables_lookup.specs.Ty.{shouldAutoDelete}
+use Rattle.rules.specs.Questions.{auto}
+use Rattle.rules.specs.State.{State as Status}
+use Rattle.rules.specs.Stack.{shape, mark, Stack as Scope}
+use Rattle.rules.specs.Rules.{states, register}
+use Rattle.rules.specs.Walk.{tooMany}
+use Rattle.scope_state.specs.Kinds.{said, put}
+use Rattle.expressions_effects.specs.Asked.{Lent, Says}
+use Rattle.expressions_scan.specs.States.{stateAt, AllKept}
+use Rattle.expressions_scan.specs.declared.Env.{Env as Scanning}
+use Rattle.image_writing.specs.Memory.{Memory, memory}
+use Rattle.statements_returns.specs.Returns.{BlockThere}
+use Rattle.statements_returns.proofs.Surely.{block-there}
+use Rattle.statements_steps.specs.Own.{numberOf}
+use Rattle.statements_acts.specs.declared.Named.the-variants.{Nobody}
+use Rattle.statements_acts.specs.declared.Place.{Place}
+use Rattle.statements_acts.specs.Act.{Within, Grows as Further}
+use Rattle.scope_stack.specs.declared.Locals.{Locals}
+use Rattle.scope_stack.specs.declared.States.{States}
+use Rattle.scope_stack.specs.Word.{wordOf}
+use Rattle.scope_stack.specs.View.{view, aliveAt, dropAt, Held, Sound, Drops, Nested, Grows, Marks, Named, Extends}
+use Rattle.scope_stack.proofs.Frames.{nested-register}
+use Rattle.scope_stack.proofs.Scopes.{register-length, sound-mark, sound-register, registers-marked, registers-fresh, extends-none, extends-more, nested-view}
+use Rattle.statements_changes.specs.declared.Cursor.{Cursor}
+use Rattle.statements_changes.specs.declared.Turn.{Turn}
+use Rattle.statements_changes.specs.declared.Turn.the-variants.{Nothing, Over, Mark, Register, Blocks}
+use Rattle.statements_changes.specs.Turns.{Lends, retold, betweenOf, Stood, After, Steady, Fit, ahead}
+use Rattle.statements_changes.proofs.Bridge.{lends-view, kept-view}
+use Rattle.blocks_laws.specs.Walks.{Walked, LeadsAll, StmtsThere, StmtsWalk, TagThere, TagWalks}
+use Rattle.blocks_laws.proofs.Wrotes.{grows-both, grows-none, within-on}
+use Rattle.blocks_laws.proofs.Turns.{all-start, all-rest}
+use Rattle.blocks_laws.proofs.Heads.{head-grows, stmts-in}
+use Rattle.blocks_ends.specs.declared.Env.{Env}
+use Rattle.blocks_laws.specs.Places.{headed}
+use Rattle.blocks_ends.specs.Ends.{placeIn, faultIn, walkedIn, Below}
+use Rattle.blocks.specs.Blocks.{Enters, Comes}
+
+-- the same place, but for its errors
+pub told-within : (s : List ℕ) (p : Place) → Within s p → Within s (retold p 0)
+told-within s p w = record { small = w .small; inside = w .inside; written = w .written; errors = omega arith; warnings = w .warnings; lefts = w .lefts; inserted = w .inserted }
+
+pub below-none : (cur : ℕ) (rows : List ℕ) → Below cur rows rows
+below-none cur rows = record { room = refl; same = λ k l. refl }
+
+pub below-both : (cur at : ℕ) (rows mid new : List ℕ) → cur ≤ at → Below cur rows mid → Below at mid new → Below cur rows new
+below-both cur at rows mid new l a b = record { room = b .room ∙ a .room; same = λ k lk. b .same k (omega arith) ∙ a .same k lk }
+
+-- between statements
+pub steady-between : (s : List ℕ) (left : ℕ) (ns : List ℕ) (n : ℕ) (p : Place) → Within s p → StmtsThere s left n (p .at) → Steady s left ns (betweenOf n p Nobody)
+steady-between s left ns n p w there = record { inside = told-within s p w; there = there; between = λ h. w .errors; within = λ h. false-true h }
+
+-- too many locals, or not
+many-none : (σ : Scope Status) → length σ ≤ 64 → tooMany version1 σ ≡ none
+many-none σ l = ap (λ (b : Bool). cond b (some 12) none) (le-ltb 64 (length σ) l)
+
+many-some : (σ : Scope Status) → 64 < length σ → tooMany version1 σ ≡ some 12
+many-some σ l = ap (λ (b : Bool). cond b (some 12) none) (lt-ltb 64 (length σ) l)
+
+-- turns that are not the end
+pub mark-goes : (n k p : ℕ) (o : Bool) → Mark n k p o ≡ Over → ⊥
+mark-goes n k p o e = let z : _≡_ {A = ℕ} 0 1 = cc in omega arith
+
+pub register-goes : (n y : ℕ) → Register n y ≡ Over → ⊥
+register-goes n y e = let z : _≡_ {A = ℕ} 0 1 = cc in omega arith
+
+pub blocks-go : (tag : ℕ) → Blocks tag ≡ Over → ⊥
+blocks-go tag e = let z : _≡_ {A = ℕ} 0 1 = cc in omega arith
+
+-- the question that is asked of a type is that of the rules
+pub auto-said : (s ns ts xs : List ℕ) (count first : ℕ) (T : Tables) → Says s ns ts xs count first T → (y : ℕ) (b : Bool) → b ≡ shouldAutoDelete (map (typeIn s) ts) (map (structIn s) xs) y → b ≡ auto T y
+unfolding auto
+auto-said s ns ts xs count first T h y b e = e ∙ ap (λ (x : List Ty). shouldAutoDelete x (map (structIn s) xs) y) (h .types) ∙ ap (λ (x : List Struct). shouldAutoDelete (T .types) x y) (h .structs)
+
+module _ (s ns ts xs : List ℕ) (e : Env) (start : Place) (outer : Locals) (t₀ : States) (rows₀ out₀ errs₀ warns₀ lefts₀ : List ℕ) where
+  abbrev σ₀ : Scope Status
+  σ₀ = view outer t₀ rows₀ (e .cur) (e .width)
+
+  abbrev p₀ : Place
+  p₀ = headed start (start .written + 4)
+
+  abbrev m₀ : Memory
+  m₀ = memory out₀ errs₀ warns₀ lefts₀
+
+  abbrev all : ℕ
+  all = two s (start .at + 4)
+
+  abbrev seen : Locals → States → List ℕ → Scope Status
+  seen l t rows = view l t rows (e .cur) (e .width)
+
+  -- the stack
+  pub record Owned (rows : List ℕ) (l : Locals) (t : States) : Type 0 where
+    pub sound : Sound l t rows (e .cur) (e .width)
+    pub nested : Nested (12 - e .left) (shape (view l t rows (e .cur) (e .width)))
+    pub drops : (T : Tables) → Says s ns ts xs (e .globals) (e .first) T → Drops T l
+    pub extends : Extends (12 - e .left) outer l
+    pub below : Below (e .cur) rows₀ rows
+
+  -- what is lent is as long as it was
+  pub record Long (v o x w y u : List ℕ) : Type 0 where
+    pub nodes : length v ≡ 26
+    pub pl : length u ≡ 10
+    pub out : length o ≡ length out₀
+    pub errs : length x ≡ length errs₀
+    pub warns : length w ≡ length warns₀
+    pub lefts : length y ≡ length lefts₀
+
+  pub record Standing (rows nodes out errs warns lefts pl : List ℕ) (l : Locals) (t : States) (c : Cursor) : Type 0 where
+    pub owned : Owned rows l t
+    pub long : Long nodes out errs warns lefts pl
+    pub steady : Steady s (e .left) nodes c
+    pub grows : Further s (retold (headed start (start .written + 4)) 0) (retold (c .place) 0)
+    pub stood : (T : Tables) → Says s ns ts xs (e .globals) (e .first) T
+        → Stood T s (e .left) (12 - e .left) (two s (start .at + 4)) (view outer t₀ rows₀ (e .cur) (e .width)) (headed start (start .written + 4)) (memory out₀ errs₀ warns₀ lefts₀)
+        nodes c (view l t rows (e .cur) (e .width)) (memory out errs warns lefts)
+
+  -- behind next_change: what is to be done
+  pub record Turned (rows nodes out errs warns lefts pl : List ℕ) (l : Locals) (t : States) (c : Cursor) (turn : Turn) : Type 0 where
+    pub owned : Owned rows l t
+    pub long : Long nodes out errs warns lefts pl
+    pub fit : Fit s (e .left) nodes c turn
+    pub grows : Further s (retold (headed start (start .written + 4)) 0) (retold (c .place) 0)
+    pub after : (T : Tables) → Says s ns ts xs (e .globals) (e .first) T
+        → After T s (e .left) (12 - e .left) (two s (start .at + 4)) (view outer t₀ rows₀ (e .cur) (e .width)) (headed start (start .written + 4)) (memory out₀ errs₀ warns₀ lefts₀)
+        nodes c (view l t rows (e .cur) (e .width)) (memory out errs warns lefts) turn
+
+  -- the loop begins behind the block's head
+  module _ (h : Enters s ns ts xs e outer t₀ rows₀ start) (left : ℕ) (el : e .left ≡ left - 1) (there : BlockThere s left (start .at)) where
+    start-owned : Owned rows₀ outer t₀
+    start-owned = record { sound = h .sound; nested = h .nested; drops = h .drops; extends = extends-none (12 - e .left) outer; below = below-none (e .cur) rows₀ }
+
+    further : Further s start p₀
+    further = head-grows s start (start .written + 4) (block-there s left (start .at) there .1) refl
+
+    pub standing-start : Bytes s → (nodes pl : List ℕ) → length nodes ≡ 26 → length pl ≡ 10 → (c : Cursor) → c ≡ betweenOf (two s (start .at + 4)) (headed start (start .written + 4)) Nobody
+        → Standing rows₀ nodes out₀ errs₀ warns₀ lefts₀ pl outer t₀ c
+    standing-start small nodes pl en ep c is = subst (Standing rows₀ nodes out₀ errs₀ warns₀ lefts₀ pl outer t₀) (sym is) (record {
+      owned = start-owned;
+      long = record { nodes = en; pl = ep; out = refl; errs = refl; warns = refl; lefts = refl };
+      steady = steady-between s (e .left) nodes all p₀ (within-on (h .within) further) (stmts-in s left (e .left) (start .at) all (start .at + 6) el refl refl there);
+      grows = grows-none (further .inside);
+      stood = λ T sy. record { between = λ z. all-start T s small (e .left) (12 - e .left) all σ₀ p₀ m₀; within = λ z. false-true z };
+    })
+
+  -- what next_change is asked
+  pub ask-next : Lent s ns ts xs (e .globals) (e .first) → e .left ≤ 12 → e .width ≡ 8 → e .cur < 4294967296 → {rows nodes out errs warns lefts pl : List ℕ} {l : Locals} {t : States} {c : Cursor}
+      → Standing rows nodes out errs warns lefts pl l t c → (mark : ℕ) (here : Scanning)
+      → here ≡ record { globals = e .globals; first = e .first; left = e .left; locals = l .count; mark = mark; cur = e .cur; width = e .width }
+      → Lent s ns ts xs (here .globals) (here .first) × AllKept (t .kinds) (t .firsts) rows (here .cur) (here .width) (here .locals)
+      × (here .left ≤ 12) × Steady s (here .left) nodes c × (length nodes ≡ 26)
+  ask-next lent depth wide low {rows} {nodes} {out} {errs} {warns} {lefts} {pl} {l} {t} {c} st mark here is =
+      subst (λ (x : Scanning). Lent s ns ts xs (x .globals) (x .first) × AllKept (t .kinds) (t .firsts) rows (x .cur) (x .width) (x .locals) × (x .left ≤ 12) × Steady s (x .left) nodes c × (length nodes ≡ 26)) (sym is)
+      (lent, kept-view l t rows (e .cur) (e .width) (st .owned .sound) low (omega arith), depth, st .steady, st .long .nodes)
+
+  -- what it answers, of the stack
+  abbrev Answers : List ℕ → List ℕ → List ℕ → List ℕ → List ℕ → List ℕ → Locals → States → Cursor → List ℕ → List ℕ → List ℕ → List ℕ → List ℕ → Cursor → Turn → Scanning → Type 0
+  Answers rows nodes out errs warns lefts l t c nodes′ out′ errs′ warns′ lefts′ c′ turn here =
+      ((T : Tables) → Says s ns ts xs (here .globals) (here .first) T → (σ : Scope Status)
+      → Lends T (here .mark) (l .names) (l .types) (l .depths) (stateAt (t .kinds) (t .firsts) rows (here .cur) (here .width)) (here .locals) σ
+      → (n : ℕ) (τ : Scope Status) (q : Place) (m : Memory)
+      → Stood T s (here .left) (12 - here .left) n τ q m nodes c σ (memory out errs warns lefts)
+      → After T s (here .left) (12 - here .left) n τ q m nodes′ c′ σ (memory out′ errs′ warns′ lefts′) turn)
+      × (Fit s (here .left) nodes′ c′ turn × (length nodes′ ≡ 26) × (turn ≡ Nothing → ⊥) × ((turn ≡ Over → ⊥) → ahead s c′ < ahead s c) × Further s (retold (c .place) 0) (retold (c′ .place) 0))
+
+  pub turned : {rows nodes out errs warns lefts pl : List ℕ} {l : Locals} {t : States} {c : Cursor} → Standing rows nodes out errs warns lefts pl l t c → (mark : ℕ)
+      → ((T : Tables) → Drops T l → mark ≡ wordOf (l .count) (dropAt T l t)) → (here : Scanning)
+      → here ≡ record { globals = e .globals; first = e .first; left = e .left; locals = l .count; mark = mark; cur = e .cur; width = e .width }
+      → {nodes′ out′ errs′ warns′ lefts′ : List ℕ} {c′ : Cursor} {turn turn′ : Turn} → Answers rows nodes out errs warns lefts l t c nodes′ out′ errs′ warns′ lefts′ c′ turn here
+      → turn ≡ turn′ → length out′ ≡ length out → length errs′ ≡ length errs → length warns′ ≡ length warns → length lefts′ ≡ length lefts
+      → Turned rows nodes′ out′ errs′ warns′ lefts′ pl l t c′ turn′
+  turned {rows} {nodes} {out} {errs} {warns} {lefts} {pl} {l} {t} {c} st mark word here is {nodes′} {out′} {errs′} {warns′} {lefts′} {c′} {turn} {turn′} a came lo le lw ll =
+      let b = subst (Answers rows nodes out errs warns lefts l t c nodes′ out′ errs′ warns′ lefts′ c′ turn′) is
+      (subst (λ (x : Turn). Answers rows nodes out errs warns lefts l t c nodes′ out′ errs′ warns′ lefts′ c′ x here) came a) in
+      record {
+        owned = st .owned;
+        long = record { nodes = b .1 .1; pl = st .long .pl; out = lo ∙ st .long .out; errs = le ∙ st .long .errs; warns = lw ∙ st .long .warns; lefts = ll ∙ st .long .lefts };
+        fit = b .1 .0;
+        grows = grows-both (st .grows) (b .1 .4);
+        after = λ T sy. b .0 T sy (seen l t rows) (lends-view l t rows (e .cur) (e .width) T mark (st .owned .sound .rowed) (word T (st .owned .drops T sy))) all σ₀ p₀ m₀ (st .stood T sy);
+      }
+
+  module _ {rows nodes out errs warns lefts pl : List ℕ} {l : Locals} {t : States} {c : Cursor} where
+    -- a mark
+    pub standing-mark : (n k p : ℕ) (o : Bool) → Turned rows nodes out errs warns lefts pl l t c (Mark n k p o) → (r : States) → Held r → Marks l n (put o (said k (p ∷ []))) t r
+        → Standing rows nodes out errs warns lefts pl l r c
+    standing-mark n k p o h r held m =
+        let is = m .is rows (e .cur) (e .width) (h .owned .sound .rowed) in
+        record {
+          owned = record {
+            sound = sound-mark l t r n (put o (said k (p ∷ []))) rows (e .cur) (e .width) (h .owned .sound) held m;
+            nested = nested-view (12 - e .left) l t r rows rows (e .cur) (e .cur) (e .width) (h .owned .nested);
+            drops = h .owned .drops;
+            extends = h .owned .extends;
+            below = h .owned .below;
+          };
+          long = h .long;
+          steady = h .fit .0;
+          grows = h .grows;
+          stood = λ T sy. subst (λ (σ : Scope Status). Stood T s (e .left) (12 - e .left) all σ₀ p₀ m₀ nodes c σ (memory out errs warns lefts)) (sym is) (h .after T sy);
+        }
+
+    -- a registration, with room for it
+    module _ (n y : ℕ) (h : Turned rows nodes out errs warns lefts pl l t c (Register n y)) where
+      abbrev more : Scope Status
+      more = register states n y (12 - e .left) (seen l t rows)
+
+      many : length more ≡ l .count + 1
+      many = register-length l n y (12 - e .left) t rows (e .cur) (e .width)
+
+      module _ (dtor : Bool) (asked : (T : Tables) → Says s ns ts xs (e .globals) (e .first) T → dtor ≡ auto T y) (r : Locals) (g : Grows l n y (12 - e .left) dtor r) (room : l .count < 64) where
+        standing-more : (u : States) → Sound r u rows (e .cur) (e .width) → view r u rows (e .cur) (e .width) ≡ more → Standing rows nodes out errs warns lefts pl r u c
+        standing-more u sound is = record {
+          owned = record {
+            sound = sound;
+            nested = subst (λ (σ : Scope Status). Nested (12 - e .left) (shape σ)) (sym is) (nested-register n y (12 - e .left) (seen l t rows) (h .owned .nested));
+            drops = λ T sy. g .drops T (asked T sy) (h .owned .drops T sy);
+            extends = extends-more (12 - e .left) outer l r n y dtor (h .owned .extends) g;
+            below = h .owned .below;
+          };
+          long = h .long;
+          steady = h .fit;
+          grows = h .grows;
+          stood = λ T sy. subst (λ (σ : Scope Status). Stood T s (e .left) (12 - e .left) all σ₀ p₀ m₀ nodes c σ (memory out errs warns lefts)) (sym is) (h .after T sy .0 (many-none more (omega (arith, many))));
+        }
+
+        pub standing-fresh : ((i : ℕ) → i < 64 → aliveAt t i ≡ false → Named (r .names) (r .depths) n (12 - e .left) i → ⊥) → Standing rows nodes out errs warns lefts pl r t c
+        standing-fresh calm =
+            standing-more t (sound-register l r n y (12 - e .left) dtor g t rows (e .cur) (e .width) (h .owned .sound .rowed) (h .owned .sound .held))
+            (registers-fresh l r n y (12 - e .left) dtor g t rows (e .cur) (e .width) (h .owned .sound .rowed) calm (omega arith))
+
+        pub standing-revived : (p : ℕ) (u : States) → Held u → Marks r n (put false (said 0 (p ∷ []))) t u → Standing rows nodes out errs warns lefts pl r u c
+        standing-revived p u held m =
+            let sound = sound-register l r n y (12 - e .left) dtor g t rows (e .cur) (e .width) (h .owned .sound .rowed) (h .owned .sound .held) in
+            standing-more u (sound-mark r t u n (put false (said 0 (p ∷ []))) rows (e .cur) (e .width) sound held m)
+            (registers-marked l r n y (12 - e .left) dtor g t rows (e .cur) (e .width) (h .owned .sound .rowed) p u m)
+
+      -- and without
+      pub full : 64 ≤ l .count → (w : Walked) → w .fault ≡ 12 → (T : Tables) → Says s ns ts xs (e .globals) (e .first) T
+          → StmtsWalk T s (e .left) (12 - e .left) (two s (start .at + 4)) (view outer t₀ rows₀ (e .cur) (e .width)) (headed start (start .written + 4)) (memory out₀ errs₀ warns₀ lefts₀) w (memory out errs warns lefts)
+      full few w ew T sy =
+          let k = many-some more (omega (arith, many)) in
+          let twelve : 0 < numberOf (tooMany version1 more) = subst (λ (x : Option ℕ). 0 < numberOf x) (sym k) (omega arith) in
+          let f = h .after T sy .1 twelve in
+          record {
+            walks = λ u deep tree end read.
+                let z = ew ∙ ap numberOf (sym k) ∙ f u deep tree end read in
+                (z, λ nil. let q = z ∙ ap numberOf nil in absurd (omega arith));
+          }
+
+    -- the blocks of a statement
+    module _ (tag : ℕ) (h : Turned rows nodes out errs warns lefts pl l t c (Blocks tag)) where
+      pub enters-blocks : (env : Enters s ns ts xs e outer t₀ rows₀ start) (p : Place) → p ≡ c .place → Enters s ns ts xs e l t rows p
+      enters-blocks env p is = record {
+        lent = env .lent;
+        within = subst (Within s) (sym is) (h .fit .1);
+        depth = env .depth;
+        limit = env .limit;
+        width = env .width;
+        sound = h .owned .sound;
+        nested = h .owned .nested;
+        drops = h .owned .drops;
+      }
+
+      pub there-blocks : (p : Place) → p ≡ c .place → TagThere s (e .left) (p .at) tag
+      there-blocks p is = subst (λ (q : Place). TagThere s (e .left) (q .at) tag) (sym is) (h .fit .0)
+
+      module _ (p : Place) (ep : p ≡ c .place) {rows′ out′ errs′ warns′ lefts′ pl′ : List ℕ} {r : States} (least : ℕ) (come : Comes s (e .cur) (e .width) least l rows p r rows′ pl′)
+          (tag-walks : (T : Tables) → Says s ns ts xs (e .globals) (e .first) T → (faultIn pl′ ≡ 254 → ⊥)
+          → TagWalks T s (e .left) (12 - e .left) tag (view l t rows (e .cur) (e .width)) p (memory out errs warns lefts) (walkedIn pl′ (view l r rows′ (e .cur) (e .width))) (memory out′ errs′ warns′ lefts′)) where
+        walks-there : (T : Tables) → Says s ns ts xs (e .globals) (e .first) T → (faultIn pl′ ≡ 254 → ⊥)
+            → TagWalks T s (e .left) (12 - e .left) tag (view l t rows (e .cur) (e .width)) (c .place) (memory out errs warns lefts) (walkedIn pl′ (view l r rows′ (e .cur) (e .width))) (memory out′ errs′ warns′ lefts′)
+        walks-there T sy short = subst (λ (q : Place). TagWalks T s (e .left) (12 - e .left) tag (seen l t rows) q (memory out errs warns lefts) (walkedIn pl′ (seen l r rows′)) (memory out′ errs′ warns′ lefts′)) ep (tag-walks T sy short)
+
+        -- a fault of theirs is the walk's
+        pub blocks-fault : 0 < faultIn pl′ → (faultIn pl′ ≡ 254 → ⊥) → (T : Tables) → Says s ns ts xs (e .globals) (e .first) T
+            → StmtsWalk T s (e .left) (12 - e .left) (two s (start .at + 4)) (view outer t₀ rows₀ (e .cur) (e .width)) (headed start (start .written + 4)) (memory out₀ errs₀ warns₀ lefts₀)
+            (walkedIn pl′ (view l r rows′ (e .cur) (e .width))) (memory out′ errs′ warns′ lefts′)
+        blocks-fault lt short T sy = h .after T sy (walkedIn pl′ (seen l r rows′)) (memory out′ errs′ warns′ lefts′) (walks-there T sy short) .0 lt
+
+        -- or the loop goes on behind them
+        module _ (small : Bytes s) (left : ℕ) (el : e .left ≡ left - 1) (there : BlockThere s left (start .at)) (some-tables : Tables) (said-some : Says s ns ts xs (e .globals) (e .first) some-tables)
+            (z : faultIn pl′ ≡ 0) (nodes′ : List ℕ) (en : length nodes′ ≡ 26) where
+          leads : (T : Tables) → Says s ns ts xs (e .globals) (e .first) T → LeadsAll T s (e .left) (12 - e .left) all σ₀ p₀ m₀ (c .left) (seen l r rows′) (placeIn pl′) (memory out′ errs′ warns′ lefts′)
+          leads T sy = h .after T sy (walkedIn pl′ (seen l r rows′)) (memory out′ errs′ warns′ lefts′) (walks-there T sy (λ q. omega arith)) .1 (omega arith)
+
+          pub less-behind : (k : ℕ) → ahead s c < k → (q : Place) (c′ : Cursor) → c′ ≡ betweenOf (c .left) q Nobody → ahead s c′ < k
+          less-behind k lt q c′ is = rw is (let w : 400000 * c .left + 200000 ≤ ahead s c = rw (h .fit .3) (omega arith) in omega arith)
+
+          pub standing-behind : length out′ ≡ length out → length errs′ ≡ length errs → length warns′ ≡ length warns → length lefts′ ≡ length lefts → (q : Place) → q ≡ placeIn pl′ → (c′ : Cursor)
+              → c′ ≡ betweenOf (c .left) q Nobody → Standing rows′ nodes′ out′ errs′ warns′ lefts′ pl′ l r c′
+          standing-behind lo le lw ll q eq c′ is = subst (Standing rows′ nodes′ out′ errs′ warns′ lefts′ pl′ l r) (sym (is ∙ ap (λ (x : Place). betweenOf (c .left) x Nobody) eq)) (record {
+            owned = record {
+              sound = come .sound z;
+              nested = nested-view (12 - e .left) l t r rows rows′ (e .cur) (e .cur) (e .width) (h .owned .nested);
+              drops = h .owned .drops;
+              extends = h .owned .extends;
+              below = below-both (e .cur) (e .cur) rows₀ rows rows′ (omega arith) (h .owned .below) (come .below);
+            };
+            long = record { nodes = en; pl = come .room; out = lo ∙ h .long .out; errs = le ∙ h .long .errs; warns = lw ∙ h .long .warns; lefts = ll ∙ h .long .lefts };
+            steady = steady-between s (e .left) nodes′ (c .left) (placeIn pl′) (come .within z)
+                (all-rest some-tables s small (e .left) (12 - e .left) all σ₀ p₀ m₀ (c .left) (seen l r rows′) (placeIn pl′) (memory out′ errs′ warns′ lefts′) (leads some-tables said-some)
+                (stmts-in s left (e .left) (start .at) all (start .at + 6) el refl refl there));
+            grows = grows-both (h .grows) (subst (λ (x : Place). Further s (retold x 0) (retold (placeIn pl′) 0)) ep (come .grows z));
+            stood = λ T sy. record { between = λ y. leads T sy; within = λ y. false-true y };
+          })

@@ -1,0 +1,56 @@
+-- What the walk of blocks and branches requires, and where it comes to.
+use Prim.Native.Nat.{ℕ, suc, _+_, _-_, _*_, _≤_, _<_}
+use mathlib.Core.Path.{_≡_}
+use mathlib.Core.Bool.{Bool}
+use mathlib.Core.List.{List}
+use lib.ListN.{length}
+use Rattle.tables.specs.Tables.{Tables}
+use Rattle.rules.specs.State.{State as Status}
+use Rattle.rules.specs.Stack.{shape, Stack as Scope}
+use Rattle.rules.specs.Rules.{merge}
+use Rattle.expressions_effects.specs.Asked.{Lent, Says}
+use Rattle.image_writing.specs.Memory.{Memory}
+use Rattle.statements_acts.specs.declared.Place.{Place}
+use Rattle.statements_acts.specs.Act.{Within, Grows}
+use Rattle.scope_stack.specs.declared.Locals.{Locals}
+use Rattle.scope_stack.specs.declared.States.{States}
+use Rattle.scope_stack.specs.View.{view, Sound, Drops, Nested}
+use Rattle.statements_changes.specs.Turns.{retold}
+use Rattle.blocks_laws.specs.Walks.{Walked, BlockWalks}
+use Rattle.blocks_laws.specs.Ends.{Merges}
+use Rattle.blocks_ends.specs.declared.Env.{Env}
+use Rattle.blocks_ends.specs.Ends.{placeIn, faultIn, Below}
+
+-- a walk may begin at a place with a stack, where so much depth is left for blocks
+pub record Enters (s ns ts xs : List ℕ) (env : Env) (l : Locals) (t : States) (rows : List ℕ) (p : Place) : Type 0 where
+  pub lent : Lent s ns ts xs (env .globals) (env .first)
+  pub within : Within s p
+  pub depth : env .left ≤ 12
+  pub limit : env .limit ≡ 64
+  pub width : env .width ≡ 8
+  pub sound : Sound l t rows (env .cur) (env .width)
+  pub nested : Nested (12 - env .left) (shape (view l t rows (env .cur) (env .width)))
+  pub drops : (T : Tables) → Says s ns ts xs (env .globals) (env .first) T → Drops T l
+
+-- Where a walk with these locals comes to; fault 254 says that there are fewer rows than `least`.
+pub record Comes (s : List ℕ) (cur width least : ℕ) (l : Locals) (rows : List ℕ) (p : Place) (r : States) (rows′ pl′ : List ℕ) : Type 0 where
+  pub room : length pl′ ≡ 10
+  pub below : Below cur rows rows′
+  pub short : faultIn pl′ ≡ 254 → length rows < least
+  pub sound : faultIn pl′ ≡ 0 → Sound l r rows′ cur width
+  pub within : faultIn pl′ ≡ 0 → Within s (placeIn pl′)
+  pub grows : faultIn pl′ ≡ 0 → Grows s (retold p 0) (retold (placeIn pl′) 0)
+
+-- the rows that suffice for a block with so much depth left, and for the blocks of a statement
+abbrev pub blockRows : ℕ → ℕ → ℕ
+blockRows cur left = cur + 1152 * left - 576
+
+abbrev pub stmtRows : ℕ → ℕ → ℕ
+stmtRows cur left = cur + 1152 * left + 576
+
+-- the second block of an IfElse, and the merge behind it, or its fault
+pub record ElseMerges (T : Tables) (s : List ℕ) (left d : ℕ) (sure : Bool) (σ τ : Scope Status) (p : Place) (m : Memory) (r : Walked) (m′ : Memory) : Type 0 where
+  pub w : Walked
+  pub walks : BlockWalks T s left (suc d) σ p m w m′
+  pub fault : 0 < w .fault → r ≡ w
+  pub merges : w .fault ≤ 0 → Merges sure σ τ w r

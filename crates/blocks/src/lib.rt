@@ -1,0 +1,301 @@
+// The ownership pass over the bytes of an image: blocks and branches.
+// Throughout, ns, ts and xs are where the names, types and structs stand in the image s, rows the places of joined states, nodes the open
+// nodes of the values that are scanned, and pl the place of a walk, its fault and whether it surely returns, all lent.
+ghost use mathlib.Core.Path.{_≡_};
+ghost use mathlib.Core.Bool.{true, false};
+ghost use Prim.Native.Nat.{suc, _+_, _-_, _*_, _≤_, _<_};
+ghost use lib.ListN.{length};
+ghost use Rattle.tables.specs.Tables.{Tables};
+ghost use Rattle.expressions_effects.specs.Asked.{Says};
+ghost use Rattle.image_writing.specs.Memory.{memory};
+ghost use Rattle.statements_returns.specs.Returns.{BlockThere};
+ghost use Rattle.scope_stack.specs.View.{rowOf, view};
+ghost use Rattle.statements_acts.specs.Marks.{lent};
+ghost use Rattle.blocks_laws.specs.Walks.{TagThere, TagWalks, BlockWalks, blocked};
+ghost use Rattle.blocks_ends.specs.Ends.{placeIn, faultIn, sureIn, walkedIn, Stands};
+ghost use Rattle.blocks.specs.Blocks.{Enters, Comes, blockRows, stmtRows, ElseMerges};
+use blocks_ends::Env;
+use scope_stack::Locals;
+use scope_stack::States;
+use statements_acts::Named;
+use statements_acts::Place;
+use statements_changes::Cursor;
+use statements_changes::Turn;
+
+// The second block of an IfElse, and what is left of both.
+fn transform_else(
+    s: &[u8],
+    ns: &[usize],
+    ts: &[usize],
+    xs: &[usize],
+    env: Env,
+    first: States,
+    l: Locals,
+    st: States,
+    rows: &mut [u32],
+    nodes: &mut [u64; 26],
+    out: &mut [u8],
+    errs: &mut [u32],
+    warns: &mut [u32],
+    lefts: &mut [u32],
+    pl: &mut [usize; 10],
+) -> States
+    requires { ⌜ Enters (now s) (now ns) (now ts) (now xs) env l st (now rows) (placeIn (now pl)) × BlockThere (now s) (env .left) (placeIn (now pl) .at)
+        × (env .cur + 1152 ≤ 1152 * (12 - env .left)) × Stands (l .count) first (now rows) (rowOf (env .cur) (env .width) (l .count)) (env .width) × (length (now nodes) ≡ 26) × (length (now pl) ≡ 10) ⌝ }
+    ensures { λ r. ⌜ Comes (now (s .entry)) (env .cur) (env .width) (stmtRows (env .cur) (env .left)) l (now (rows .entry)) (placeIn (now (pl .entry))) r (now (rows .exit)) (now (pl .exit)) × (length (now (nodes .exit)) ≡ 26) ⌝ }
+    ensures { λ r. ⌜ ((T : Tables) → Says (now (s .entry)) (now (ns .entry)) (now (ts .entry)) (now (xs .entry)) (env .globals) (env .first) T → (faultIn (now (pl .exit)) ≡ 254 → ⊥)
+        → ElseMerges T (now (s .entry)) (env .left) (12 - env .left) (sureIn (now (pl .entry))) (view l st (now (rows .entry)) (env .cur) (env .width)) (view l first (now (rows .entry)) (rowOf (env .cur) (env .width) (l .count)) (env .width))
+        (placeIn (now (pl .entry))) (memory (now (out .entry)) (now (errs .entry)) (now (warns .entry)) (now (lefts .entry))) (walkedIn (now (pl .exit)) (view l r (now (rows .exit)) (env .cur) (env .width))) (memory (now (out .exit)) (now (errs .exit)) (now (warns .exit)) (now (lefts .exit)))) ⌝ }
+{
+    let n = l.count;
+    let sure = pl[9] == 1;
+    let b = blocks_ends::behind(blocks_ends::behind(env, n), n);
+    if !scope_stack::copy_rows(&st.kinds, n, rows, env.cur, b.cur, env.width) {
+        pl[8] = 254;
+        return st;
+    }
+    let other = transform_block(
+        s,
+        ns,
+        ts,
+        xs,
+        b,
+        l,
+        st,
+        rows,
+        nodes,
+        out,
+        errs,
+        warns,
+        lefts,
+        pl,
+    );
+    if 0 < pl[8] {
+        return other;
+    }
+    let else_sure = pl[9] == 1;
+    blocks_ends::merge_control_flow_states(
+        sure,
+        else_sure,
+        st,
+        first,
+        other,
+        n,
+        rows,
+        env,
+        b.cur,
+        pl,
+    )
+}
+
+// The blocks of a statement of a tag.
+fn transform_blocks(
+    s: &[u8],
+    ns: &[usize],
+    ts: &[usize],
+    xs: &[usize],
+    env: Env,
+    tag: u8,
+    l: Locals,
+    st: States,
+    rows: &mut [u32],
+    nodes: &mut [u64; 26],
+    out: &mut [u8],
+    errs: &mut [u32],
+    warns: &mut [u32],
+    lefts: &mut [u32],
+    pl: &mut [usize; 10],
+) -> States
+    requires { ⌜ Enters (now s) (now ns) (now ts) (now xs) env l st (now rows) (placeIn (now pl)) × TagThere (now s) (env .left) (placeIn (now pl) .at) tag × (blocked tag ≡ true)
+        × (env .cur + 1152 ≤ 1152 * (12 - env .left)) × (length (now nodes) ≡ 26) × (length (now pl) ≡ 10) ⌝ }
+    ensures { λ r. ⌜ Comes (now (s .entry)) (env .cur) (env .width) (stmtRows (env .cur) (env .left)) l (now (rows .entry)) (placeIn (now (pl .entry))) r (now (rows .exit)) (now (pl .exit)) × (length (now (nodes .exit)) ≡ 26) ⌝ }
+    ensures { λ r. ⌜ ((T : Tables) → Says (now (s .entry)) (now (ns .entry)) (now (ts .entry)) (now (xs .entry)) (env .globals) (env .first) T → (faultIn (now (pl .exit)) ≡ 254 → ⊥)
+        → TagWalks T (now (s .entry)) (env .left) (12 - env .left) tag (view l st (now (rows .entry)) (env .cur) (env .width))
+        (placeIn (now (pl .entry))) (memory (now (out .entry)) (now (errs .entry)) (now (warns .entry)) (now (lefts .entry))) (walkedIn (now (pl .exit)) (view l r (now (rows .exit)) (env .cur) (env .width))) (memory (now (out .exit)) (now (errs .exit)) (now (warns .exit)) (now (lefts .exit)))) ⌝ }
+{
+    if tag == 1 {
+        return transform_block(
+            s,
+            ns,
+            ts,
+            xs,
+            env,
+            l,
+            st,
+            rows,
+            nodes,
+            out,
+            errs,
+            warns,
+            lefts,
+            pl,
+        );
+    }
+    let n = l.count;
+    let a = blocks_ends::behind(env, n);
+    if !scope_stack::copy_rows(&st.kinds, n, rows, env.cur, a.cur, env.width) {
+        pl[8] = 254;
+        return st;
+    }
+    let first = transform_block(
+        s,
+        ns,
+        ts,
+        xs,
+        a,
+        l,
+        st,
+        rows,
+        nodes,
+        out,
+        errs,
+        warns,
+        lefts,
+        pl,
+    );
+    if 0 < pl[8] {
+        return first;
+    }
+    if blocks_ends::then_over(s, tag, out, pl) == 1 {
+        return transform_else(
+            s,
+            ns,
+            ts,
+            xs,
+            env,
+            first,
+            l,
+            st,
+            rows,
+            nodes,
+            out,
+            errs,
+            warns,
+            lefts,
+            pl,
+        );
+    }
+    let sure = pl[9] == 1;
+    blocks_ends::merge_control_flow_states(sure, false, st, first, st, n, rows, env, env.cur, pl)
+}
+
+// A block, with so much depth left: the one loop that owns the stack.
+pub fn transform_block(
+    s: &[u8],
+    ns: &[usize],
+    ts: &[usize],
+    xs: &[usize],
+    env: Env,
+    outer: Locals,
+    states: States,
+    rows: &mut [u32],
+    nodes: &mut [u64; 26],
+    out: &mut [u8],
+    errs: &mut [u32],
+    warns: &mut [u32],
+    lefts: &mut [u32],
+    pl: &mut [usize; 10],
+) -> States
+    requires { ⌜ Enters (now s) (now ns) (now ts) (now xs) env outer states (now rows) (placeIn (now pl)) × BlockThere (now s) (env .left) (placeIn (now pl) .at)
+        × (env .cur ≤ 1152 * (12 - env .left)) × (length (now nodes) ≡ 26) × (length (now pl) ≡ 10) ⌝ }
+    ensures { λ r. ⌜ Comes (now (s .entry)) (env .cur) (env .width) (blockRows (env .cur) (env .left)) outer (now (rows .entry)) (placeIn (now (pl .entry))) r (now (rows .exit)) (now (pl .exit)) × (length (now (nodes .exit)) ≡ 26) ⌝ }
+    ensures { λ r. ⌜ ((T : Tables) → Says (now (s .entry)) (now (ns .entry)) (now (ts .entry)) (now (xs .entry)) (env .globals) (env .first) T → (faultIn (now (pl .exit)) ≡ 254 → ⊥)
+        → BlockWalks T (now (s .entry)) (env .left) (suc (12 - env .left)) (view outer states (now (rows .entry)) (env .cur) (env .width))
+        (placeIn (now (pl .entry))) (memory (now (out .entry)) (now (errs .entry)) (now (warns .entry)) (now (lefts .entry))) (walkedIn (now (pl .exit)) (view outer r (now (rows .exit)) (env .cur) (env .width))) (memory (now (out .exit)) (now (errs .exit)) (now (warns .exit)) (now (lefts .exit)))) ⌝ }
+{
+    let start = blocks_ends::place_in(&*pl);
+    let e = blocks_ends::inner(env);
+    let depth = (12 - e.left) as u8;
+    let mut l = outer;
+    let mut st = states;
+    let mut c = blocks_ends::head(s, start, out);
+    loop {
+        let mark = scope_stack::drop_word(st.words, l.dtors);
+        let here = blocks_ends::scanning(e, l.count, mark);
+        let r = statements_changes::next_change(
+            s,
+            ns,
+            ts,
+            xs,
+            here,
+            &l.names,
+            &l.types,
+            &l.depths,
+            &st.kinds,
+            &st.firsts,
+            &*rows,
+            nodes,
+            c,
+            out,
+            errs,
+            warns,
+            lefts,
+        );
+        c = r.cursor;
+        let p = c.place;
+        let turn = r.turn;
+        match turn {
+            Turn::Nothing => {}
+            Turn::Over => {
+                blocks_ends::end_block(
+                    s,
+                    env.left,
+                    start,
+                    p,
+                    &l.names,
+                    &l.types,
+                    &l.depths,
+                    mark,
+                    out,
+                    pl,
+                );
+                if outer.count < l.count {
+                    st = st.leave(outer.count, l.count);
+                }
+                return st;
+            }
+            Turn::Mark(name, kind, place, only_alive) => {
+                st = st.mark(&l.names, &l.depths, l.count, name, kind, place, only_alive);
+            }
+            Turn::Register(name, ty) => {
+                if env.limit <= l.count {
+                    pl[8] = 12;
+                    return st;
+                }
+                l = l.register_local(
+                    name,
+                    ty,
+                    depth,
+                    tables_lookup::should_auto_delete(s, ts, xs, ty as usize),
+                );
+                if scope_stack::needs_revival(&l.names, &l.depths, st.words, name, depth) {
+                    st = st.mark(&l.names, &l.depths, l.count, name, 0, 0, false);
+                }
+            }
+            Turn::Blocks(tag) => {
+                blocks_ends::put_place(pl, p, false);
+                st = transform_blocks(
+                    s,
+                    ns,
+                    ts,
+                    xs,
+                    e,
+                    tag,
+                    l,
+                    st,
+                    rows,
+                    nodes,
+                    out,
+                    errs,
+                    warns,
+                    lefts,
+                    pl,
+                );
+                if 0 < pl[8] {
+                    return st;
+                }
+                c = statements_changes::between(c.left, blocks_ends::place_in(&*pl), Named::Nobody);
+            }
+        }
+    }
+}

@@ -1,0 +1,124 @@
+-- What the code before, between and behind blocks requires and does; the numbers of a walk are lent.
+use Prim.Native.Nat.{ℕ, _+_, _-_, _≤_, _<_}
+use mathlib.Core.Path.{_≡_}
+use mathlib.Core.Bool.{Bool, false, not, _&&_}
+use mathlib.Core.List.{List, [], _∷_}
+use mathlib.Core.Logic.{_⊎_}
+use lib.Dec.{eqb}
+use lib.ListN.{length, getD}
+use Rattle.image_fields.specs.Number.{two, four}
+use Rattle.image_fields.specs.Bytes.{fourBytes}
+use Rattle.tables.specs.Limits.{version1}
+use Rattle.rules.specs.State.{State as Status}
+use Rattle.rules.specs.Stack.{Stack as Scope}
+use Rattle.rules.specs.Rules.{states, joins, merge}
+use Rattle.rules.specs.Walk.{tooWide}
+use Rattle.image_writing.specs.Stored.{Stored}
+use Rattle.statements_returns.specs.Returns.{StmtThere}
+use Rattle.statements_steps.specs.Own.{numberOf}
+use Rattle.statements_acts.specs.declared.Named.the-variants.{Nobody}
+use Rattle.statements_acts.specs.declared.Place.{Place}
+use Rattle.statements_acts.specs.Act.{Within}
+use Rattle.scope_stack.specs.declared.Locals.{Locals}
+use Rattle.scope_stack.specs.declared.States.{States}
+use Rattle.scope_stack.specs.View.{rowOf, view, Held, Rowed}
+use Rattle.statements_changes.specs.declared.Cursor.{Cursor}
+use Rattle.statements_changes.specs.Turns.{betweenOf}
+use Rattle.blocks_laws.specs.Walks.{Walked}
+use Rattle.blocks_laws.specs.Places.{headed, flagged}
+use Rattle.blocks_ends.specs.declared.Env.{Env}
+
+-- what the lent numbers of a walk say: its place, its fault or 0, whether it surely returns
+abbrev pub placeIn : List ℕ → Place
+placeIn pl = record { at = getD pl 0 0; last = getD pl 1 0; written = getD pl 2 0; errors = getD pl 3 0; warnings = getD pl 4 0; lefts = getD pl 5 0; inserted = getD pl 6 0; fits = eqb (getD pl 7 0) 1 }
+
+abbrev pub faultIn : List ℕ → ℕ
+faultIn pl = getD pl 8 0
+
+abbrev pub sureIn : List ℕ → Bool
+sureIn pl = eqb (getD pl 9 0) 1
+
+abbrev pub walkedIn : List ℕ → Scope Status → Walked
+walkedIn pl σ = record { fault = faultIn pl; sure = sureIn pl; place = placeIn pl; locals = σ }
+
+-- they say this
+pub record Tells (pl : List ℕ) (k : ℕ) (b : Bool) (p : Place) : Type 0 where
+  pub room : length pl ≡ 10
+  pub fault : faultIn pl ≡ k
+  pub sure : sureIn pl ≡ b
+  pub place : placeIn pl ≡ p
+
+-- the numbers of the walk of a block's statements; of a branch, whose rows stand behind those of n locals
+abbrev pub innerOf : Env → Env
+innerOf env = record { globals = env .globals; first = env .first; left = env .left - 1; limit = env .limit; width = env .width; cur = env .cur }
+
+abbrev pub behindOf : Env → ℕ → Env
+behindOf env n = record { globals = env .globals; first = env .first; left = env .left; limit = env .limit; width = env .width; cur = rowOf (env .cur) (env .width) n }
+
+-- the head of the block at a place: its span, and room for its count
+pub record Heads (s : List ℕ) (p : Place) (out : List ℕ) (c : Cursor) (out′ : List ℕ) : Type 0 where
+  pub is : c ≡ betweenOf (two s (p .at + 4)) (headed p (p .written + 4)) Nobody
+  pub stored : Stored out (p .written) (fourBytes (four s (p .at))) out′ (p .written + 4)
+
+-- behind then's block: a loop never surely returns; an IfElse has a flag
+pub record Loops (out pl : List ℕ) (r : ℕ) (out′ pl′ : List ℕ) : Type 0 where
+  pub flag : r ≡ 0
+  pub same : out′ ≡ out
+  pub tells : Tells pl′ (faultIn pl) false (placeIn pl)
+
+pub record Flags (s out pl : List ℕ) (r : ℕ) (out′ pl′ : List ℕ) : Type 0 where
+  pub flag : r ≡ getD s (placeIn pl .at) 0
+  pub stored : Stored out (placeIn pl .written) (r ∷ []) out′ (placeIn pl′ .written)
+  pub tells : Tells pl′ (faultIn pl) (sureIn pl) (flagged (placeIn pl) (placeIn pl′ .written))
+
+-- rows that are the same below a place
+pub record Below (cur : ℕ) (rows new : List ℕ) : Type 0 where
+  pub room : length new ≡ length rows
+  pub same : (k : ℕ) → k < cur → getD new k 0 ≡ getD rows k 0
+
+-- the states of n locals, with their rows
+pub record Stands (n : ℕ) (t : States) (rows : List ℕ) (cur width : ℕ) : Type 0 where
+  pub held : Held t
+  pub rowed : Rowed n t rows cur width
+
+-- two branches of n locals: the base's rows from cur on, then's behind them, the other's at b, behind both or the base's
+pub record Branches (n : ℕ) (t u v : States) (rows : List ℕ) (cur width b : ℕ) : Type 0 where
+  pub small : n ≤ 64
+  pub wide : width ≡ 8
+  pub base : Stands n t rows cur width
+  pub first : Stands n u rows (rowOf cur width n) width
+  pub other : Stands n v rows b width
+  pub apart : (b ≡ cur) ⊎ (rowOf (rowOf cur width n) width n ≤ b)
+  pub low : (cur < 4294967296) × (b < 4294967296)
+
+-- merge_control_flow_states behind two branches, whether each surely returns; 254: the rows do not reach
+pub record MergesIn (x y : Bool) (n : ℕ) (base first other : States) (rows : List ℕ) (cur width b : ℕ) (pl : List ℕ) (r : States) (rows′ pl′ : List ℕ) : Type 0 where
+  pub room : length pl′ ≡ 10
+  pub below : Below cur rows rows′
+  pub place : placeIn pl′ ≡ placeIn pl
+  pub short : faultIn pl′ ≡ 254 → length rows < rowOf (rowOf cur width n) width n
+  pub stands : faultIn pl′ ≡ 0 → Stands n r rows′ cur width
+  pub fault : (faultIn pl′ ≡ 254 → ⊥) → (l : Locals) → l .count ≡ n
+      → faultIn pl′ ≡ numberOf (tooWide version1 (not x && not y) (joins states (view l first rows (rowOf cur width n) width) (view l other rows b width)))
+  pub locals : faultIn pl′ ≡ 0 → (l : Locals) → l .count ≡ n
+      → view l r rows′ cur width ≡ merge states x y (view l base rows cur width) (view l first rows (rowOf cur width n) width) (view l other rows b width)
+
+-- what the end of a block requires
+pub record EndThere (s : List ℕ) (left : ℕ) (start p : Place) : Type 0 where
+  pub low : 0 < left
+  pub high : left ≤ 12
+  pub head : start .at + 6 ≤ length s
+  pub within : Within s p
+  pub gap : start .written < 4294900000
+  pub last : 0 < two s (start .at + 4) → StmtThere s (left - 1) (p .last)
+
+-- and what is known behind it, whatever was lent
+pub record Ended (start p : Place) (pl : List ℕ) : Type 0 where
+  pub room : length pl ≡ 10
+  pub fault : faultIn pl ≡ 0
+  pub at : placeIn pl .at ≡ p .at
+  pub errors : placeIn pl .errors ≡ p .errors
+  pub warnings : placeIn pl .warnings ≡ p .warnings
+  pub lefts : placeIn pl .lefts ≡ p .lefts
+  pub inserted : placeIn pl .inserted ≡ start .inserted
+  pub most : placeIn pl .written ≤ p .written + 1344

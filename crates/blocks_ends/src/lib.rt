@@ -1,0 +1,331 @@
+// What stands before, between and behind the blocks of a body: a head, a flag, an end, the merge of two branches.
+// Throughout, pl has the place of a walk, its fault and whether it surely returns, rows the places of joined states, and ln, lt and ld are
+// the names, types and depths of the locals, all lent.
+ghost use mathlib.Core.Path.{_≡_};
+ghost use mathlib.Core.Bool.{true, false, _&&_};
+ghost use Prim.Native.Nat.{ℕ, suc, _+_, _-_, _*_, _≤_, _<_};
+ghost use lib.Dec.{leb, eqb};
+ghost use lib.ListN.{length, getD};
+ghost use Rattle.image_fields.specs.Number.{two};
+ghost use Rattle.tables.specs.Tables.{Tables};
+ghost use Rattle.rules.specs.State.{State as Status};
+ghost use Rattle.rules.specs.Stack.{pop, Stack as Scope};
+ghost use Rattle.image_writing.specs.Stored.{Stored};
+ghost use Rattle.statements_steps.specs.Drops.{deleteBytes};
+ghost use Rattle.statements_returns.specs.Returns.{StmtThere};
+ghost use Rattle.statements_acts.specs.Act.{Within};
+ghost use Rattle.scope_stack.specs.View.{rowOf, Known};
+ghost use Rattle.scope_stack.specs.Rows.{Copies};
+ghost use Rattle.statements_acts.specs.Marks.{lent, Marked};
+ghost use Rattle.blocks_laws.specs.Ends.{LastReturns, tail, Ends};
+ghost use Rattle.blocks_laws.specs.Places.{headed};
+ghost use Rattle.blocks_ends.specs.Ends.{placeIn, faultIn, walkedIn, Tells, innerOf, behindOf, Heads, Loops, Flags, Branches, MergesIn, EndThere, Ended};
+use scope_stack::Locals;
+use scope_stack::States;
+use statements_acts::Named;
+use statements_acts::Place;
+use statements_changes::Cursor;
+use statements_changes::Turn;
+
+// Where the globals stand, how much depth is left for blocks, how many locals and places there may be, where the rows of this stack
+// begin.
+pub struct Env {
+    pub globals: usize,
+    pub first: usize,
+    pub left: usize,
+    pub limit: usize,
+    pub width: usize,
+    pub cur: usize,
+}
+
+pub fn place_in(pl: &[usize; 10]) -> Place
+    ensures { λ r. ⌜ r ≡ placeIn (now (pl .entry)) ⌝ }
+{
+    Place {
+        at: pl[0],
+        last: pl[1],
+        written: pl[2],
+        errors: pl[3],
+        warnings: pl[4],
+        lefts: pl[5],
+        inserted: pl[6],
+        fits: pl[7] == 1,
+    }
+}
+
+fn one(b: bool) -> usize
+    ensures { λ r. ⌜ eqb r 1 ≡ «b» ⌝ }
+{
+    if b {
+        return 1;
+    }
+    0
+}
+
+// A place, without a fault.
+pub fn put_place(pl: &mut [usize; 10], p: Place, sure: bool)
+    requires { ⌜ length (now pl) ≡ 10 ⌝ }
+    ensures { λ r. ⌜ Tells (now (pl .exit)) 0 «sure» p ⌝ }
+{
+    pl[0] = p.at;
+    pl[1] = p.last;
+    pl[2] = p.written;
+    pl[3] = p.errors;
+    pl[4] = p.warnings;
+    pl[5] = p.lefts;
+    pl[6] = p.inserted;
+    pl[7] = one(p.fits);
+    pl[8] = 0;
+    pl[9] = one(sure);
+}
+
+// The numbers for a block's statements.
+pub fn inner(env: Env) -> Env
+    requires { ⌜ 0 < env .left ⌝ }
+    ensures { λ r. ⌜ r ≡ innerOf env ⌝ }
+{
+    Env {
+        globals: env.globals,
+        first: env.first,
+        left: env.left - 1,
+        limit: env.limit,
+        width: env.width,
+        cur: env.cur,
+    }
+}
+
+// Those for a branch, whose rows stand behind those of n locals.
+pub fn behind(env: Env, n: usize) -> Env
+    requires { ⌜ (n ≤ 64) × (env .width ≡ 8) × (env .cur < 4294967296) ⌝ }
+    ensures { λ r. ⌜ r ≡ behindOf env n ⌝ }
+{
+    Env {
+        globals: env.globals,
+        first: env.first,
+        left: env.left,
+        limit: env.limit,
+        width: env.width,
+        cur: env.cur + n * (env.width + 1),
+    }
+}
+
+// Those for the walk up to the next change of a stack of so many locals.
+pub fn scanning(env: Env, count: usize, mark: u64) -> expressions_scan::Env
+    ensures { λ r. ⌜ r ≡ record { globals = env .globals; first = env .first; left = env .left; locals = count; mark = mark; cur = env .cur; width = env .width } ⌝ }
+{
+    expressions_scan::Env {
+        globals: env.globals,
+        first: env.first,
+        left: env.left,
+        locals: count,
+        mark: mark,
+        cur: env.cur,
+        width: env.width,
+    }
+}
+
+// The place behind a block's head, whose count is stored at gap later.
+fn inside(p: Place, gap: usize) -> Place
+    requires { ⌜ (p .at < 4294967200) × (gap < 4294967200) ⌝ }
+    ensures { λ r. ⌜ r ≡ headed p gap ⌝ }
+{
+    Place {
+        at: p.at + 6,
+        last: p.at + 6,
+        written: gap + 2,
+        errors: p.errors,
+        warnings: p.warnings,
+        lefts: p.lefts,
+        inserted: 0,
+        fits: p.fits,
+    }
+}
+
+// The head of a block: its span is copied, room is left for its count.
+pub fn head(s: &[u8], p: Place, out: &mut [u8]) -> Cursor
+    requires { ⌜ Within (now s) p × (p .at + 6 ≤ length (now s)) ⌝ }
+    ensures { λ r. ⌜ Heads (now (s .entry)) p (now (out .entry)) r (now (out .exit)) ⌝ }
+{
+    let gap = image_writing::copy_bytes(s, p.at, p.at + 4, out, p.written);
+    let total = image_fields::two_at(s, p.at + 4);
+    let q = inside(p, gap);
+    statements_changes::between(total, q, Named::Nobody)
+}
+
+// Behind then's block: the flag of an IfElse; a loop has none and never surely returns.
+pub fn then_over(s: &[u8], tag: u8, out: &mut [u8], pl: &mut [usize; 10]) -> u8
+    requires { ⌜ Within (now s) (placeIn (now pl)) × ((tag ≡ 8 → ⊥) → placeIn (now pl) .at < length (now s)) × (length (now pl) ≡ 10) ⌝ }
+    ensures { λ r. ⌜ (tag ≡ 8 → Loops (now (out .entry)) (now (pl .entry)) r (now (out .exit)) (now (pl .exit)))
+        × ((tag ≡ 8 → ⊥) → Flags (now (s .entry)) (now (out .entry)) (now (pl .entry)) r (now (out .exit)) (now (pl .exit))) ⌝ }
+{
+    if tag == 8 {
+        pl[9] = 0;
+        return 0;
+    }
+    let at = pl[0];
+    let flag = s[at];
+    pl[2] = image_writing::put(out, pl[2], flag);
+    pl[0] = at + 1;
+    flag
+}
+
+// The fault of a join: 13, a place more than the limit; 254, the rows do not reach.
+fn join_fault(told: u8) -> usize
+    ensures { λ r. ⌜ (told ≡ 255 → r ≡ 13) × ((told ≡ 255 → ⊥) → r ≡ told) ⌝ }
+{
+    if told == 255 {
+        return 13;
+    }
+    told as usize
+}
+
+// The rows of n locals, back to where those of the stack begin.
+fn copy_back(kinds: &[u8; 64], n: usize, rows: &mut [u32], src: usize, cur: usize, width: usize)
+    requires { ⌜ (n ≤ 64) × (width ≡ 8) × ((i : ℕ) → i < n → Known (now rows) width (rowOf src width i) (getD (now kinds) i 0))
+        × ((src ≡ cur → ⊥) → rowOf cur width n ≤ src) × (src < 4294968000) ⌝ }
+    ensures { λ r. ⌜ Copies n width (now (kinds .entry)) (now (rows .entry)) src cur true (now (rows .exit)) ⌝ }
+{
+    if src != cur {
+        scope_stack::copy_rows(kinds, n, rows, src, cur, width);
+    }
+}
+
+// merge_control_flow_states: the states after two branches of n locals, whether each surely returns, the first's rows behind the base's,
+// the other's at b.
+pub fn merge_control_flow_states(
+    then_returns: bool,
+    else_returns: bool,
+    base: States,
+    first: States,
+    other: States,
+    n: usize,
+    rows: &mut [u32],
+    env: Env,
+    b: usize,
+    pl: &mut [usize; 10],
+) -> States
+    requires { ⌜ Branches n base first other (now rows) (env .cur) (env .width) b × (faultIn (now pl) ≡ 0) × (length (now pl) ≡ 10) ⌝ }
+    ensures { λ r. ⌜ MergesIn «then_returns» «else_returns» n base first other (now (rows .entry)) (env .cur) (env .width) b (now (pl .entry)) r (now (rows .exit)) (now (pl .exit)) ⌝ }
+{
+    let a = behind(env, n);
+    if then_returns {
+        if else_returns {
+            return base;
+        }
+        copy_back(&other.kinds, n, rows, b, env.cur, env.width);
+        return other;
+    }
+    if else_returns {
+        copy_back(&first.kinds, n, rows, a.cur, env.cur, env.width);
+        return first;
+    }
+    let mut told = 0;
+    let r = first.join(other, n, rows, a.cur, b, env.width, &mut told);
+    pl[8] = join_fault(told);
+    if told == 0 {
+        copy_back(&r.kinds, n, rows, a.cur, env.cur, env.width);
+    }
+    r
+}
+
+// Whether the last of so many statements, at a position, surely returns.
+fn ends_in_return(s: &[u8], left: usize, total: usize, last: usize) -> bool
+    requires { ⌜ (length (now s) ≤ 65536) × (0 < total → StmtThere (now s) left last) ⌝ }
+    ensures { λ r. ⌜ LastReturns (now (s .entry)) left total last r ⌝ }
+{
+    if total == 0 {
+        return false;
+    }
+    let r = statements_returns::statement_guaranteed_return(s, left, last);
+    r.returns
+}
+
+// The deletes at the end of a block that does not surely return.
+fn put_tail<'a>(
+    ln: &'a [u16; 64],
+    lt: &'a [u16; 64],
+    ld: &'a [u8; 64],
+    mark: u64,
+    sure: bool,
+    depth: u8,
+    span: u32,
+    out: &mut [u8],
+    at: usize,
+) -> statements_acts::Put
+    requires { ⌜ at < 4294900000 ⌝ }
+    ensures { λ r. ⌜ (r .at ≤ at + 1344) × (r .count ≤ 64) × ((T : Tables) (g : ℕ → Status) (n : ℕ) → Marked T (now (lt .entry)) g n mark
+        → Stored (now (out .entry)) at (deleteBytes (tail T «sure» depth span (lent (now (ln .entry)) (now (lt .entry)) (now (ld .entry)) g n))) (now (out .exit)) (r .at)
+        × (r .count ≡ length (tail T «sure» depth span (lent (now (ln .entry)) (now (lt .entry)) (now (ld .entry)) g n)))) ⌝ }
+{
+    if sure {
+        return statements_acts::Put { at: at, count: 0 };
+    }
+    let frame = statements_acts::Which::Frame(depth);
+    statements_acts::put_drops(ln, lt, ld, mark, frame, span, out, at)
+}
+
+// Whether all blocks so far, and one of so many statements, count at most 65,535.
+fn fitting(fits: bool, count: usize) -> bool
+    ensures { λ r. ⌜ r ≡ («fits» && leb count 65535) ⌝ }
+{
+    if fits {
+        return count <= 65535;
+    }
+    false
+}
+
+// The place behind the block that began at a place.
+fn ended(start: Place, p: Place, at: usize, fits: bool) -> Place
+    ensures { λ r. ⌜ r ≡ record { at = p .at; last = start .last; written = at; errors = p .errors; warnings = p .warnings; lefts = p .lefts; inserted = start .inserted; fits = «fits» } ⌝ }
+{
+    Place {
+        at: p.at,
+        last: start.last,
+        written: at,
+        errors: p.errors,
+        warnings: p.warnings,
+        lefts: p.lefts,
+        inserted: start.inserted,
+        fits: fits,
+    }
+}
+
+// The end of the block that began at a place: deletes, the count.
+pub fn end_block<'a>(
+    s: &[u8],
+    left: usize,
+    start: Place,
+    p: Place,
+    ln: &'a [u16; 64],
+    lt: &'a [u16; 64],
+    ld: &'a [u8; 64],
+    mark: u64,
+    out: &mut [u8],
+    pl: &mut [usize; 10],
+)
+    requires { ⌜ EndThere (now s) left start p × (length (now pl) ≡ 10) ⌝ }
+    ensures { λ r. ⌜ ((T : Tables) (g : ℕ → Status) (n : ℕ) → Marked T (now (lt .entry)) g n mark
+        → (σ : Scope Status) → σ ≡ pop (suc (12 - left)) (lent (now (ln .entry)) (now (lt .entry)) (now (ld .entry)) g n)
+        → Ends T (now (s .entry)) left (suc (12 - left)) (lent (now (ln .entry)) (now (lt .entry)) (now (ld .entry)) g n) start (start .written + 4) p (now (out .entry))
+        (walkedIn (now (pl .exit)) σ) (now (out .exit)))
+        × Ended start p (now (pl .exit)) ⌝ }
+{
+    let total = image_fields::two_at(s, start.at + 4);
+    let sure = ends_in_return(s, left - 1, total, p.last);
+    let span = expressions_effects::span_at(s, start.at);
+    let put = put_tail(
+        ln,
+        lt,
+        ld,
+        mark,
+        sure,
+        (13 - left) as u8,
+        span,
+        out,
+        p.written,
+    );
+    let count = total + p.inserted + put.count;
+    image_writing::put_two(out, start.written + 4, (count % 65536) as u16);
+    let fits = fitting(p.fits, count);
+    put_place(pl, ended(start, p, put.at, fits), sure);
+}

@@ -1,0 +1,82 @@
+-- The end of a block: its deletes, its count, the frame left.
+-- Assumes nothing.
+use Prim.Native.Nat.{ℕ, suc, _+_, _-_, _%_, _≤_, _<_}
+use native.Mathlib.Omega.{arith}
+use mathlib.Core.Path.{_≡_, refl, sym, ap, _∙_, subst}
+use mathlib.Core.Bool.{Bool, true, false, _&&_}
+use mathlib.Core.List.{List, []}
+use lib.ListN.{length}
+use lib.Dec.{leb}
+use Rattle.image_fields.specs.Number.{two, four}
+use Rattle.image_fields.specs.Bytes.{twoBytes}
+use Rattle.tables.specs.Tables.{Tables}
+use Rattle.rules.specs.State.{State as Status}
+use Rattle.rules.specs.Stack.{pop, Stack as Scope}
+use Rattle.rules.specs.Rules.{Drop, states, collect}
+use Rattle.statements_acts.specs.Drops.{admitted}
+use Rattle.statements_acts.specs.declared.Which.the-variants.{Frame}
+use Rattle.image_writing.specs.Stored.{Stored}
+use Rattle.statements_acts.specs.declared.Place.{Place}
+use Rattle.blocks_laws.specs.Walks.{Walked}
+use Rattle.blocks_laws.specs.Ends.{tail, LastReturns, Ends}
+use Rattle.image_writing.proofs.Stores.{none-stored}
+use Rattle.statements_steps.specs.Drops.{deleteBytes}
+
+-- so many deletes are stored
+abbrev Puts : List ℕ → ℕ → List Drop → List ℕ → ℕ → ℕ → Type 0
+Puts old at x new next count = Stored old at (deleteBytes x) new next × (count ≡ length x)
+
+-- none are
+none-put : (old : List ℕ) (at : ℕ) (x : List Drop) → x ≡ [] → Puts old at x old at 0
+none-put old at x e = (rw e (none-stored old at), sym (ap length e))
+
+module _ (T : Tables) (sure : Bool) (d sp : ℕ) (σ : Scope Status) where
+  -- a block that surely returns has no deletes at its end
+  pub tail-none : sure ≡ true → (old : List ℕ) (at : ℕ) → Puts old at (tail T sure d sp σ) old at 0
+  tail-none e old at = none-put old at (tail T sure d sp σ) (rw e refl)
+
+  -- another has those of its frame
+  pub tail-frame : sure ≡ false → (old : List ℕ) (at : ℕ) (new : List ℕ) (next count : ℕ)
+      → Puts old at (collect states T (admitted (Frame d)) sp σ) new next count → Puts old at (tail T sure d sp σ) new next count
+  tail-frame e old at new next count h = rw e h
+
+-- the depth as the code has it
+pub depth-is : (left : ℕ) → 0 < left → left ≤ 12 → 13 - left ≡ suc (12 - left)
+depth-is left low high = omega arith
+
+-- what the walk comes to
+abbrev endedAt : Place → Place → ℕ → Bool → Bool → Scope Status → Walked
+endedAt start p written fits sure after = record {
+  fault = 0;
+  sure = sure;
+  place = record { at = p .at; last = start .last; written = written; errors = p .errors; warnings = p .warnings; lefts = p .lefts; inserted = start .inserted; fits = fits };
+  locals = after;
+}
+
+-- the end of a block, from its parts: total, span and depth as the code has them
+module _ (T : Tables) (s : List ℕ) (left d : ℕ) (σ : Scope Status) (start : Place) (gap : ℕ) (p : Place) (out : List ℕ) where
+  pub block-ends : {mid out′ : List ℕ} {total span depth written count next : ℕ} {sure fits : Bool} {after : Scope Status} → total ≡ two s (start .at + 4)
+      → span ≡ four s (start .at) → depth ≡ d → LastReturns s (left - 1) total (p .last) sure
+      → Puts out (p .written) (tail T sure depth span σ) mid written count → Stored mid gap (twoBytes ((total + p .inserted + count) % 65536)) out′ next
+      → fits ≡ (p .fits && leb (total + p .inserted + count) 65535) → after ≡ pop depth σ
+      → Ends T s left d σ start gap p out (endedAt start p written fits sure after) out′
+  block-ends {mid} {out′} {total} {span} {depth} {written} {count} {next} {sure} {fits} {after} et es ed last put stored fit is =
+      let tails : tail T sure depth span σ ≡ tail T sure d (four s (start .at)) σ = rw (es, ed) in
+      let many : total + p .inserted + count ≡ two s (start .at + 4) + p .inserted + length (tail T sure d (four s (start .at)) σ) = rw (et, put .1, tails) in
+      record {
+        none-last = λ z. last .none (et ∙ z);
+        some-last = λ h. last .some (subst (λ (k : ℕ). 0 < k) (sym et) h);
+        mid = mid;
+        next = next;
+        deletes = subst (λ (x : List Drop). Stored out (p .written) (deleteBytes x) mid written) tails (put .0);
+        counts = subst (λ (k : ℕ). Stored mid gap (twoBytes (k % 65536)) out′ next) many stored;
+        fits = fit ∙ ap (λ (k : ℕ). p .fits && leb k 65535) many;
+        at = refl;
+        last = refl;
+        inserted = refl;
+        errors = refl;
+        warnings = refl;
+        lefts = refl;
+        fault = refl;
+        locals = is ∙ ap (λ (k : ℕ). pop k σ) ed;
+      }

@@ -1,0 +1,119 @@
+-- A statement: its values, its front, and then its change or its blocks.
+-- Assumes nothing.
+use Prim.Native.Nat.{ℕ, _+_}
+use native.Mathlib.Omega.{arith}
+use mathlib.Core.Path.{_≡_, refl, sym, ap, _∙_, subst}
+use mathlib.Core.Bool.{Bool, true, false, _&&_}
+use mathlib.Core.List.{List, _++_, append-nil}
+use mathlib.Core.Option.{none}
+use lib.ListN.{length}
+use Rattle.image_fields.specs.Parsed.{ok}
+use Rattle.image_fields.specs.Bytes.{Bytes}
+use Rattle.tables.specs.Limits.{version1}
+use Rattle.tables.specs.Tables.{Tables}
+use Rattle.image_body.specs.Expr.{Scope as Reading}
+use Rattle.image_body.specs.Stmt.{Tree, Stmt, before, stmtIn}
+use Rattle.rules.specs.State.{State as Status}
+use Rattle.rules.specs.Stack.{shape, Stack as Scope}
+use Rattle.rules.specs.Effects.{group, resolveAll}
+use Rattle.rules.specs.Report.{Report, errors, warnings, lefts}
+use Rattle.rules.specs.Verdict.{entriesOf}
+use Rattle.image_writing.specs.Stored.{Stored}
+use Rattle.expressions_scan.specs.Changes.{toldAll}
+use Rattle.statements_steps.specs.Statement.{valuesOf, frontSize, frontDrops, frontReports, settle}
+use Rattle.statements_steps.specs.Own.{both, blocksSize, blocksOwn, valued, frontOwn, ownFault, blockless}
+use Rattle.statements_steps.proofs.Lists.{Errors, errors-append, warnings-append, lefts-append, all-errors, front-errors}
+use Rattle.statements_steps.proofs.Before.{stmt-end}
+use Rattle.statements_steps.proofs.Plain.{blockless-own, blockless-after, blockless-size}
+use Rattle.statements_acts.specs.declared.Place.{Place}
+use Rattle.statements_acts.specs.declared.Act.{Act}
+use Rattle.statements_acts.specs.Act.{Acts}
+use Rattle.image_writing.specs.Memory.{Memory}
+use Rattle.blocks_laws.specs.Walks.{Walked, Wrote, StmtDone, BlocksWalk}
+use Rattle.blocks_laws.proofs.Wrotes.{stored-as, wrote-both, wrote-nothing, wrote-as}
+
+and-none : (a b : Bool) → a ≡ b → a ≡ (b && true)
+and-none true true e = refl
+and-none false false e = refl
+and-none true false e = e
+and-none false true e = e
+
+-- the same place, but for the errors
+pub record Told (p q : Place) : Type 0 where
+  pub at : q .at ≡ p .at
+  pub written : q .written ≡ p .written
+  pub warnings : q .warnings ≡ p .warnings
+  pub lefts : q .lefts ≡ p .lefts
+  pub inserted : q .inserted ≡ p .inserted
+  pub fits : q .fits ≡ p .fits
+
+at-place : {xs ys vs : List ℕ} {i j k : ℕ} → i ≡ j → Stored xs i vs ys k → Stored xs j vs ys k
+at-place {xs} {ys} {vs} {i} {j} {k} e x = subst (λ (n : ℕ). Stored xs n vs ys k) e x
+
+module _ (T : Tables) (c : Tree) (d : ℕ) (σ : Scope Status) (p q : Place) (a : Act) (out errs warns left out′ errs′ warns′ left′ : List ℕ) (e : Told p q)
+    (told : Stored errs (p .errors) (entriesOf version1 (toldAll T (valuesOf c) σ)) errs′ (q .errors))
+    (acts : Acts T c (valued T c σ) q out warns left a out′ warns′ left′) where
+  abbrev before-it : Memory
+  before-it = record { out = out; errs = errs; warns = warns; lefts = left }
+
+  abbrev after-it : Memory
+  after-it = record { out = out′; errs = errs′; warns = warns′; lefts = left′ }
+
+  here : Errors (toldAll T (valuesOf c) σ)
+  here = all-errors (resolveAll (shape σ) (group T false (valuesOf c))) σ
+
+  abbrev fronts : List Report
+  fronts = frontReports T c (p .at) (valued T c σ)
+
+  pub front-wrote : Wrote (frontOwn T c (p .at) σ) p before-it (a .place) after-it
+  front-wrote = record {
+    bytes = λ h. at-place (e .written) (acts .bytes);
+    long = at-place (e .written) (acts .bytes) .place;
+    errors =
+        let g : errors (toldAll T (valuesOf c) σ ++ fronts) ≡ toldAll T (valuesOf c) σ =
+        errors-append (toldAll T (valuesOf c) σ) fronts ∙ ap (λ (x : List Report). errors (toldAll T (valuesOf c) σ) ++ x) (front-errors T c (p .at) (valued T c σ))
+        ∙ append-nil (errors (toldAll T (valuesOf c) σ)) ∙ here .0 in
+        stored-as (ap (entriesOf version1) g) (record { cells = told .cells; place = acts .errors ∙ told .place });
+    warnings =
+        let g : warnings (toldAll T (valuesOf c) σ ++ fronts) ≡ warnings (frontReports T c (q .at) (valued T c σ)) =
+        warnings-append (toldAll T (valuesOf c) σ) fronts ∙ ap (λ (x : List Report). x ++ warnings fronts) (here .1)
+        ∙ ap (λ (k : ℕ). warnings (frontReports T c k (valued T c σ))) (sym (e .at)) in
+        stored-as (ap (entriesOf version1) g) (at-place (e .warnings) (acts .warned));
+    lefts =
+        let g : lefts (toldAll T (valuesOf c) σ ++ fronts) ≡ lefts (frontReports T c (q .at) (valued T c σ)) =
+        lefts-append (toldAll T (valuesOf c) σ) fronts ∙ ap (λ (x : List Report). x ++ lefts fronts) (here .2)
+        ∙ ap (λ (k : ℕ). lefts (frontReports T c k (valued T c σ))) (sym (e .at)) in
+        stored-as (ap (entriesOf version1) g) (at-place (e .lefts) (acts .listed));
+    fits = and-none (a .place .fits) (p .fits) (acts .fits ∙ e .fits);
+  }
+
+  -- a statement without blocks: the place behind its front is the place behind it
+  pub plain-done : (s : List ℕ) → Bytes s → (t : Reading) (left : ℕ) (x : Stmt) (next : ℕ) → stmtIn t s left (p .at) ≡ ok x next → (r : Tree) → before x r ≡ c → blockless c ≡ true
+      → (σ′ : Scope Status) → σ′ ≡ settle T c d (valued T c σ) → StmtDone T c d σ p before-it (a .place) after-it σ′ next
+  plain-done s small t left x next read r is plain σ′ loc = record {
+    wrote = wrote-as (ap (both (frontOwn T c (p .at) σ)) (blockless-own T c d (p .at + frontSize c) (valued T c σ) plain))
+        (wrote-both front-wrote (wrote-nothing (record { written = refl; errors = refl; warnings = refl; lefts = refl; fits = refl })));
+    inserted = acts .inserted ∙ ap (λ (k : ℕ). k + length (frontDrops T c (valued T c σ))) (e .inserted);
+    last = acts .last ∙ e .at;
+    at =
+        let w = subst (λ (b : Tree). next ≡ p .at + frontSize b + blocksSize b) is (stmt-end s small t left (p .at) x next read r) in
+        let z = blockless-size c plain in
+        let u = acts .at in
+        let v = e .at in
+        omega arith;
+    locals = loc ∙ sym (blockless-after T c d (valued T c σ) plain);
+  }
+
+  -- a statement with blocks
+  pub blocks-done : (r : Walked) (m′ : Memory) (next : ℕ) → BlocksWalk T c d (valued T c σ) (a .place) after-it r m′ next → ownFault T c d σ ≡ none
+      → StmtDone T c d σ p before-it (r .place) m′ (r .locals) next
+  blocks-done r m′ next g clear =
+      let b = g .done clear in
+      record {
+        wrote = wrote-as (ap (λ (k : ℕ). both (frontOwn T c (p .at) σ) (blocksOwn T c d k (valued T c σ))) (sym (acts .at ∙ ap (λ (k : ℕ). k + frontSize c) (e .at))))
+            (wrote-both front-wrote (b .wrote));
+        inserted = b .inserted ∙ acts .inserted ∙ ap (λ (k : ℕ). k + length (frontDrops T c (valued T c σ))) (e .inserted);
+        last = b .last ∙ acts .last ∙ e .at;
+        at = b .at;
+        locals = b .locals;
+      }

@@ -1,0 +1,11 @@
+pub mod Wrotes
+pub mod Leads
+pub mod Turns
+pub mod Values
+pub mod Fronts
+pub mod Blocks
+pub mod Tags
+pub mod Ends
+pub mod Branches
+pub mod Heads
+pub mod Ifs

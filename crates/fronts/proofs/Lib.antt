@@ -1,9 +1,0 @@
-pub mod Wrotes
-pub mod Leads
-pub mod Block
-pub mod Fronts
-pub mod Turns
-pub mod Changes
-pub mod Values
-pub mod Quieter
-pub mod Acted

@@ -1,4 +1,0 @@
--- What the proofs of several functions use.
-pub mod Kept
-pub mod Lent
-pub mod Marks

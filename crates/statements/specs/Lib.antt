@@ -1,2 +1,0 @@
-pub mod Act
-pub mod Parts

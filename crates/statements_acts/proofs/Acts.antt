@@ -1,0 +1,445 @@
+-- What the code of each kind of statement does is what the rules say of whatever statement was read there.
+-- Assumes nothing.
+use mathlib.Core.Path.{_≡_, refl, sym, ap, _∙_, subst}
+use mathlib.Core.List.{List, [], _∷_, _++_, append-nil}
+use mathlib.Core.Bool.{Bool, true, false, cond, _&&_, _||_}
+use mathlib.Core.Logic.{_⊎_, inl, inr, ⊎-elim}
+use Prim.Native.Nat.{ℕ, _+_, _*_, _≤_, _<_}
+use native.Mathlib.Omega.{arith}
+use native.Mathlib.Nat.{add-zero}
+use borrow.Author.Tests.{ne-eqb, eqb-true, eqb-false}
+use lib.ListN.{length, getD}
+use lib.Dec.{eqb}
+use lib.Seq.{slice, length-slice}
+use Rattle.image_fields.specs.Number.{two, four}
+use Rattle.image_fields.specs.Bytes.{twoBytes, fourBytes, numberBytes, Bytes}
+use Rattle.image_fields.proofs.Tests.{and-true, false-true, less}
+use Rattle.tables.specs.Limits.{version1}
+use Rattle.tables.specs.Tables.{Tables}
+use Rattle.image_body.specs.Expr.{Expr, argWidth, countWidth, lastWidth}
+use Rattle.image_body.specs.Stmt.{Tree, done, headBytes, valueFlag, valueCount, before}
+use Rattle.image_body.specs.Stands.{Stands}
+use Rattle.image_body.specs.Depth.{Walkable}
+use Rattle.image_body.proofs.Standing.{stands, ends, order}
+use Rattle.image_body.proofs.Shallow.{walkable}
+use Rattle.image_body.proofs.Statements.{stmt-tag, stmt-return, stmt-expr}
+use Rattle.image_encoding.specs.Body.{encodeExpr}
+use Rattle.image_encoding.proofs.ExprWritten.{expr-written}
+use Rattle.rules.specs.Questions.{auto}
+use Rattle.rules.specs.Expr.{view as viewed, identIn, nameIn, isCall, tyOf, calleeAt}
+use Rattle.rules.specs.Expr as rules
+use Rattle.rules.specs.State.{State as Status}
+use Rattle.rules.specs.Stack.{shape, Stack as Scope}
+use Rattle.rules.specs.Effects.{takeOver, assignTakes}
+use Rattle.rules.specs.Rules.{Drop, dropOf, states, applyAll, collect, dropNamed, assignDrops, returnDrops}
+use Rattle.rules.specs.Report.{left as leaves, warnings, lefts, deleteNode, unused, leftBehind}
+use Rattle.rules.specs.Verdict.{entriesOf}
+use Rattle.expressions_effects.proofs.Laws.{within}
+use Rattle.image_writing.specs.Stored.{Stored}
+use Rattle.image_writing.proofs.Stores.{both-stored, none-stored}
+use Rattle.statements_steps.specs.Drops.{deleteBytes}
+use Rattle.statements_acts.specs.Drops.{admitted}
+use Rattle.statements_acts.specs.declared.Which.{Which}
+use Rattle.statements_acts.specs.declared.Which.the-variants.{All}
+use Rattle.statements_acts.specs.declared.Put.{Put}
+use Rattle.statements_acts.specs.declared.Named.{Named}
+use Rattle.statements_acts.specs.declared.Named.the-variants.{Nobody}
+use Rattle.statements_acts.specs.declared.Change.{Change}
+use Rattle.statements_acts.specs.declared.Change.the-variants.{Nothing, Register}
+use Rattle.statements_acts.specs.declared.Place.{Place}
+use Rattle.statements_acts.specs.declared.Warned.{Warned}
+use Rattle.statements_steps.specs.Statement.{frontDrops, frontReports, settle}
+use Rattle.statements_acts.specs.Act.{changeIn, takenIn, FrontThere, Within, Grows, Acts, ActsThere}
+use Rattle.statements_acts.specs.Parts.{deletedName, deleteOf, reviveOf, sparing, noPut, relisted, Copied, WarnsAt, Untouched}
+use Rattle.statements_acts.proofs.Slices.{written-slice, no-value, one-value}
+use Rattle.statements_acts.proofs.Fronts.{Front, head-bytes, front-plain, front-variable, front-assign, front-return, front-bare}
+use Rattle.statements_acts.proofs.Taken.{delete-is, revive-is}
+use Rattle.statements_acts.proofs.Views.{callee-some}
+
+none-at : (xs : List ℕ) {i j : ℕ} → j ≡ i → Stored xs i [] xs j
+none-at xs {i} e = record { cells = refl; place = e ∙ sym (add-zero i) }
+
+-- the locals that a return deletes, as the code asks
+sparing-is : (T : Tables) (σ : Scope Status) (which : Which) (n : rules.Named) → which ≡ sparing n → collect states T (admitted which) 0 σ ≡ returnDrops states T n σ
+sparing-is T σ which rules.nobody e = ap (λ w. collect states T (admitted w) 0 σ) e
+sparing-is T σ which (rules.called n p) e = ap (λ w. collect states T (admitted w) 0 σ) e
+
+no-warnings : (p : ℕ) (ds : List Drop) → warnings (leftBehind p ds) ≡ []
+no-warnings p [] = refl
+no-warnings p (dropOf q n t ∷ ds) = no-warnings p ds
+
+all-lefts : (p : ℕ) (ds : List Drop) → lefts (leftBehind p ds) ≡ leftBehind p ds
+all-lefts p [] = refl
+all-lefts p (dropOf q n t ∷ ds) = ap (λ l. leaves p n ∷ l) (all-lefts p ds)
+
+-- what is stored stays small
+pub room-of : {s : List ℕ} {p : Place} → Within s p
+    → (length s ≤ 65536) × (p .at ≤ 65536) × (p .written ≤ 19660800) × (p .warnings ≤ 19660800) × (p .lefts ≤ 19660800) × (p .inserted ≤ 19660800)
+room-of w =
+    let a = w .small in
+    let b = w .inside in
+    let c = w .written in
+    let d = w .warnings in
+    let e = w .lefts in
+    let f = w .inserted in
+    (a, omega arith, omega arith, omega arith, omega arith, omega arith)
+
+pub none-put-is : {put : Put} (p : Place) → put ≡ noPut p → (put .at ≡ p .written) × (put .count ≡ 0)
+none-put-is p e = (ap (λ (z : Put). z .at) e, ap (λ (z : Put). z .count) e)
+
+pub listed-is : {q : Place} (p : Place) {n : ℕ} → q ≡ relisted p n → (q .at ≡ p .at) × (q .inserted ≡ p .inserted)
+listed-is p e = (ap (λ (z : Place). z .at) e, ap (λ (z : Place). z .inserted) e)
+
+-- as much as the bytes read allow, of what was copied behind deletes
+pub grows-of : {s : List ℕ} {p : Place} {put : Put} {to : ℕ} {out : List ℕ} {q : Place} {out′ : List ℕ} → Copied s p put to out q out′ → p .at ≤ to → to ≤ length s
+    → put .at + 299 * p .at ≤ p .written + 299 * to → put .count + 300 * p .at ≤ 300 * to → Grows s p q
+grows-of {s} {p} {put} {to} c l h w n =
+    let b = c .bytes .place in
+    let e = length-slice (p .at) to s h in
+    let a = c .at in
+    let i = c .inserted in
+    let x = c .errors in
+    let y = c .warnings in
+    let z = c .lefts in
+    record { on = omega arith; inside = omega arith; written = omega arith; errors = omega arith; warnings = omega arith; lefts = omega arith; inserted = omega arith }
+
+module _ (T : Tables) (σ : Scope Status) (p : Place) where
+  -- what was copied behind deletes, if nothing is reported
+  pub acts-of : (c : Tree) (put : Put) {to : ℕ} {s before′ out out′ warns left : List ℕ} (q : Place) (change : Change) (taken : Named) → Copied s p put to out q out′
+      → Stored before′ (p .written) (deleteBytes (frontDrops T c σ)) out (put .at) → put .count ≡ length (frontDrops T c σ)
+      → Front T s (p .at) to c → frontReports T c (p .at) σ ≡ []
+      → ((d : ℕ) → takenIn taken (changeIn d change σ) ≡ settle T c d σ)
+      → Acts T c σ p before′ warns left (record { place = q; change = change; taken = taken }) out′ warns left
+  acts-of c put {to} {s} {before′} {out} {out′} {warns} {left} q change taken w st n f e settled = record {
+    bytes = both-stored st (subst (λ v. Stored out (put .at) v out′ (q .written)) (written-slice (f .written)) (w .bytes));
+    warned = subst (λ r. Stored warns (p .warnings) (entriesOf version1 (warnings r)) warns (q .warnings)) (sym e) (none-at warns (w .warnings));
+    listed = subst (λ r. Stored left (p .lefts) (entriesOf version1 (lefts r)) left (q .lefts)) (sym e) (none-at left (w .lefts));
+    errors = w .errors;
+    inserted = w .inserted ∙ ap (λ k. p .inserted + k) n;
+    last = w .last;
+    fits = w .fits;
+    at = w .at ∙ f .size;
+    settles = settled;
+  }
+
+-- Block, IfElse, While, Break, Continue
+module _ (s : List ℕ) (small : Bytes s) (p : Place) (to : ℕ) (g : FrontThere s (p .at) to) (u : Untouched (getD s (p .at) 0)) where
+  pub plain-reach : (p .at ≤ to) × (to ≤ length s)
+  plain-reach =
+      let T : Tables = record { names = []; types = []; structs = []; globals = [] } in
+      let f = front-plain T s small (p .at) to g (g .f) (g .t) (g .x) (g .next) (g .read) u (done tt) .0 in
+      let a = f .size in
+      (omega arith, f .inside)
+
+  module _ (put : Put) (ep : put ≡ noPut p) {out out′ : List ℕ} (q : Place) (w : Copied s p put to out q out′) where
+    pub plain-grows : Grows s p q
+    plain-grows =
+        let r = plain-reach in
+        let a = r .0 in
+        let e = none-put-is p ep in
+        grows-of w (r .0) (r .1) (omega arith) (omega arith)
+
+    pub plain-acts : (T : Tables) (σ : Scope Status) (warns left : List ℕ) → ActsThere T s σ p out warns left (record { place = q; change = Nothing; taken = Nobody }) out′ warns left
+    plain-acts T σ warns left = record {
+      acts = λ f t x next r deep read.
+          let v = front-plain T s small (p .at) to g f t x next read u r in
+          acts-of T σ p (before x r) (noPut p) q Nothing Nobody (subst (λ z. Copied s p z to out q out′) ep w)
+          (subst (λ d. Stored out (p .written) (deleteBytes d) out (p .written)) (sym (v .1 .drops σ)) (none-stored out (p .written)))
+          (sym (ap length (v .1 .drops σ))) (v .0) (v .1 .reports (p .at) σ) (λ d. sym (v .1 .settles d σ));
+    }
+
+-- a Let or Const
+module _ (s : List ℕ) (small : Bytes s) (p : Place) (to : ℕ) (g : FrontThere s (p .at) to) (low : 3 < getD s (p .at) 0) (high : getD s (p .at) 0 < 6) where
+  pub variable-reach : (p .at + 9 ≤ to) × (to ≤ length s)
+  variable-reach =
+      let T : Tables = record { names = []; types = []; structs = []; globals = [] } in
+      let f = front-variable T s small (p .at) to g (g .f) (g .t) (g .x) (g .next) (g .read) low high (done tt) in
+      let a = f .front .size in
+      (omega arith, f .front .inside)
+
+  pub variable-grows : (put : Put) → put ≡ noPut p → {out out′ : List ℕ} (q : Place) → Copied s p put to out q out′ → Grows s p q
+  variable-grows put ep q w =
+      let r = variable-reach in
+      let a = r .0 in
+      let e = none-put-is p ep in
+      grows-of w (omega arith) (r .1) (omega arith) (omega arith)
+
+  pub variable-acts : (put : Put) → put ≡ noPut p → {out out′ : List ℕ} (q : Place) → Copied s p put to out q out′ → (T : Tables) (σ : Scope Status) (n ty : ℕ) (taken : Named)
+      → n ≡ two s (p .at + 5) → ty ≡ two s (p .at + 7)
+      → ((e : Expr) (next : ℕ) → Stands e s (p .at + 9) next → (τ : Scope Status) → takenIn taken τ ≡ applyAll states (takeOver T (shape σ) n ty e) τ)
+      → (warns left : List ℕ) → ActsThere T s σ p out warns left (record { place = q; change = Register n ty; taken = taken }) out′ warns left
+  variable-acts put ep {out} {out′} q w T σ n ty taken en et tk warns left = record {
+    acts = λ f t x next r deep read.
+        let v = front-variable T s small (p .at) to g f t x next read low high r in
+        subst (λ c. Acts T c σ p out warns left (record { place = q; change = Register n ty; taken = taken }) out′ warns left) (sym (v .is))
+        (acts-of T σ p _ (noPut p) q (Register n ty) taken (subst (λ z. Copied s p z to out q out′) ep w) (none-stored out (p .written)) refl (v .front) refl
+        (λ d. settled d (v .e) (tk (v .e) (v .q) (v .stands))));
+  }
+    where
+      settled : (d : ℕ) (e : Expr) → ((τ : Scope Status) → takenIn taken τ ≡ applyAll states (takeOver T (shape σ) n ty e) τ)
+          → takenIn taken (changeIn d (Register n ty) σ)
+          ≡ applyAll states (takeOver T (shape σ) (two s (p .at + 5)) (two s (p .at + 7)) e) (changeIn d (Register (two s (p .at + 5)) (two s (p .at + 7))) σ)
+      settled d e h = h (changeIn d (Register n ty) σ) ∙ ap (λ m. applyAll states (takeOver T (shape σ) m ty e) (changeIn d (Register m ty) σ)) en
+          ∙ ap (λ m. applyAll states (takeOver T (shape σ) (two s (p .at + 5)) m e) (changeIn d (Register (two s (p .at + 5)) m) σ)) et
+
+-- the delete before an assignment
+module _ (T : Tables) (σ : Scope Status) (span : ℕ) (e : Expr) where
+  pub drop-none : identIn (viewed e) ≡ rules.nobody → assignDrops states T span e σ ≡ []
+  drop-none z = ap (λ n. dropNamed states T span n σ) z
+
+  pub drop-ident : {m n k : ℕ} → identIn (viewed e) ≡ rules.called m k → n ≡ m → {old new : List ℕ} {at next count : ℕ}
+      → Stored old at (deleteBytes (dropNamed states T span (rules.called n 0) σ)) new next × (count ≡ length (dropNamed states T span (rules.called n 0) σ))
+      → Stored old at (deleteBytes (assignDrops states T span e σ)) new next × (count ≡ length (assignDrops states T span e σ))
+  drop-ident {m} {n} {k} z en {old} {new} {at} {next} {count} =
+      subst (λ d. Stored old at (deleteBytes d) new next × (count ≡ length d))
+      (ap (λ x. dropNamed states T span (rules.called x k) σ) en ∙ sym (ap (λ x. dropNamed states T span x σ) z))
+
+-- an Assign
+module _ (s : List ℕ) (small : Bytes s) (p : Place) (end : ℕ) (g : FrontThere s (p .at) end) (k : getD s (p .at) 0 ≡ 6) where
+  pub assign-reach : (p .at + 19 ≤ end) × (end + 2 ≤ length s) × Walkable s 24 (p .at + 5)
+  assign-reach =
+      let T : Tables = record { names = []; types = []; structs = []; globals = [] } in
+      let f = front-assign T s small (p .at) end g (g .f) (g .t) (g .x) (g .next) (g .read) k (done tt) in
+      let a = order (f .e) s _ _ (f .stands) in
+      let b = order (f .v) s _ _ (f .other) in
+      (omega arith, f .front .inside, subst (λ d. Walkable s d (p .at + 5)) (g .deep) (walkable (g .t) s (g .t .exprDepth) (p .at + 5) (f .e) (f .p) (f .destination)))
+
+  pub assign-grows : (put : Put) → put .at ≤ p .written + 21 → put .count ≤ 1 → {out out′ : List ℕ} (q : Place) → Copied s p put (end + 2) out q out′ → Grows s p q
+  assign-grows put l n q w =
+      let r = assign-reach in
+      let a = r .0 in
+      grows-of w (omega arith) (r .1) (omega arith) (omega arith)
+
+  pub assign-acts : {before′ out out′ : List ℕ} (put : Put) (q : Place) (change : Change) (taken : Named) → Copied s p put (end + 2) out q out′ → (T : Tables) (σ : Scope Status)
+      → (span : ℕ) → span ≡ four s (p .at + 1) → ((e : Expr) (next : ℕ) → Stands e s (p .at + 5) next
+      → Stored before′ (p .written) (deleteBytes (assignDrops states T span e σ)) out (put .at) × (put .count ≡ length (assignDrops states T span e σ)))
+      → ((e : Expr) (next : ℕ) → Stands e s (p .at + 5) next → change ≡ reviveOf (nameIn (viewed e)))
+      → ((e v : Expr) (i j : ℕ) → Stands e s (p .at + 5) i → Stands v s i j → (τ : Scope Status) → takenIn taken τ ≡ applyAll states (assignTakes T (shape σ) e v) τ)
+      → (warns left : List ℕ) → ActsThere T s σ p before′ warns left (record { place = q; change = change; taken = taken }) out′ warns left
+  assign-acts {before′} {out} {out′} put q change taken w T σ span es dr rv tk warns left = record {
+    acts = λ f t x next r deep read.
+        let v = front-assign T s small (p .at) end g f t x next read k r in
+        let d = subst (λ m. Stored before′ (p .written) (deleteBytes (assignDrops states T m (v .e) σ)) out (put .at) × (put .count ≡ length (assignDrops states T m (v .e) σ))) es (dr (v .e) (v .p) (v .stands)) in
+        subst (λ c. Acts T c σ p before′ warns left (record { place = q; change = change; taken = taken }) out′ warns left) (sym (v .is))
+        (acts-of T σ p _ put q change taken w (d .0) (d .1) (v .front) refl
+        (λ i. tk (v .e) (v .v) (v .p) end (v .stands) (v .other) (changeIn i change σ)
+        ∙ ap (λ τ. applyAll states (assignTakes T (shape σ) (v .e) (v .v)) τ)
+        (ap (λ z. changeIn i z σ) (rv (v .e) (v .p) (v .stands)) ∙ revive-is i (nameIn (viewed (v .e))) σ)));
+  }
+
+-- a Return with a value
+module _ (s : List ℕ) (small : Bytes s) (p : Place) (end : ℕ) (g : FrontThere s (p .at) end) (k : getD s (p .at) 0 ≡ 2) (o : getD s (p .at + 5) 0 ≡ 1) where
+  pub return-reach : (p .at + 13 ≤ end) × (end + 2 ≤ length s)
+  return-reach =
+      let T : Tables = record { names = []; types = []; structs = []; globals = [] } in
+      let f = front-return T s small (p .at) end g (g .f) (g .t) (g .x) (g .next) (g .read) k o (done tt) in
+      let a = order (f .e) s _ _ (f .stands) in
+      (omega arith, f .front .inside)
+
+  pub return-grows : (put : Put) → put .at ≤ p .written + 1344 → put .count ≤ 64 → {out out′ : List ℕ} (q : Place) → Copied s p put (end + 2) out q out′ → Grows s p q
+  return-grows put l n q w =
+      let r = return-reach in
+      let a = r .0 in
+      grows-of w (omega arith) (r .1) (omega arith) (omega arith)
+
+  pub return-acts : {before′ out out′ : List ℕ} (put : Put) (q : Place) → Copied s p put (end + 2) out q out′ → (T : Tables) (σ : Scope Status) (which : Which)
+      → ((e : Expr) (next : ℕ) → Stands e s (p .at + 6) next → which ≡ sparing (nameIn (viewed e)))
+      → Stored before′ (p .written) (deleteBytes (collect states T (admitted which) 0 σ)) out (put .at) × (put .count ≡ length (collect states T (admitted which) 0 σ))
+      → (warns left : List ℕ) → ActsThere T s σ p before′ warns left (record { place = q; change = Nothing; taken = Nobody }) out′ warns left
+  return-acts {before′} {out} {out′} put q w T σ which ew dr warns left = record {
+    acts = λ f t x next r deep read.
+        let v = front-return T s small (p .at) end g f t x next read k o r in
+        let d = sparing-is T σ which (nameIn (viewed (v .e))) (ew (v .e) end (v .stands)) in
+        subst (λ c. Acts T c σ p before′ warns left (record { place = q; change = Nothing; taken = Nobody }) out′ warns left) (sym (v .is))
+        (acts-of T σ p _ put q Nothing Nobody w (subst (λ x. Stored before′ (p .written) (deleteBytes x) out (put .at)) d (dr .0)) (dr .1 ∙ ap length d) (v .front) refl (λ i. refl));
+  }
+
+-- a Return without a value
+module _ (s : List ℕ) (small : Bytes s) (p : Place) {end : ℕ} (g : FrontThere s (p .at) end) (k : getD s (p .at) 0 ≡ 2) (o : getD s (p .at + 5) 0 ≡ 0) where
+  pub bare-reach : p .at + 8 ≤ length s
+  bare-reach =
+      let T : Tables = record { names = []; types = []; structs = []; globals = [] } in
+      front-bare T s small (p .at) (g .f) (g .t) (g .x) (g .next) (g .read) k o (done tt) .1 .inside
+
+  module _ (n : ℕ) (p′ : Place) (e′ : p′ ≡ relisted p n) (put : Put) (ep : put ≡ noPut p) {out out′ : List ℕ} (q : Place) (w : Copied s p′ put (p .at + 8) out q out′) where
+    copied : Copied s (relisted p n) (noPut p) (p .at + 8) out q out′
+    copied = subst (λ z. Copied s (relisted p n) z (p .at + 8) out q out′) ep (subst (λ z. Copied s z put (p .at + 8) out q out′) e′ w)
+
+    pub bare-grows : n ≤ p .lefts + 128 → Grows s p q
+    bare-grows l =
+        let c = copied in
+        let b = c .bytes .place in
+        let e = length-slice (p .at) (p .at + 8) s bare-reach in
+        let a = c .at in
+        let i = c .inserted in
+        let x = c .errors in
+        let y = c .warnings in
+        let z = c .lefts in
+        record { on = omega arith; inside = subst (λ m. m ≤ length s) (sym a) bare-reach; written = omega arith; errors = omega arith; warnings = omega arith; lefts = omega arith; inserted = omega arith }
+
+    pub bare-acts : (T : Tables) (σ : Scope Status) (span : ℕ) → span ≡ four s (p .at + 1) → {left left′ : List ℕ}
+        → Stored left (p .lefts) (entriesOf version1 (leftBehind span (collect states T (admitted All) 0 σ))) left′ n
+        → (warns : List ℕ) → ActsThere T s σ p out warns left (record { place = q; change = Nothing; taken = Nobody }) out′ warns left′
+    bare-acts T σ span es {left} {left′} st warns = record {
+      acts = λ f t x next r deep read.
+          let v = front-bare T s small (p .at) f t x next read k o r in
+          let c = copied in
+          subst (λ c. Acts T c σ p out warns left (record { place = q; change = Nothing; taken = Nobody }) out′ warns left′) (sym (v .0)) (record {
+            bytes = subst (λ x. Stored out (p .written) x out′ (q .written)) (written-slice (v .1 .written)) (c .bytes);
+            warned = subst (λ z. Stored warns (p .warnings) (entriesOf version1 z) warns (q .warnings)) (sym (no-warnings (four s (p .at + 1)) (collect states T (admitted All) 0 σ))) (none-at warns (c .warnings));
+            listed = subst (Stored left (p .lefts) _ left′) (sym (c .lefts))
+                (subst (λ z. Stored left (p .lefts) (entriesOf version1 z) left′ n) (ap (λ m. leftBehind m (collect states T (admitted All) 0 σ)) es ∙ sym (all-lefts (four s (p .at + 1)) (collect states T (admitted All) 0 σ))) st);
+            errors = c .errors;
+            inserted = c .inserted;
+            last = c .last;
+            fits = c .fits;
+            at = c .at;
+            settles = λ d. refl;
+          });
+    }
+
+-- an expression statement
+delete-bytes : (p : ℕ) (e : Expr) → (10 ∷ (fourBytes p ++ twoBytes 0)) ++ encodeExpr e ≡ encodeExpr (deleteNode p e)
+unfolding encodeExpr numberBytes argWidth countWidth lastWidth fourBytes twoBytes
+delete-bytes p e =
+    let z : encodeExpr e ≡ (encodeExpr e ++ []) ++ [] = sym (append-nil (encodeExpr e ++ []) ∙ append-nil (encodeExpr e)) in
+    ap (λ l. (10 ∷ (fourBytes p ++ twoBytes 0)) ++ l) z
+
+own-bytes : (w : Bool) (callee at p : ℕ) (e : Expr) → callee ≡ cond w (calleeAt e at) 0 → (w ≡ true → 0 < calleeAt e at)
+    → cond (eqb callee 0) [] (10 ∷ (fourBytes p ++ twoBytes 0)) ++ encodeExpr e ≡ encodeExpr (cond w (deleteNode p e) e)
+own-bytes true callee at p e ec pos =
+    let n : 0 < calleeAt e at = pos refl in
+    rw (ne-eqb callee 0 (λ z. omega arith)) (delete-bytes p e)
+own-bytes false callee at p e ec pos = rw ec refl
+
+own-told : (w : Bool) (callee at p : ℕ) (e : Expr) → callee ≡ cond w (calleeAt e (at + 5)) 0 → (w ≡ true → 0 < calleeAt e (at + 5))
+    → cond (eqb callee 0) [] (p ∷ callee ∷ []) ≡ entriesOf version1 (warnings (unused w p e at))
+own-told true callee at p e ec pos =
+    let n : 0 < calleeAt e (at + 5) = pos refl in
+    rw (ne-eqb callee 0 (λ z. omega arith)) (ap (λ c. p ∷ c ∷ []) ec)
+own-told false callee at p e ec pos = rw ec refl
+
+own-lefts : (w : Bool) (p : ℕ) (e : Expr) (at : ℕ) → lefts (unused w p e at) ≡ []
+own-lefts true p e at = refl
+own-lefts false p e at = refl
+
+pub head-room : (b : Bool) (p : ℕ) → length (cond b [] (10 ∷ (fourBytes p ++ twoBytes 0))) ≤ 7
+unfolding fourBytes twoBytes
+head-room true p = omega arith
+head-room false p = omega arith
+
+pair-room : (b : Bool) (p c : ℕ) → length (cond b [] (p ∷ c ∷ [])) ≤ 2
+pair-room true p c = omega arith
+pair-room false p c = omega arith
+
+pub warns-none : {callee : ℕ} → callee ≡ 0 → (span : ℕ) (out : List ℕ) (written : ℕ) (warns : List ℕ) (told : ℕ)
+    → WarnsAt callee span out written warns told (record { written = written; warnings = told }) out warns
+warns-none e span out written warns told = record { bytes = rw e (none-stored out written); warned = rw e (none-stored warns told) }
+
+pub warns-some : {callee span : ℕ} → (callee ≡ 0 → ⊥) → {m : ℕ} → m ≡ span → {out out′ : List ℕ} {written next : ℕ} → Stored out written (10 ∷ (fourBytes m ++ twoBytes 0)) out′ next
+    → {warns warns′ : List ℕ} {told more : ℕ} → Stored warns told (m ∷ callee ∷ []) warns′ more
+    → WarnsAt callee span out written warns told (record { written = next; warnings = more }) out′ warns′
+warns-some {callee} {span} ne {m} es {out} {out′} {written} {next} a {warns} {warns′} {told} {more} b =
+    subst (λ z. WarnsAt callee z out written warns told (record { written = next; warnings = more }) out′ warns′) es
+    (record { bytes = rw (ne-eqb callee 0 ne) a; warned = rw (ne-eqb callee 0 ne) b })
+
+module _ (s : List ℕ) (small : Bytes s) (p : Place) (end : ℕ) (g : FrontThere s (p .at) end) (k : getD s (p .at) 0 ≡ 3) where
+  pub expr-reach : (p .at + 12 ≤ end) × (end ≤ length s)
+  unfolding headBytes valueFlag valueCount
+  expr-reach =
+      let v = stmt-expr (g .f) (g .t) s (p .at) (g .x) (g .next) (g .read) k in
+      let st = stands (g .t) s (g .t .exprDepth) (p .at + 5) (v .0) (g .next) (v .2) in
+      let z : end ≡ g .next = one-value s (p .at) end g 3 k (omega arith) refl (v .0) (g .next) st in
+      let a = order (v .0) s _ _ st in
+      let b = ends (v .0) s _ _ st in
+      (omega arith, omega arith)
+
+  -- what is copied and put
+  module _ {out o1 o2 out′ warns warns′ : List ℕ} {i j : ℕ} (callee : ℕ) (r : Warned) (head : Stored out (p .written) (slice (p .at) (p .at + 5) s) o1 i)
+      (mid : WarnsAt callee (four s (p .at + 1)) o1 i warns (p .warnings) r o2 warns′) (tail : Stored o2 (r .written) (slice (p .at + 5) end s) out′ j) where
+    abbrev pub place : Place
+    place = record { at = end; last = p .at; written = j; errors = p .errors; warnings = r .warnings; lefts = p .lefts; inserted = p .inserted; fits = p .fits }
+
+    pub expr-grows : Grows s p place
+    expr-grows =
+        let e = expr-reach in
+        let a = e .0 in
+        let b = e .1 in
+        let x = head .place in
+        let lx = length-slice (p .at) (p .at + 5) s (omega arith) in
+        let y = mid .bytes .place in
+        let ly = head-room (eqb callee 0) (four s (p .at + 1)) in
+        let z = tail .place in
+        let lz = length-slice (p .at + 5) end s b in
+        let u = mid .warned .place in
+        let lu = pair-room (eqb callee 0) (four s (p .at + 1)) callee in
+        record { on = omega arith; inside = b; written = omega arith; errors = omega arith; warnings = omega arith; lefts = omega arith; inserted = omega arith }
+
+    pub expr-acts : (change : Change) (T : Tables) (σ : Scope Status)
+        → ((e : Expr) (next : ℕ) → Stands e s (p .at + 5) next → callee ≡ cond (auto T (tyOf e) && isCall (viewed e)) (calleeAt e (p .at + 5)) 0)
+        → ((e : Expr) (next : ℕ) → Stands e s (p .at + 5) next → change ≡ deleteOf (deletedName (viewed e)))
+        → (left : List ℕ) → ActsThere T s σ p out warns left (record { place = place; change = change; taken = Nobody }) out′ warns′ left
+    unfolding headBytes valueFlag valueCount
+    expr-acts change T σ ec ed left = record {
+      acts = λ f t x next rest deep read.
+          let v = stmt-expr f t s (p .at) x next read k in
+          let l : p .at + 5 ≤ length s = v .1 in
+          let st = stands t s (t .exprDepth) (p .at + 5) (v .0) next (v .2) in
+          let w = expr-written s small t (t .exprDepth) (p .at + 5) (v .0) next (v .2) in
+          let z : end ≡ next = one-value s (p .at) end g 3 k (omega arith) refl (v .0) next st in
+          let n = w .end in
+          let c = ec (v .0) next st in
+          let pos : (auto T (tyOf (v .0)) && isCall (viewed (v .0))) ≡ true → 0 < calleeAt (v .0) (p .at + 5) = λ y. callee-some (v .0) (p .at + 5) (and-true (auto T (tyOf (v .0))) (isCall (viewed (v .0))) y .1) in
+          let h : slice (p .at) (p .at + 5) s ≡ 3 ∷ fourBytes (four s (p .at + 1)) = written-slice (head-bytes s small (p .at) 3 k l) in
+          let m : slice (p .at + 5) end s ≡ encodeExpr (v .0) = ap (λ y. slice (p .at + 5) y s) z ∙ written-slice w in
+          subst (λ y. Acts T y σ p out warns left (record { place = place; change = change; taken = Nobody }) out′ warns′ left) (sym (v .3 rest)) (record {
+            bytes = subst (λ y. Stored out (p .written) y out′ j)
+                (ap (λ y. y ++ (cond (eqb callee 0) [] (10 ∷ (fourBytes (four s (p .at + 1)) ++ twoBytes 0)) ++ slice (p .at + 5) end s)) h
+                ∙ ap (λ y. (3 ∷ fourBytes (four s (p .at + 1))) ++ (cond (eqb callee 0) [] (10 ∷ (fourBytes (four s (p .at + 1)) ++ twoBytes 0)) ++ y)) m
+                ∙ ap (λ y. (3 ∷ fourBytes (four s (p .at + 1))) ++ y) (own-bytes _ callee (p .at + 5) (four s (p .at + 1)) (v .0) c pos))
+                (both-stored head (both-stored (mid .bytes) tail));
+            warned = subst (λ y. Stored warns (p .warnings) y warns′ (r .warnings)) (own-told _ callee (p .at) (four s (p .at + 1)) (v .0) c pos) (mid .warned);
+            listed = subst (λ y. Stored left (p .lefts) (entriesOf version1 y) left (p .lefts)) (sym (own-lefts (auto T (tyOf (v .0)) && isCall (viewed (v .0))) (four s (p .at + 1)) (v .0) (p .at))) (none-stored left (p .lefts));
+            errors = refl;
+            inserted = sym (add-zero (p .inserted));
+            last = refl;
+            fits = refl;
+            at = omega arith;
+            settles = λ d. ap (λ y. changeIn d y σ) (ed (v .0) next st) ∙ delete-is T (shape σ) d (viewed (v .0)) σ;
+          });
+    }
+
+-- a Return whose flag is not 1
+pub bare-there : (s : List ℕ) (at end : ℕ) → FrontThere s at end → getD s at 0 ≡ 2 → (getD s (at + 5) 0 ≡ 1 → ⊥) → FrontThere s at (at + 6) × (getD s (at + 5) 0 ≡ 0)
+unfolding headBytes valueFlag valueCount
+bare-there s at end g k ne =
+    let v = stmt-return (g .f) (g .t) s at (g .x) (g .next) (g .read) k in
+    let l = v .flag in
+    let o : getD s (at + 5) 0 ≡ 0 = ⊎-elim (λ z. absurd (ne (omega arith))) (λ z. omega arith) (less 0 (getD s (at + 5) 0)) in
+    (subst (FrontThere s at) (no-value s at end g 2 k (omega arith) (omega arith)) g, o)
+
+-- the tag that the code tests
+pub tag-there : {s : List ℕ} {at end : ℕ} → FrontThere s at end → at < length s
+tag-there {s} {at} g = within s at (getD s at 0) refl (stmt-tag (g .f) (g .t) s at (g .x) (g .next) (g .read) .0)
+
+or-cases : (a b : Bool) → (a || b) ≡ true → (a ≡ true) ⊎ (b ≡ true)
+or-cases true b e = inl refl
+or-cases false b e = inr e
+
+pub variable-tag : (k : ℕ) → (eqb k 4 || eqb k 5) ≡ true → (3 < k) × (k < 6)
+variable-tag k e = ⊎-elim (λ a. let z = eqb-true k 4 a in (omega arith, omega arith)) (λ b. let z = eqb-true k 5 b in (omega arith, omega arith)) (or-cases (eqb k 4) (eqb k 5) e)
+
+or-none : (a b : Bool) → (a || b) ≡ false → (a ≡ false) × (b ≡ false)
+or-none true b e = false-true (sym e)
+or-none false b e = (refl, e)
+
+one-of : (k : ℕ) → (k ≡ 2 → ⊥) → (k ≡ 3 → ⊥) → (k ≡ 4 → ⊥) → (k ≡ 5 → ⊥) → (k ≡ 6 → ⊥) → 2 ≤ k → k ≤ 6 → ⊥
+one-of k n2 n3 n4 n5 n6 l h =
+    ⊎-elim (λ a. n2 (omega arith)) (λ a. ⊎-elim (λ b. n3 (omega arith)) (λ b. ⊎-elim (λ c. n4 (omega arith)) (λ c. ⊎-elim (λ d. n5 (omega arith)) (λ d. n6 (omega arith)) (less k 6)) (less k 5)) (less k 4)) (less k 3)
+
+pub plain-tag : (k : ℕ) → (k ≡ 2 → ⊥) → (k ≡ 3 → ⊥) → (k ≡ 6 → ⊥) → (eqb k 4 || eqb k 5) ≡ false → Untouched k
+plain-tag k n2 n3 n6 e =
+    let z = or-none (eqb k 4) (eqb k 5) e in
+    let n4 = eqb-false k 4 (z .0) in
+    let n5 = eqb-false k 5 (z .1) in
+    ⊎-elim {C = Untouched k} inl (λ l2. ⊎-elim {C = Untouched k} inr (λ l6. absurd (one-of k n2 n3 n4 n5 n6 l2 l6)) (less 6 k)) (less k 2)

@@ -1,0 +1,32 @@
+use mathlib.Core.Path.{sym, ap, _∙_}
+use Rattle.statements_acts.specs.Act.{namedOf}
+use Rattle.statements_acts.specs.Parts.{reviveOf}
+use borrow.Author.Needs.{needs}
+use Rattle.statements_acts.proofs.revived.Statement.{statement}
+use Rattle.statements_acts.proofs.revived.Tie as tie
+use Rattle.statements_acts.proofs.revived.Reads as reads
+use Rattle.statements_acts.proofs.revived.Lts as lts
+use Rattle.statements_acts.proofs.name_in.Reads as name-in-reads
+
+-- src/lib.rt:361:11
+name-in-requires : tie.Need-name-in-requires
+name-in-requires c κs = search needs
+
+-- src/lib.rt:362:23
+enum-known-name : tie.Need-enum-known-name
+enum-known-name c = search needs
+
+-- src/lib.rt:363:26
+enum-told : tie.Need-enum-told
+enum-told c = search needs
+
+-- src/lib.rt:358:1
+returns : tie.Need-returns
+returns c = λ e next st. sym (ap (λ x. reviveOf (namedOf x)) (c .before .name .given .1)) ∙ ap reviveOf (c .before .before .before .name-in .ensures e next st)
+
+-- src/lib.rt:358:1
+returns-2 : tie.Need-returns-2
+returns-2 c = λ e next st. sym (ap (λ x. reviveOf (namedOf x)) (c .enum-told .given .1)) ∙ ap reviveOf (c .before .before .name-in .ensures e next st)
+
+pub revived-spec : {M : Type 1} → statement M
+revived-spec = tie.close (tie.spec name-in-requires enum-known-name enum-told returns returns-2)

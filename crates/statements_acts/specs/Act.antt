@@ -1,0 +1,104 @@
+-- What the code of a statement does, whatever statement was read there.
+use Prim.Native.Nat.{ℕ, _+_, _*_, _≤_}
+use mathlib.Core.Path.{_≡_}
+use mathlib.Core.List.{List, map}
+use lib.ListN.{length}
+use Rattle.image_fields.specs.Parsed.{Parsed, ok}
+use Rattle.tables.specs.Limits.{version1}
+use Rattle.tables.specs.Tables.{Tables}
+use Rattle.tables.specs.Name.{nameOf}
+use Rattle.tables.specs.Ty.{typeIn}
+use Rattle.tables.specs.Signature.{structIn}
+use Rattle.tables_lookup.specs.First.{AllWithin}
+use Rattle.tables_lookup.specs.Ty.{Lower}
+use Rattle.image_body.specs.Expr.{Scope as Reading, exprsAt}
+use Rattle.image_body.specs.Stmt.{Tree, Block, Stmt, before, stmtAt}
+use Rattle.rules.specs.Expr as rules
+use Rattle.rules.specs.State.{State as Status, alive, deleted}
+use Rattle.rules.specs.Stack.{mark, Stack as Scope}
+use Rattle.rules.specs.Rules.{states, register}
+use Rattle.rules.specs.Report.{warnings, lefts}
+use Rattle.rules.specs.Verdict.{entriesOf}
+use Rattle.statements_returns.specs.Front.{frontAt}
+use Rattle.image_writing.specs.Stored.{Stored}
+use Rattle.statements_acts.specs.declared.Named.{Named}
+use Rattle.statements_acts.specs.declared.Named.the-variants.{Nobody, Called}
+use Rattle.statements_acts.specs.declared.Change.{Change}
+use Rattle.statements_acts.specs.declared.Change.the-variants.{Nothing, Delete, Register, Revive}
+use Rattle.statements_acts.specs.declared.Place.{Place}
+use Rattle.statements_acts.specs.declared.Act.{Act}
+use Rattle.statements_steps.specs.Statement.{frontSize, frontDrops, frontBytes, frontReports, settle}
+
+-- the code's names and changes
+abbrev pub namedOf : Named → rules.Named
+namedOf Nobody = rules.nobody
+namedOf (Called n p) = rules.called n p
+
+abbrev pub changeIn : ℕ → Change → Scope Status → Scope Status
+changeIn d Nothing σ = σ
+changeIn d (Delete n p) σ = mark n (states .killed deleted p) σ
+changeIn d (Register n t) σ = register states n t d σ
+changeIn d (Revive n) σ = mark n (λ a. alive) σ
+
+abbrev pub takenIn : Named → Scope Status → Scope Status
+takenIn Nobody σ = σ
+takenIn (Called n p) σ = mark n (states .killed deleted p) σ
+
+-- what the questions to the tables require of the positions lent, and the tables that stand there
+pub record Positions (s ns ts xs : List ℕ) : Type 0 where
+  pub names : AllWithin s ns
+  pub types : AllWithin s ts
+  pub structs : AllWithin s xs
+  pub lower : Lower (map (typeIn s) ts)
+
+pub record Tabled (s ns ts xs : List ℕ) (T : Tables) : Type 0 where
+  pub names : map (nameOf s) ns ≡ T .names
+  pub types : map (typeIn s) ts ≡ T .types
+  pub structs : map (structIn s) xs ≡ T .structs
+
+-- some statement was read at a position, and its values end there
+pub record FrontThere (s : List ℕ) (at end : ℕ) : Type 0 where
+  pub f : ℕ → Parsed Block
+  pub t : Reading
+  pub deep : t .exprDepth ≡ 24
+  pub x : Stmt
+  pub next : ℕ
+  pub read : stmtAt f t s at ≡ ok x next
+  pub values : exprsAt t s 24 (frontAt s at .values) (frontAt s at .first) ≡ ok (x .front .values) end
+
+-- a place of the walk: within the image, and at most 300 numbers stored for each byte read
+pub record Within (s : List ℕ) (p : Place) : Type 0 where
+  pub small : length s ≤ 65536
+  pub inside : p .at ≤ length s
+  pub written : p .written ≤ 300 * p .at
+  pub errors : p .errors ≤ 300 * p .at
+  pub warnings : p .warnings ≤ 300 * p .at
+  pub lefts : p .lefts ≤ 300 * p .at
+  pub inserted : p .inserted ≤ 300 * p .at
+
+-- from one place to a later one, as many
+pub record Grows (s : List ℕ) (p q : Place) : Type 0 where
+  pub on : p .at ≤ q .at
+  pub inside : q .at ≤ length s
+  pub written : q .written + 300 * p .at ≤ p .written + 300 * q .at
+  pub errors : q .errors + 300 * p .at ≤ p .errors + 300 * q .at
+  pub warnings : q .warnings + 300 * p .at ≤ p .warnings + 300 * q .at
+  pub lefts : q .lefts + 300 * p .at ≤ p .lefts + 300 * q .at
+  pub inserted : q .inserted + 300 * p .at ≤ p .inserted + 300 * q .at
+
+-- the statement c up to its blocks, walked from a place: what is stored, where the walk stands then, and how the locals change
+pub record Acts (T : Tables) (c : Tree) (σ : Scope Status) (p : Place) (out warns left : List ℕ) (a : Act) (out′ warns′ left′ : List ℕ) : Type 0 where
+  pub bytes : Stored out (p .written) (frontBytes T c σ) out′ (a .place .written)
+  pub warned : Stored warns (p .warnings) (entriesOf version1 (warnings (frontReports T c (p .at) σ))) warns′ (a .place .warnings)
+  pub listed : Stored left (p .lefts) (entriesOf version1 (lefts (frontReports T c (p .at) σ))) left′ (a .place .lefts)
+  pub errors : a .place .errors ≡ p .errors
+  pub inserted : a .place .inserted ≡ p .inserted + length (frontDrops T c σ)
+  pub last : a .place .last ≡ p .at
+  pub fits : a .place .fits ≡ p .fits
+  pub at : a .place .at ≡ p .at + frontSize c
+  pub settles : (d : ℕ) → takenIn (a .taken) (changeIn d (a .change) σ) ≡ settle T c d σ
+
+-- of whatever statement was read at the place, before whatever follows it
+pub record ActsThere (T : Tables) (s : List ℕ) (σ : Scope Status) (p : Place) (out warns left : List ℕ) (a : Act) (out′ warns′ left′ : List ℕ) : Type 0 where
+  pub acts : (f : ℕ → Parsed Block) (t : Reading) (x : Stmt) (next : ℕ) (r : Tree) → t .exprDepth ≡ 24 → stmtAt f t s (p .at) ≡ ok x next
+      → Acts T (before x r) σ p out warns left a out′ warns′ left′

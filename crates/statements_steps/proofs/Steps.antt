@@ -1,0 +1,391 @@
+-- A list of statements is its first statement and the rest: for the locals after it, its fault, its bytes, its reports and its counts.
+-- Assumes nothing.
+use Prim.Native.Nat.{ℕ, suc, _+_}
+use native.Mathlib.Omega.{arith}
+use mathlib.Core.Path.{_≡_, refl, sym, ap, _∙_, subst}
+use mathlib.Core.Bool.{Bool, true, false, not, cond, _&&_}
+use mathlib.Core.List.{List, [], _∷_, _++_, append-assoc, append-nil}
+use mathlib.Core.Option.{Option, some}
+use lib.Dec.{leb, T as So}
+use lib.ListN.{length}
+use Rattle.tables.specs.Limits.{version1}
+use Rattle.tables.specs.Tables.{Tables}
+use Rattle.image_fields.specs.Bytes.{twoBytes, fourBytes}
+use Rattle.tables_lookup.specs.First.{orElse}
+use Rattle.image_body.specs.Expr.{Expr, Exprs, none, more}
+use Rattle.image_body.specs.Stmt.{Tree, done, exprStmt, variable, assign, return, bareReturn, block, ifElse, ifThen, while, jump}
+use Rattle.image_encoding.specs.Body.{size, encodeCode, encodeExpr, withCount}
+use Rattle.rules.specs.Expr.{Named, nobody, called, View, anIdent, aThis, aField, aDelete, aCall, other, view, nameIn}
+use Rattle.rules.specs.State.{State as Status}
+use Rattle.rules.specs.Stack.{Shape, shape, pop, Stack as Scope}
+use Rattle.rules.specs.Effects.{Effect, group, resolveAll, effects, deletedIn, deletedBy, exprStmtEffects, takeOver, assignEffects}
+use Rattle.rules.specs.Rules.{Drop, dropOf, isDone, states, apply, applyAll, sureFrom, register, evaluate, afterExpr, afterVariable, beforeAssign, afterAssign, assignDrops, returnDrops, joins, merge, exit, decide}
+use Rattle.rules.specs.Report.{Report, reportOf, reportAll, deleteNode, identNode, inserts, flatten, report, exprBytes, codeBytes, unused, leftBehind}
+use Rattle.rules.specs.Walk.{walkFault, tooMany, tooWide}
+use Rattle.rules.specs.Verdict.{countsFit}
+use Rattle.rules.proofs.Shapes.{shape-all, shape-doing}
+use Rattle.expressions_scan.specs.Changes.{afterAll, toldAll}
+use Rattle.statements_steps.specs.Drops.{deleteBytes}
+use Rattle.statements_steps.specs.Statement.{wrapped, valuesOf, frontSize, frontDrops, ownBytes, frontBytes, frontReports, settle}
+use Rattle.statements_steps.specs.Own.{Own, restOf, blocksSize, returned, blockOwn, blocksOwn, blocksFault, blocksAfter, valued, frontOwn, own, ownFault, ownAfter, sureOf}
+use Rattle.statements_steps.proofs.Effects.{apply-append, report-append, after-one, told-one, after-two, told-two}
+
+-- deletes put in
+pub inserts-bytes : (x : List Drop) (c : Tree) → encodeCode (inserts x c) ≡ deleteBytes x ++ encodeCode c
+unfolding encodeCode
+inserts-bytes [] c = refl
+inserts-bytes (dropOf p n t ∷ x) c =
+    ap (λ (bs : List ℕ). 3 ∷ (fourBytes p ++ (encodeExpr (deleteNode p (identNode p t n)) ++ bs))) (inserts-bytes x c)
+    ∙ ap (λ (bs : List ℕ). 3 ∷ (fourBytes p ++ bs)) (sym (append-assoc (encodeExpr (deleteNode p (identNode p t n))) (deleteBytes x) (encodeCode c)))
+    ∙ ap (λ (bs : List ℕ). 3 ∷ bs) (sym (append-assoc (fourBytes p) (encodeExpr (deleteNode p (identNode p t n)) ++ deleteBytes x) (encodeCode c)))
+    ∙ ap (λ (bs : List ℕ). 3 ∷ (bs ++ encodeCode c)) (sym (append-assoc (fourBytes p) (encodeExpr (deleteNode p (identNode p t n))) (deleteBytes x)))
+
+pub inserts-size : (x : List Drop) (c : Tree) → size (inserts x c) ≡ length x + size c
+unfolding size
+inserts-size [] c = omega arith
+inserts-size (dropOf p n t ∷ x) c = let h = inserts-size x c in omega arith
+
+pub inserts-fit : (m : ℕ) (x : List Drop) (c : Tree) → countsFit m (inserts x c) ≡ countsFit m c
+unfolding countsFit
+inserts-fit m [] c = refl
+inserts-fit m (dropOf p n t ∷ x) c = inserts-fit m x c
+
+and-true : (a r : Bool) → (a && r) ≡ ((a && true) && r)
+and-true true r = refl
+and-true false r = refl
+
+two-fit : (a b c d r : Bool) → ((((a && b) && c) && d) && r) ≡ (((a && c) && (true && (b && d))) && r)
+two-fit true true true d r = refl
+two-fit true true false d r = refl
+two-fit true false true d r = refl
+two-fit true false false d r = refl
+two-fit false b c d r = refl
+
+pub else-assoc : (a b c : Option ℕ) → orElse a (orElse b c) ≡ orElse (orElse a b) c
+unfolding orElse
+else-assoc Option.none b c = refl
+else-assoc (some n) b c = refl
+
+pub else-three : (a b c e : Option ℕ) → orElse a (orElse b (orElse c e)) ≡ orElse (orElse a (orElse b c)) e
+unfolding orElse
+else-three Option.none b c e = else-assoc b c e
+else-three (some n) b c e = refl
+
+else-none : (c : Option ℕ) → c ≡ orElse Option.none c
+unfolding orElse
+else-none c = refl
+
+-- the statements given back: whether the statement surely returns is what the rest is decided with
+pub sure-step : (c : Tree) (f : Bool) → So (not (isDone c)) → sureFrom c f ≡ sureFrom (restOf c) (sureOf c)
+sure-step (done x) f h = absurd h
+sure-step (exprStmt s e y r) f h = refl
+sure-step (variable k s n t e r) f h = refl
+sure-step (assign s e v t x r) f h = refl
+sure-step (return s e t x r) f h = refl
+sure-step (bareReturn s t r) f h = refl
+sure-step (block s c r) f h = refl
+sure-step (ifElse s e ts t us u r) f h = refl
+sure-step (ifThen s e ts t r) f h = refl
+sure-step (while s e ts t r) f h = refl
+sure-step (jump k s r) f h = refl
+
+two : (f g : ℕ → List Report) (x : List Report) {i i′ j j′ : ℕ} → i ≡ i′ → j ≡ j′ → x ++ (f i ++ g j) ≡ x ++ (f i′ ++ g j′)
+two f g x {i} {i′} {j} {j′} e h = ap (λ (k : ℕ). x ++ (f k ++ g j)) e ∙ ap (λ (k : ℕ). x ++ (f i′ ++ g k)) h
+
+three : (f g r : ℕ → List Report) (x : List Report) {i i′ j j′ k k′ : ℕ} → i ≡ i′ → j ≡ j′ → k ≡ k′ → x ++ (f i ++ (g j ++ r k)) ≡ x ++ (f i′ ++ (g j′ ++ r k′))
+three f g r x {i} {i′} {j} {j′} {k} {k′} e h l = ap (λ (n : ℕ). x ++ (f n ++ (g j ++ r k))) e ∙ ap (λ (n : ℕ). x ++ (f i′ ++ (g n ++ r k))) h ∙ ap (λ (n : ℕ). x ++ (f i′ ++ (g j′ ++ r n))) l
+
+module _ (T : Tables) where
+  -- the values of a statement
+  no-values : (Γ : Shape) → resolveAll Γ (group T false none) ≡ []
+  unfolding effects
+  no-values Γ = refl
+
+  after-none : (σ : Scope Status) → afterAll T none σ ≡ σ
+  after-none σ = ap (λ (x : List Effect). applyAll states x σ) (no-values (shape σ))
+
+  told-none : (σ : Scope Status) → toldAll T none σ ≡ []
+  told-none σ = ap (λ (x : List Effect). reportAll x σ) (no-values (shape σ))
+
+  deleted-same : (Γ Δ : Shape) (v : View) → deletedIn T Γ v ≡ deletedIn T Δ v
+  deleted-same Γ Δ (anIdent n s) = refl
+  deleted-same Γ Δ (aThis s) = refl
+  deleted-same Γ Δ (aField s e m) = refl
+  deleted-same Γ Δ (aDelete e) = refl
+  deleted-same Γ Δ (aCall f) = refl
+  deleted-same Γ Δ other = refl
+
+  -- a delete statement reports nothing more
+  by-silent : (Γ : Shape) (m : Named) (σ : Scope Status) → reportAll (deletedBy T Γ m) σ ≡ []
+  by-silent Γ nobody σ = refl
+  by-silent Γ (called n s) σ = refl
+
+  deleted-silent : (Γ : Shape) (v : View) (σ : Scope Status) → reportAll (deletedIn T Γ v) σ ≡ []
+  deleted-silent Γ (anIdent n s) σ = refl
+  deleted-silent Γ (aThis s) σ = refl
+  deleted-silent Γ (aField s e m) σ = refl
+  deleted-silent Γ (aDelete e) σ = by-silent Γ (nameIn (view e)) σ
+  deleted-silent Γ (aCall f) σ = refl
+  deleted-silent Γ other σ = refl
+
+  pub expr-after : (e : Expr) (σ : Scope Status) → afterExpr states T e σ ≡ applyAll states (deletedIn T (shape (afterAll T (more e none) σ)) (view e)) (afterAll T (more e none) σ)
+  unfolding exprStmtEffects
+  expr-after e σ =
+      apply-append (effects T (shape σ) e) (deletedIn T (shape σ) (view e)) σ
+      ∙ ap (λ (x : List Effect). applyAll states x (evaluate states T e σ)) (deleted-same (shape σ) (shape (afterAll T (more e none) σ)) (view e))
+      ∙ ap (λ (τ : Scope Status). applyAll states (deletedIn T (shape (afterAll T (more e none) σ)) (view e)) τ) (sym (after-one T σ e))
+
+  pub variable-after : (d n t : ℕ) (e : Expr) (σ : Scope Status)
+      → afterVariable states T d n t e σ ≡ applyAll states (takeOver T (shape (afterAll T (more e none) σ)) n t e) (register states n t d (afterAll T (more e none) σ))
+  variable-after d n t e σ =
+      let g : shape σ ≡ shape (afterAll T (more e none) σ) = sym (shape-all states (resolveAll (shape σ) (group T false (more e none))) σ) in
+      ap (λ (Γ : Shape). applyAll states (takeOver T Γ n t e) (register states n t d (evaluate states T e σ))) g
+      ∙ ap (λ (τ : Scope Status). applyAll states (takeOver T (shape (afterAll T (more e none) σ)) n t e) (register states n t d τ)) (sym (after-one T σ e))
+
+  -- the locals after a list of statements
+  pub exit-step : (c : Tree) (d : ℕ) (σ : Scope Status) → exit states T c d σ ≡ exit states T (restOf c) d (ownAfter T c d σ)
+  exit-step (done x) d σ = ap (pop d) (sym (after-none σ))
+  exit-step (exprStmt s e y r) d σ = ap (exit states T r d) (expr-after e σ)
+  exit-step (variable k s n t e r) d σ = ap (exit states T r d) (variable-after d n t e σ)
+  exit-step (assign s e v t x r) d σ = ap (λ (τ : Scope Status). exit states T r d (afterAssign states T e v τ)) (sym (after-two T σ e v))
+  exit-step (return s e t x r) d σ = ap (exit states T r d) (sym (after-one T σ e))
+  exit-step (bareReturn s t r) d σ = ap (exit states T r d) (sym (after-none σ))
+  exit-step (block s c r) d σ = ap (λ (τ : Scope Status). exit states T r d (exit states T c (suc d) τ)) (sym (after-none σ))
+  exit-step (ifElse s e ts t us u r) d σ =
+      ap (λ (τ : Scope Status). exit states T r d (merge states (sureFrom t false) (sureFrom u false) τ (exit states T t (suc d) τ) (exit states T u (suc d) τ))) (sym (after-one T σ e))
+  exit-step (ifThen s e ts t r) d σ = ap (λ (τ : Scope Status). exit states T r d (merge states (sureFrom t false) false τ (exit states T t (suc d) τ) τ)) (sym (after-one T σ e))
+  exit-step (while s e ts t r) d σ = ap (λ (τ : Scope Status). exit states T r d (joins states (exit states T t (suc d) τ) τ)) (sym (after-one T σ e))
+  exit-step (jump k s r) d σ = ap (exit states T r d) (sym (after-none σ))
+
+  -- its fault
+  pub fault-step : (c : Tree) (d : ℕ) (σ : Scope Status) → walkFault version1 T c d σ ≡ orElse (ownFault T c d σ) (walkFault version1 T (restOf c) d (ownAfter T c d σ))
+  unfolding walkFault orElse
+  fault-step (done x) d σ = refl
+  fault-step (exprStmt s e y r) d σ = ap (walkFault version1 T r d) (expr-after e σ)
+  fault-step (variable k s n t e r) d σ = ap (λ (τ : Scope Status). orElse (tooMany version1 τ) (walkFault version1 T r d τ)) (variable-after d n t e σ)
+  fault-step (assign s e v t x r) d σ = ap (λ (τ : Scope Status). walkFault version1 T r d (afterAssign states T e v τ)) (sym (after-two T σ e v))
+  fault-step (return s e t x r) d σ = ap (walkFault version1 T r d) (sym (after-one T σ e))
+  fault-step (bareReturn s t r) d σ = ap (walkFault version1 T r d) (sym (after-none σ))
+  fault-step (block s c r) d σ = ap (λ (τ : Scope Status). orElse (walkFault version1 T c (suc d) τ) (walkFault version1 T r d (exit states T c (suc d) τ))) (sym (after-none σ))
+  fault-step (ifElse s e ts t us u r) d σ =
+      let τ = afterAll T (more e none) σ in
+      ap (λ (υ : Scope Status). orElse (walkFault version1 T t (suc d) υ) (orElse (walkFault version1 T u (suc d) υ)
+      (orElse (tooWide version1 (not (sureFrom t false) && not (sureFrom u false)) (joins states (exit states T t (suc d) υ) (exit states T u (suc d) υ)))
+      (walkFault version1 T r d (merge states (sureFrom t false) (sureFrom u false) υ (exit states T t (suc d) υ) (exit states T u (suc d) υ)))))) (sym (after-one T σ e))
+      ∙ else-three (walkFault version1 T t (suc d) τ) (walkFault version1 T u (suc d) τ) _ _
+  fault-step (ifThen s e ts t r) d σ =
+      let τ = afterAll T (more e none) σ in
+      ap (λ (υ : Scope Status). orElse (walkFault version1 T t (suc d) υ)
+      (orElse (tooWide version1 (not (sureFrom t false)) (joins states (exit states T t (suc d) υ) υ))
+      (walkFault version1 T r d (merge states (sureFrom t false) false υ (exit states T t (suc d) υ) υ)))) (sym (after-one T σ e))
+      ∙ else-assoc (walkFault version1 T t (suc d) τ) (tooWide version1 (not (sureFrom t false)) (joins states (exit states T t (suc d) τ) τ))
+      (walkFault version1 T r d (merge states (sureFrom t false) false τ (exit states T t (suc d) τ) τ))
+  fault-step (while s e ts t r) d σ =
+      let τ = afterAll T (more e none) σ in
+      ap (λ (υ : Scope Status). orElse (walkFault version1 T t (suc d) υ)
+      (orElse (tooWide version1 true (joins states (exit states T t (suc d) υ) υ)) (walkFault version1 T r d (joins states (exit states T t (suc d) υ) υ)))) (sym (after-one T σ e))
+      ∙ else-assoc (walkFault version1 T t (suc d) τ) (tooWide version1 true (joins states (exit states T t (suc d) τ) τ)) (walkFault version1 T r d (joins states (exit states T t (suc d) τ) τ))
+  fault-step (jump k s r) d σ = ap (walkFault version1 T r d) (sym (after-none σ))
+
+  -- the bytes given back
+  pub bytes-step : (c : Tree) (p d : ℕ) (f : Bool) (σ : Scope Status) (at : ℕ) → So (not (isDone c))
+      → encodeCode (returned T c p d f σ) ≡ own T c d at σ .bytes ++ encodeCode (returned T (restOf c) p d (sureOf c) (ownAfter T c d σ))
+  unfolding encodeCode
+  bytes-step (done x) p d f σ at h = absurd h
+  bytes-step (exprStmt s e y r) p d f σ at h =
+      ap (λ (τ : Scope Status). encodeCode (flatten (exprStmt s e (wrapped T (exprStmt s e y r)) (decide states T r p d false τ)))) (expr-after e σ)
+      ∙ simp (append-assoc, append-nil)
+  bytes-step (variable k s n t e r) p d f σ at h =
+      ap (λ (τ : Scope Status). encodeCode (flatten (variable k s n t e (decide states T r p d false τ)))) (variable-after d n t e σ) ∙ simp (append-assoc, append-nil)
+  bytes-step (assign s e v t x r) p d f σ at h =
+      ap (λ (τ : Scope Status). encodeCode (inserts (assignDrops states T s e τ) (assign s e v t tt (returned T r p d false (afterAssign states T e v τ))))) (sym (after-two T σ e v))
+      ∙ inserts-bytes (assignDrops states T s e (valued T (assign s e v t x r) σ)) (assign s e v t tt (returned T r p d false (afterAssign states T e v (valued T (assign s e v t x r) σ))))
+      ∙ simp (append-assoc, append-nil)
+  bytes-step (return s e t x r) p d f σ at h =
+      ap (λ (τ : Scope Status). encodeCode (inserts (returnDrops states T (nameIn (view e)) τ) (return s e t tt (returned T r p d true τ)))) (sym (after-one T σ e))
+      ∙ inserts-bytes (returnDrops states T (nameIn (view e)) (valued T (return s e t x r) σ)) (return s e t tt (returned T r p d true (valued T (return s e t x r) σ)))
+      ∙ simp (append-assoc, append-nil)
+  bytes-step (bareReturn s t r) p d f σ at h =
+      ap (λ (τ : Scope Status). encodeCode (flatten (bareReturn s t (decide states T r p d true τ)))) (sym (after-none σ)) ∙ simp (append-assoc, append-nil)
+  bytes-step (block s c r) p d f σ at h =
+      ap (λ (τ : Scope Status). encodeCode (flatten (block s (decide states T c s (suc d) false τ) (decide states T r p d (sureFrom c false) (exit states T c (suc d) τ))))) (sym (after-none σ))
+      ∙ simp (append-assoc, append-nil)
+  bytes-step (ifElse s e ts t us u r) p d f σ at h =
+      ap (λ (τ : Scope Status). encodeCode (flatten (ifElse s e ts (decide states T t ts (suc d) false τ) us (decide states T u us (suc d) false τ)
+      (decide states T r p d (sureFrom t false && sureFrom u false) (merge states (sureFrom t false) (sureFrom u false) τ (exit states T t (suc d) τ) (exit states T u (suc d) τ)))))) (sym (after-one T σ e))
+      ∙ simp (append-assoc, append-nil)
+  bytes-step (ifThen s e ts t r) p d f σ at h =
+      ap (λ (τ : Scope Status). encodeCode (flatten (ifThen s e ts (decide states T t ts (suc d) false τ)
+      (decide states T r p d false (merge states (sureFrom t false) false τ (exit states T t (suc d) τ) τ))))) (sym (after-one T σ e))
+      ∙ simp (append-assoc, append-nil)
+  bytes-step (while s e ts t r) p d f σ at h =
+      ap (λ (τ : Scope Status). encodeCode (flatten (while s e ts (decide states T t ts (suc d) false τ) (decide states T r p d false (joins states (exit states T t (suc d) τ) τ))))) (sym (after-one T σ e))
+      ∙ simp (append-assoc, append-nil)
+  bytes-step (jump k s r) p d f σ at h =
+      ap (λ (τ : Scope Status). encodeCode (flatten (jump k s (decide states T r p d false τ)))) (sym (after-none σ)) ∙ simp (append-assoc, append-nil)
+
+  -- how many statements there are
+  pub size-step : (c : Tree) (p d : ℕ) (f : Bool) (σ : Scope Status) → So (not (isDone c))
+      → size (returned T c p d f σ) ≡ length (frontDrops T c (valued T c σ)) + suc (size (returned T (restOf c) p d (sureOf c) (ownAfter T c d σ)))
+  unfolding size
+  size-step (done x) p d f σ h = absurd h
+  size-step (exprStmt s e y r) p d f σ h =
+      let g = ap (λ (τ : Scope Status). size (returned T r p d false τ)) (expr-after e σ) in
+      omega arith
+  size-step (variable k s n t e r) p d f σ h =
+      let g = ap (λ (τ : Scope Status). size (returned T r p d false τ)) (variable-after d n t e σ) in
+      omega arith
+  size-step (assign s e v t x r) p d f σ h =
+      let τ = valued T (assign s e v t x r) σ in
+      ap (λ (υ : Scope Status). size (inserts (assignDrops states T s e υ) (assign s e v t tt (returned T r p d false (afterAssign states T e v υ))))) (sym (after-two T σ e v))
+      ∙ inserts-size (assignDrops states T s e τ) (assign s e v t tt (returned T r p d false (afterAssign states T e v τ)))
+  size-step (return s e t x r) p d f σ h =
+      let τ = valued T (return s e t x r) σ in
+      ap (λ (υ : Scope Status). size (inserts (returnDrops states T (nameIn (view e)) υ) (return s e t tt (returned T r p d true υ)))) (sym (after-one T σ e))
+      ∙ inserts-size (returnDrops states T (nameIn (view e)) τ) (return s e t tt (returned T r p d true τ))
+  size-step (bareReturn s t r) p d f σ h =
+      let g = ap (λ (τ : Scope Status). size (returned T r p d true τ)) (sym (after-none σ)) in
+      omega arith
+  size-step (block s c r) p d f σ h =
+      let g = ap (λ (τ : Scope Status). size (returned T r p d (sureFrom c false) (exit states T c (suc d) τ))) (sym (after-none σ)) in
+      omega arith
+  size-step (ifElse s e ts t us u r) p d f σ h =
+      let g = ap (λ (τ : Scope Status). size (returned T r p d (sureFrom t false && sureFrom u false) (merge states (sureFrom t false) (sureFrom u false) τ (exit states T t (suc d) τ) (exit states T u (suc d) τ)))) (sym (after-one T σ e)) in
+      omega arith
+  size-step (ifThen s e ts t r) p d f σ h =
+      let g = ap (λ (τ : Scope Status). size (returned T r p d false (merge states (sureFrom t false) false τ (exit states T t (suc d) τ) τ))) (sym (after-one T σ e)) in
+      omega arith
+  size-step (while s e ts t r) p d f σ h =
+      let g = ap (λ (τ : Scope Status). size (returned T r p d false (joins states (exit states T t (suc d) τ) τ))) (sym (after-one T σ e)) in
+      omega arith
+  size-step (jump k s r) p d f σ h =
+      let g = ap (λ (τ : Scope Status). size (returned T r p d false τ)) (sym (after-none σ)) in
+      omega arith
+
+  -- whether every block in it counts at most 65,535
+  pub fits-step : (c : Tree) (p d : ℕ) (f : Bool) (σ : Scope Status) (at : ℕ) → So (not (isDone c))
+      → countsFit 65535 (returned T c p d f σ) ≡ (own T c d at σ .fits && countsFit 65535 (returned T (restOf c) p d (sureOf c) (ownAfter T c d σ)))
+  unfolding countsFit
+  fits-step (done x) p d f σ at h = absurd h
+  fits-step (exprStmt s e y r) p d f σ at h = ap (λ (τ : Scope Status). countsFit 65535 (returned T r p d false τ)) (expr-after e σ)
+  fits-step (variable k s n t e r) p d f σ at h = ap (λ (τ : Scope Status). countsFit 65535 (returned T r p d false τ)) (variable-after d n t e σ)
+  fits-step (assign s e v t x r) p d f σ at h =
+      ap (λ (υ : Scope Status). countsFit 65535 (inserts (assignDrops states T s e υ) (assign s e v t tt (returned T r p d false (afterAssign states T e v υ))))) (sym (after-two T σ e v))
+      ∙ inserts-fit 65535 (assignDrops states T s e (valued T (assign s e v t x r) σ)) _
+  fits-step (return s e t x r) p d f σ at h =
+      ap (λ (υ : Scope Status). countsFit 65535 (inserts (returnDrops states T (nameIn (view e)) υ) (return s e t tt (returned T r p d true υ)))) (sym (after-one T σ e))
+      ∙ inserts-fit 65535 (returnDrops states T (nameIn (view e)) (valued T (return s e t x r) σ)) _
+  fits-step (bareReturn s t r) p d f σ at h = ap (λ (τ : Scope Status). countsFit 65535 (returned T r p d true τ)) (sym (after-none σ))
+  fits-step (block s c r) p d f σ at h =
+      let τ = valued T (block s c r) σ in
+      let x = returned T c s (suc d) false τ in
+      ap (λ (τ : Scope Status). countsFit 65535 (flatten (block s (decide states T c s (suc d) false τ) (decide states T r p d (sureFrom c false) (exit states T c (suc d) τ))))) (sym (after-none σ))
+  fits-step (ifElse s e ts t us u r) p d f σ at h =
+      let τ = valued T (ifElse s e ts t us u r) σ in
+      let x = returned T t ts (suc d) false τ in
+      let y = returned T u us (suc d) false τ in
+      ap (λ (τ : Scope Status). countsFit 65535 (flatten (ifElse s e ts (decide states T t ts (suc d) false τ) us (decide states T u us (suc d) false τ)
+      (decide states T r p d (sureFrom t false && sureFrom u false) (merge states (sureFrom t false) (sureFrom u false) τ (exit states T t (suc d) τ) (exit states T u (suc d) τ)))))) (sym (after-one T σ e))
+      ∙ two-fit (leb (size x) 65535) (leb (size y) 65535) (countsFit 65535 x) (countsFit 65535 y)
+      (countsFit 65535 (returned T r p d (sureFrom t false && sureFrom u false) (merge states (sureFrom t false) (sureFrom u false) τ (exit states T t (suc d) τ) (exit states T u (suc d) τ))))
+  fits-step (ifThen s e ts t r) p d f σ at h =
+      let τ = valued T (ifThen s e ts t r) σ in
+      let x = returned T t ts (suc d) false τ in
+      ap (λ (τ : Scope Status). countsFit 65535 (flatten (ifThen s e ts (decide states T t ts (suc d) false τ)
+      (decide states T r p d false (merge states (sureFrom t false) false τ (exit states T t (suc d) τ) τ))))) (sym (after-one T σ e))
+      ∙ and-true (leb (size x) 65535 && countsFit 65535 x) (countsFit 65535 (returned T r p d false (merge states (sureFrom t false) false τ (exit states T t (suc d) τ) τ)))
+  fits-step (while s e ts t r) p d f σ at h =
+      let τ = valued T (while s e ts t r) σ in
+      let x = returned T t ts (suc d) false τ in
+      ap (λ (τ : Scope Status). countsFit 65535 (flatten (while s e ts (decide states T t ts (suc d) false τ) (decide states T r p d false (joins states (exit states T t (suc d) τ) τ))))) (sym (after-one T σ e))
+  fits-step (jump k s r) p d f σ at h = ap (λ (τ : Scope Status). countsFit 65535 (returned T r p d false τ)) (sym (after-none σ))
+
+  -- what is reported
+  told-expr : (e : Expr) (σ : Scope Status) → reportAll (exprStmtEffects T (shape σ) e) σ ≡ toldAll T (more e none) σ
+  unfolding exprStmtEffects
+  told-expr e σ =
+      report-append (effects T (shape σ) e) (deletedIn T (shape σ) (view e)) σ
+      ∙ ap (λ (x : List Report). reportAll (effects T (shape σ) e) σ ++ x) (deleted-silent (shape σ) (view e) (evaluate states T e σ))
+      ∙ append-nil (reportAll (effects T (shape σ) e) σ)
+      ∙ sym (told-one T σ e)
+
+  pub report-step : (c : Tree) (d at : ℕ) (σ : Scope Status)
+      → report T c d at σ ≡ own T c d at σ .reports ++ report T (restOf c) d (at + frontSize c + blocksSize c) (ownAfter T c d σ)
+  report-step (done x) d at σ = simp (told-none σ)
+  report-step (exprStmt s e y r) d at σ =
+      let g : at + 5 + exprBytes e ≡ at + (5 + exprBytes e) + 0 = omega arith in
+      ap (λ (x : List Report). x ++ (unused (wrapped T (exprStmt s e y r)) s e at ++ report T r d (at + 5 + exprBytes e) (afterExpr states T e σ))) (told-expr e σ)
+      ∙ ap (λ (τ : Scope Status). toldAll T (more e none) σ ++ (unused (wrapped T (exprStmt s e y r)) s e at ++ report T r d (at + 5 + exprBytes e) τ)) (expr-after e σ)
+      ∙ ap (λ (k : ℕ). toldAll T (more e none) σ ++ (unused (wrapped T (exprStmt s e y r)) s e at ++ report T r d k (ownAfter T (exprStmt s e y r) d σ))) g
+      ∙ simp (append-assoc, append-nil)
+  report-step (variable k s n t e r) d at σ =
+      let g : at + 9 + exprBytes e ≡ at + (9 + exprBytes e) + 0 = omega arith in
+      ap (λ (x : List Report). x ++ report T r d (at + 9 + exprBytes e) (afterVariable states T d n t e σ)) (sym (told-one T σ e))
+      ∙ ap (λ (τ : Scope Status). toldAll T (more e none) σ ++ report T r d (at + 9 + exprBytes e) τ) (variable-after d n t e σ)
+      ∙ ap (λ (i : ℕ). toldAll T (more e none) σ ++ report T r d i (ownAfter T (variable k s n t e r) d σ)) g
+      ∙ simp (append-assoc, append-nil)
+  report-step (assign s e v t x r) d at σ =
+      let g : at + 7 + exprBytes e + exprBytes v ≡ at + (7 + exprBytes e + exprBytes v) + 0 = omega arith in
+      ap (λ (y : List Report). y ++ report T r d (at + 7 + exprBytes e + exprBytes v) (afterAssign states T e v (beforeAssign states T e v σ))) (sym (told-two T σ e v))
+      ∙ ap (λ (τ : Scope Status). toldAll T (more e (more v none)) σ ++ report T r d (at + 7 + exprBytes e + exprBytes v) (afterAssign states T e v τ)) (sym (after-two T σ e v))
+      ∙ ap (λ (i : ℕ). toldAll T (more e (more v none)) σ ++ report T r d i (ownAfter T (assign s e v t x r) d σ)) g
+      ∙ simp (append-assoc, append-nil)
+  report-step (return s e t x r) d at σ =
+      let g : at + 8 + exprBytes e ≡ at + (8 + exprBytes e) + 0 = omega arith in
+      ap (λ (y : List Report). y ++ report T r d (at + 8 + exprBytes e) (evaluate states T e σ)) (sym (told-one T σ e))
+      ∙ ap (λ (τ : Scope Status). toldAll T (more e none) σ ++ report T r d (at + 8 + exprBytes e) τ) (sym (after-one T σ e))
+      ∙ ap (λ (i : ℕ). toldAll T (more e none) σ ++ report T r d i (ownAfter T (return s e t x r) d σ)) g
+      ∙ simp (append-assoc, append-nil)
+  report-step (bareReturn s t r) d at σ =
+      let g : at + 8 ≡ at + 8 + 0 = omega arith in
+      ap (λ (τ : Scope Status). leftBehind s (returnDrops states T nobody τ) ++ report T r d (at + 8) τ) (sym (after-none σ))
+      ∙ ap (λ (i : ℕ). leftBehind s (returnDrops states T nobody (afterAll T none σ)) ++ report T r d i (afterAll T none σ)) g
+      ∙ simp (append-assoc, append-nil, told-none σ)
+  report-step (block s c r) d at σ =
+      let a : at + 7 ≡ at + 1 + 6 = omega arith in
+      let g : at + 7 + codeBytes c ≡ at + 1 + (6 + codeBytes c) = omega arith in
+      ap (λ (τ : Scope Status). report T c (suc d) (at + 7) τ ++ report T r d (at + 7 + codeBytes c) (exit states T c (suc d) τ)) (sym (after-none σ))
+      ∙ ap (λ (i : ℕ). report T c (suc d) i (afterAll T none σ) ++ report T r d (at + 7 + codeBytes c) (exit states T c (suc d) (afterAll T none σ))) a
+      ∙ ap (λ (i : ℕ). report T c (suc d) (at + 1 + 6) (afterAll T none σ) ++ report T r d i (exit states T c (suc d) (afterAll T none σ))) g
+      ∙ simp (append-assoc, append-nil, told-none σ)
+  report-step (ifElse s e ts t us u r) d at σ =
+      let τ = afterAll T (more e none) σ in
+      let w = at + (5 + exprBytes e) in
+      let a : at + 11 + exprBytes e ≡ w + 6 = omega arith in
+      let b : at + 18 + exprBytes e + codeBytes t ≡ w + (6 + codeBytes t) + 1 + 6 = omega arith in
+      let g : at + 18 + exprBytes e + codeBytes t + codeBytes u ≡ w + (13 + codeBytes t + codeBytes u) = omega arith in
+      ap (λ (x : List Report). x ++ (report T t (suc d) (at + 11 + exprBytes e) (evaluate states T e σ) ++ (report T u (suc d) (at + 18 + exprBytes e + codeBytes t) (evaluate states T e σ)
+      ++ report T r d (at + 18 + exprBytes e + codeBytes t + codeBytes u)
+      (merge states (sureFrom t false) (sureFrom u false) (evaluate states T e σ) (exit states T t (suc d) (evaluate states T e σ)) (exit states T u (suc d) (evaluate states T e σ)))))) (sym (told-one T σ e))
+      ∙ ap (λ (υ : Scope Status). toldAll T (more e none) σ ++ (report T t (suc d) (at + 11 + exprBytes e) υ ++ (report T u (suc d) (at + 18 + exprBytes e + codeBytes t) υ
+      ++ report T r d (at + 18 + exprBytes e + codeBytes t + codeBytes u) (merge states (sureFrom t false) (sureFrom u false) υ (exit states T t (suc d) υ) (exit states T u (suc d) υ))))) (sym (after-one T σ e))
+      ∙ three (λ (i : ℕ). report T t (suc d) i τ) (λ (i : ℕ). report T u (suc d) i τ)
+      (λ (i : ℕ). report T r d i (merge states (sureFrom t false) (sureFrom u false) τ (exit states T t (suc d) τ) (exit states T u (suc d) τ))) (toldAll T (more e none) σ) a b g
+      ∙ simp (append-assoc, append-nil)
+  report-step (ifThen s e ts t r) d at σ =
+      let τ = afterAll T (more e none) σ in
+      let w = at + (5 + exprBytes e) in
+      let a : at + 11 + exprBytes e ≡ w + 6 = omega arith in
+      let g : at + 12 + exprBytes e + codeBytes t ≡ w + (7 + codeBytes t) = omega arith in
+      ap (λ (x : List Report). x ++ (report T t (suc d) (at + 11 + exprBytes e) (evaluate states T e σ)
+      ++ report T r d (at + 12 + exprBytes e + codeBytes t) (merge states (sureFrom t false) false (evaluate states T e σ) (exit states T t (suc d) (evaluate states T e σ)) (evaluate states T e σ)))) (sym (told-one T σ e))
+      ∙ ap (λ (υ : Scope Status). toldAll T (more e none) σ ++ (report T t (suc d) (at + 11 + exprBytes e) υ
+      ++ report T r d (at + 12 + exprBytes e + codeBytes t) (merge states (sureFrom t false) false υ (exit states T t (suc d) υ) υ))) (sym (after-one T σ e))
+      ∙ two (λ (i : ℕ). report T t (suc d) i τ) (λ (i : ℕ). report T r d i (merge states (sureFrom t false) false τ (exit states T t (suc d) τ) τ)) (toldAll T (more e none) σ) a g
+      ∙ simp (append-assoc, append-nil)
+  report-step (while s e ts t r) d at σ =
+      let τ = afterAll T (more e none) σ in
+      let w = at + (5 + exprBytes e) in
+      let a : at + 11 + exprBytes e ≡ w + 6 = omega arith in
+      let g : at + 11 + exprBytes e + codeBytes t ≡ w + (6 + codeBytes t) = omega arith in
+      ap (λ (x : List Report). x ++ (report T t (suc d) (at + 11 + exprBytes e) (evaluate states T e σ)
+      ++ report T r d (at + 11 + exprBytes e + codeBytes t) (joins states (exit states T t (suc d) (evaluate states T e σ)) (evaluate states T e σ)))) (sym (told-one T σ e))
+      ∙ ap (λ (υ : Scope Status). toldAll T (more e none) σ ++ (report T t (suc d) (at + 11 + exprBytes e) υ
+      ++ report T r d (at + 11 + exprBytes e + codeBytes t) (joins states (exit states T t (suc d) υ) υ))) (sym (after-one T σ e))
+      ∙ two (λ (i : ℕ). report T t (suc d) i τ) (λ (i : ℕ). report T r d i (joins states (exit states T t (suc d) τ) τ)) (toldAll T (more e none) σ) a g
+      ∙ simp (append-assoc, append-nil)
+  report-step (jump k s r) d at σ =
+      let g : at + 5 ≡ at + 5 + 0 = omega arith in
+      ap (λ (τ : Scope Status). report T r d (at + 5) τ) (sym (after-none σ))
+      ∙ ap (λ (i : ℕ). report T r d i (afterAll T none σ)) g
+      ∙ simp (append-assoc, append-nil, told-none σ)

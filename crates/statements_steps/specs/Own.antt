@@ -1,0 +1,174 @@
+-- A statement by itself, at the head of a list: what its walk gives back and reports, its fault, and the locals after it.
+use Prim.Native.Nat.{ℕ, suc, _+_}
+use mathlib.Core.Bool.{Bool, true, false, not, _&&_}
+use mathlib.Core.List.{List, [], _∷_, _++_}
+use mathlib.Core.Option.{Option}
+use lib.Dec.{leb}
+use Rattle.tables.specs.Limits.{version1}
+use Rattle.tables.specs.Tables.{Tables}
+use Rattle.tables_lookup.specs.First.{orElse}
+use Rattle.image_body.specs.Stmt.{Tree, done, exprStmt, variable, assign, return, bareReturn, block, ifElse, ifThen, while, jump}
+use Rattle.image_encoding.specs.Body.{size, encodeCode, withCount}
+use Rattle.rules.specs.State.{State as Status}
+use Rattle.rules.specs.Stack.{Stack as Scope}
+use Rattle.rules.specs.Rules.{states, sureFrom, joins, merge, exit, decide}
+use Rattle.rules.specs.Report.{Report, flatten, report, exprBytes, codeBytes}
+use Rattle.rules.specs.Walk.{tooMany, tooWide, walkFault}
+use Rattle.rules.specs.Verdict.{countsFit}
+use Rattle.expressions_scan.specs.Changes.{afterAll, toldAll}
+use Rattle.statements_steps.specs.Statement.{valuesOf, frontSize, frontBytes, frontReports, settle}
+
+-- the number of a fault, or 0
+abbrev pub numberOf : Option ℕ → ℕ
+numberOf Option.none = 0
+numberOf (Option.some n) = n
+
+-- bytes given back, reports, and whether every block in them counts at most 65,535 statements
+pub record Own : Type 0 where
+  pub bytes : List ℕ
+  pub reports : List Report
+  pub fits : Bool
+
+abbrev pub nothing : Own
+nothing = record { bytes = []; reports = []; fits = true }
+
+-- a byte as it stands
+abbrev pub byte : ℕ → Own
+byte b = record { bytes = b ∷ []; reports = []; fits = true }
+
+-- one after another
+abbrev pub both : Own → Own → Own
+both a b = record { bytes = a .bytes ++ b .bytes; reports = a .reports ++ b .reports; fits = a .fits && b .fits }
+
+-- the statements behind a statement
+abbrev pub restOf : Tree → Tree
+restOf (done x) = done x
+restOf (exprStmt s e y r) = r
+restOf (variable k s n t e r) = r
+restOf (assign s e v t x r) = r
+restOf (return s e t x r) = r
+restOf (bareReturn s t r) = r
+restOf (block s c r) = r
+restOf (ifElse s e ts t us u r) = r
+restOf (ifThen s e ts t r) = r
+restOf (while s e ts t r) = r
+restOf (jump k s r) = r
+
+-- the bytes of its blocks in the submitted image
+abbrev pub blocksSize : Tree → ℕ
+blocksSize (done x) = 0
+blocksSize (exprStmt s e y r) = 0
+blocksSize (variable k s n t e r) = 0
+blocksSize (assign s e v t x r) = 0
+blocksSize (return s e t x r) = 0
+blocksSize (bareReturn s t r) = 0
+blocksSize (block s c r) = 6 + codeBytes c
+blocksSize (ifElse s e ts t us u r) = 13 + codeBytes t + codeBytes u
+blocksSize (ifThen s e ts t r) = 7 + codeBytes t
+blocksSize (while s e ts t r) = 6 + codeBytes t
+blocksSize (jump k s r) = 0
+
+module _ (T : Tables) where
+  -- the statements of a block of span p and depth d, as given back
+  abbrev pub returned : Tree → ℕ → ℕ → Bool → Scope Status → Tree
+  returned c p d f σ = flatten (decide states T c p d f σ)
+
+  -- a block of depth d at a position
+  abbrev pub blockOwn : ℕ → Tree → ℕ → ℕ → Scope Status → Own
+  blockOwn p c d at σ = record {
+    bytes = withCount p (size (returned c p d false σ)) (encodeCode (returned c p d false σ));
+    reports = report T c d (at + 6) σ;
+    fits = leb (size (returned c p d false σ)) 65535 && countsFit 65535 (returned c p d false σ);
+  }
+
+  -- a statement's blocks, in a block of depth d, the first at a position
+  abbrev pub blocksOwn : Tree → ℕ → ℕ → Scope Status → Own
+  blocksOwn (done x) d at σ = nothing
+  blocksOwn (exprStmt s e y r) d at σ = nothing
+  blocksOwn (variable k s n t e r) d at σ = nothing
+  blocksOwn (assign s e v t x r) d at σ = nothing
+  blocksOwn (return s e t x r) d at σ = nothing
+  blocksOwn (bareReturn s t r) d at σ = nothing
+  blocksOwn (block s c r) d at σ = blockOwn s c (suc d) at σ
+  blocksOwn (ifElse s e ts t us u r) d at σ =
+      both (blockOwn ts t (suc d) at σ) (both (byte 1) (blockOwn us u (suc d) (at + (6 + codeBytes t) + 1) σ))
+  blocksOwn (ifThen s e ts t r) d at σ = both (blockOwn ts t (suc d) at σ) (byte 0)
+  blocksOwn (while s e ts t r) d at σ = blockOwn ts t (suc d) at σ
+  blocksOwn (jump k s r) d at σ = nothing
+
+  -- 12 or 13, once its values are evaluated
+  abbrev pub blocksFault : Tree → ℕ → Scope Status → Option ℕ
+  blocksFault (done x) d σ = Option.none
+  blocksFault (exprStmt s e y r) d σ = Option.none
+  blocksFault (variable k s n t e r) d σ = tooMany version1 (settle T (variable k s n t e r) d σ)
+  blocksFault (assign s e v t x r) d σ = Option.none
+  blocksFault (return s e t x r) d σ = Option.none
+  blocksFault (bareReturn s t r) d σ = Option.none
+  blocksFault (block s c r) d σ = walkFault version1 T c (suc d) σ
+  blocksFault (ifElse s e ts t us u r) d σ =
+      orElse (walkFault version1 T t (suc d) σ)
+      (orElse (walkFault version1 T u (suc d) σ)
+      (tooWide version1 (not (sureFrom t false) && not (sureFrom u false)) (joins states (exit states T t (suc d) σ) (exit states T u (suc d) σ))))
+  blocksFault (ifThen s e ts t r) d σ =
+      orElse (walkFault version1 T t (suc d) σ) (tooWide version1 (not (sureFrom t false)) (joins states (exit states T t (suc d) σ) σ))
+  blocksFault (while s e ts t r) d σ = orElse (walkFault version1 T t (suc d) σ) (tooWide version1 true (joins states (exit states T t (suc d) σ) σ))
+  blocksFault (jump k s r) d σ = Option.none
+
+  -- the locals behind it, once its values are evaluated
+  abbrev pub blocksAfter : Tree → ℕ → Scope Status → Scope Status
+  blocksAfter (done x) d σ = σ
+  blocksAfter (exprStmt s e y r) d σ = settle T (exprStmt s e y r) d σ
+  blocksAfter (variable k s n t e r) d σ = settle T (variable k s n t e r) d σ
+  blocksAfter (assign s e v t x r) d σ = settle T (assign s e v t x r) d σ
+  blocksAfter (return s e t x r) d σ = σ
+  blocksAfter (bareReturn s t r) d σ = σ
+  blocksAfter (block s c r) d σ = exit states T c (suc d) σ
+  blocksAfter (ifElse s e ts t us u r) d σ =
+      merge states (sureFrom t false) (sureFrom u false) σ (exit states T t (suc d) σ) (exit states T u (suc d) σ)
+  blocksAfter (ifThen s e ts t r) d σ = merge states (sureFrom t false) false σ (exit states T t (suc d) σ) σ
+  blocksAfter (while s e ts t r) d σ = joins states (exit states T t (suc d) σ) σ
+  blocksAfter (jump k s r) d σ = σ
+
+  -- the whole statement: its values, its front, its blocks
+  abbrev pub valued : Tree → Scope Status → Scope Status
+  valued c σ = afterAll T (valuesOf c) σ
+
+  abbrev pub frontOwn : Tree → ℕ → Scope Status → Own
+  frontOwn c at σ = record { bytes = frontBytes T c (valued c σ); reports = toldAll T (valuesOf c) σ ++ frontReports T c at (valued c σ); fits = true }
+
+  abbrev pub own : Tree → ℕ → ℕ → Scope Status → Own
+  own c d at σ = both (frontOwn c at σ) (blocksOwn c d (at + frontSize c) (valued c σ))
+
+  abbrev pub ownFault : Tree → ℕ → Scope Status → Option ℕ
+  ownFault c d σ = blocksFault c d (valued c σ)
+
+  abbrev pub ownAfter : Tree → ℕ → Scope Status → Scope Status
+  ownAfter c d σ = blocksAfter c d (valued c σ)
+
+-- whether it surely returns
+abbrev pub sureOf : Tree → Bool
+sureOf (done x) = false
+sureOf (exprStmt s e y r) = false
+sureOf (variable k s n t e r) = false
+sureOf (assign s e v t x r) = false
+sureOf (return s e t x r) = true
+sureOf (bareReturn s t r) = true
+sureOf (block s c r) = sureFrom c false
+sureOf (ifElse s e ts t us u r) = sureFrom t false && sureFrom u false
+sureOf (ifThen s e ts t r) = false
+sureOf (while s e ts t r) = false
+sureOf (jump k s r) = false
+
+-- whether it has no blocks
+abbrev pub blockless : Tree → Bool
+blockless (done x) = false
+blockless (exprStmt s e y r) = true
+blockless (variable k s n t e r) = true
+blockless (assign s e v t x r) = true
+blockless (return s e t x r) = true
+blockless (bareReturn s t r) = true
+blockless (block s c r) = false
+blockless (ifElse s e ts t us u r) = false
+blockless (ifThen s e ts t r) = false
+blockless (while s e ts t r) = false
+blockless (jump k s r) = true

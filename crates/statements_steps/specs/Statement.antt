@@ -1,0 +1,120 @@
+-- A statement at the head of a list, up to its blocks: the arms of transform_block once the statement's values are evaluated, σ being
+-- the locals then.
+use Prim.Native.Nat.{ℕ, _+_}
+use mathlib.Core.Bool.{Bool, cond, _&&_}
+use mathlib.Core.List.{List, [], _∷_, _++_}
+use Rattle.image_fields.specs.Bytes.{twoBytes, fourBytes}
+use Rattle.tables.specs.Tables.{Tables}
+use Rattle.image_body.specs.Expr.{Exprs, none, more}
+use Rattle.image_body.specs.Stmt.{Tree, done, exprStmt, variable, assign, return, bareReturn, block, ifElse, ifThen, while, jump}
+use Rattle.image_encoding.specs.Body.{encodeExpr}
+use Rattle.rules.specs.Questions.{auto}
+use Rattle.rules.specs.Expr.{nobody, view, nameIn, isCall, tyOf}
+use Rattle.rules.specs.State.{State as Status}
+use Rattle.rules.specs.Stack.{shape, Stack as Scope}
+use Rattle.rules.specs.Effects.{deletedIn, takeOver}
+use Rattle.rules.specs.Rules.{Drop, states, applyAll, register, assignDrops, returnDrops, afterAssign}
+use Rattle.rules.specs.Report.{Report, deleteNode, unused, leftBehind, exprBytes}
+use Rattle.statements_steps.specs.Drops.{deleteBytes}
+
+-- its values, in order
+abbrev pub valuesOf : Tree → Exprs
+valuesOf (done x) = none
+valuesOf (exprStmt s e y r) = more e none
+valuesOf (variable k s n t e r) = more e none
+valuesOf (assign s e v t x r) = more e (more v none)
+valuesOf (return s e t x r) = more e none
+valuesOf (bareReturn s t r) = none
+valuesOf (block s c r) = none
+valuesOf (ifElse s e ts t us u r) = more e none
+valuesOf (ifThen s e ts t r) = more e none
+valuesOf (while s e ts t r) = more e none
+valuesOf (jump k s r) = none
+
+-- the bytes it takes in the submitted image up to its blocks
+abbrev pub frontSize : Tree → ℕ
+frontSize (done x) = 0
+frontSize (exprStmt s e y r) = 5 + exprBytes e
+frontSize (variable k s n t e r) = 9 + exprBytes e
+frontSize (assign s e v t x r) = 7 + exprBytes e + exprBytes v
+frontSize (return s e t x r) = 8 + exprBytes e
+frontSize (bareReturn s t r) = 8
+frontSize (block s c r) = 1
+frontSize (ifElse s e ts t us u r) = 5 + exprBytes e
+frontSize (ifThen s e ts t r) = 5 + exprBytes e
+frontSize (while s e ts t r) = 5 + exprBytes e
+frontSize (jump k s r) = 5
+
+module _ (T : Tables) where
+  -- whether an unused result is deleted
+  abbrev pub wrapped : Tree → Bool
+  wrapped (done x) = Bool.false
+  wrapped (exprStmt s e y r) = auto T (tyOf e) && isCall (view e)
+  wrapped (variable k s n t e r) = Bool.false
+  wrapped (assign s e v t x r) = Bool.false
+  wrapped (return s e t x r) = Bool.false
+  wrapped (bareReturn s t r) = Bool.false
+  wrapped (block s c r) = Bool.false
+  wrapped (ifElse s e ts t us u r) = Bool.false
+  wrapped (ifThen s e ts t r) = Bool.false
+  wrapped (while s e ts t r) = Bool.false
+  wrapped (jump k s r) = Bool.false
+
+  -- the deletes put before it
+  abbrev pub frontDrops : Tree → Scope Status → List Drop
+  frontDrops (done x) σ = []
+  frontDrops (exprStmt s e y r) σ = []
+  frontDrops (variable k s n t e r) σ = []
+  frontDrops (assign s e v t x r) σ = assignDrops states T s e σ
+  frontDrops (return s e t x r) σ = returnDrops states T (nameIn (view e)) σ
+  frontDrops (bareReturn s t r) σ = []
+  frontDrops (block s c r) σ = []
+  frontDrops (ifElse s e ts t us u r) σ = []
+  frontDrops (ifThen s e ts t r) σ = []
+  frontDrops (while s e ts t r) σ = []
+  frontDrops (jump k s r) σ = []
+
+  -- its own bytes up to its blocks, as given back
+  abbrev pub ownBytes : Tree → List ℕ
+  ownBytes (done x) = []
+  ownBytes (exprStmt s e y r) = 3 ∷ (fourBytes s ++ encodeExpr (cond (wrapped (exprStmt s e y r)) (deleteNode s e) e))
+  ownBytes (variable k s n t e r) = cond k 5 4 ∷ (fourBytes s ++ (twoBytes n ++ (twoBytes t ++ encodeExpr e)))
+  ownBytes (assign s e v t x r) = 6 ∷ (fourBytes s ++ (encodeExpr e ++ (encodeExpr v ++ twoBytes t)))
+  ownBytes (return s e t x r) = 2 ∷ (fourBytes s ++ (1 ∷ (encodeExpr e ++ twoBytes t)))
+  ownBytes (bareReturn s t r) = 2 ∷ (fourBytes s ++ (0 ∷ twoBytes t))
+  ownBytes (block s c r) = 1 ∷ []
+  ownBytes (ifElse s e ts t us u r) = 7 ∷ (fourBytes s ++ encodeExpr e)
+  ownBytes (ifThen s e ts t r) = 7 ∷ (fourBytes s ++ encodeExpr e)
+  ownBytes (while s e ts t r) = 8 ∷ (fourBytes s ++ encodeExpr e)
+  ownBytes (jump k s r) = cond k 10 9 ∷ fourBytes s
+
+  abbrev pub frontBytes : Tree → Scope Status → List ℕ
+  frontBytes c σ = deleteBytes (frontDrops c σ) ++ ownBytes c
+
+  -- the warning of an unused result, and what a return without a value leaves behind
+  abbrev pub frontReports : Tree → ℕ → Scope Status → List Report
+  frontReports (done x) at σ = []
+  frontReports (exprStmt s e y r) at σ = unused (wrapped (exprStmt s e y r)) s e at
+  frontReports (variable k s n t e r) at σ = []
+  frontReports (assign s e v t x r) at σ = []
+  frontReports (return s e t x r) at σ = []
+  frontReports (bareReturn s t r) at σ = leftBehind s (returnDrops states T nobody σ)
+  frontReports (block s c r) at σ = []
+  frontReports (ifElse s e ts t us u r) at σ = []
+  frontReports (ifThen s e ts t r) at σ = []
+  frontReports (while s e ts t r) at σ = []
+  frontReports (jump k s r) at σ = []
+
+  -- the locals behind it, in a block of depth d, if it has no blocks
+  abbrev pub settle : Tree → ℕ → Scope Status → Scope Status
+  settle (done x) d σ = σ
+  settle (exprStmt s e y r) d σ = applyAll states (deletedIn T (shape σ) (view e)) σ
+  settle (variable k s n t e r) d σ = applyAll states (takeOver T (shape σ) n t e) (register states n t d σ)
+  settle (assign s e v t x r) d σ = afterAssign states T e v σ
+  settle (return s e t x r) d σ = σ
+  settle (bareReturn s t r) d σ = σ
+  settle (block s c r) d σ = σ
+  settle (ifElse s e ts t us u r) d σ = σ
+  settle (ifThen s e ts t r) d σ = σ
+  settle (while s e ts t r) d σ = σ
+  settle (jump k s r) d σ = σ

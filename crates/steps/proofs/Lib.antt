@@ -1,6 +1,0 @@
-pub mod Steps
-pub mod Before
-pub mod Lists
-pub mod Shaped
-pub mod Faults
-pub mod Plain

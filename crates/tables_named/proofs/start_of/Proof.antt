@@ -1,0 +1,22 @@
+-- Past the table a position is 0.
+use mathlib.Core.Path.{sym}
+use Rattle.image_fields.proofs.Numbers.{past-end}
+use denote.Ref.{now}
+use borrow.Author.Needs.{needs}
+use Rattle.tables_named.proofs.start_of.Statement.{statement}
+use Rattle.tables_named.proofs.start_of.Tie as tie
+
+mul-result : tie.Need-mul-result
+mul-result c = search needs
+
+shared-slice-read-result : tie.Need-shared-slice-read-result
+shared-slice-read-result c = search needs
+
+returns : tie.Need-returns
+returns c = search needs
+
+returns-2 : tie.Need-returns-2
+returns-2 c = sym (past-end (now (c .before .args .starts)) (c .before .args .i) (c .if1 .left))
+
+pub start-of-spec : {M : Type 1} → statement M
+start-of-spec = tie.close (tie.spec mul-result shared-slice-read-result returns returns-2)

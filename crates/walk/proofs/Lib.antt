@@ -1,4 +1,0 @@
-pub mod Blocks
-pub mod Branches
-pub mod Heads
-pub mod Ifs
