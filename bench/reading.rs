@@ -1,6 +1,8 @@
-// How long reading an image takes: every image of crates/programs_faults/data/images through `image_fault`, the slowest first.
-// At the root of the repository, once the crate `image` is proved:
+// How long reading an image takes: every image of crates/programs_faults/data/images, and of a folder if one is named, through
+// `image_fault`, the slowest first. At the root of the repository, once the crate `image` is proved:
 //   rt staticlib image && rustc --edition 2021 -O --out-dir target bench/reading.rs -L target/staticlib -l static=image && target/reading
+// `bench bodies FOLDER` writes generated bodies to a folder. How many instructions one image takes:
+//   valgrind --tool=callgrind --toggle-collect=image_fault target/reading --once IMAGE
 use std::time::Instant;
 
 extern "C" {
@@ -38,12 +40,28 @@ fn time(image: &[u8]) -> (u128, u128) {
     (runs[runs.len() / 2], runs[runs.len() - 1])
 }
 
+// The images of a folder, by their files' names.
+fn folder(path: &str) -> Vec<(String, Vec<u8>)> {
+    let entries = std::fs::read_dir(path).expect("a folder of images");
+    entries.map(|e| e.unwrap().path()).map(|p| (p.file_name().unwrap().to_string_lossy().into_owned(), std::fs::read(p).unwrap())).collect()
+}
+
 fn main() {
+    let words: Vec<String> = std::env::args().skip(1).collect();
+    if let [once, path] = &words[..] {
+        assert_eq!(once, "--once");
+        println!("fault {}", fault(&std::fs::read(path).expect("an image")));
+        return;
+    }
     let file = std::fs::read("crates/programs_faults/data/images").expect("run at the root of the repository");
-    let mut rows: Vec<_> = records(&file).into_iter().map(|(name, image)| (time(image), name, image.len(), fault(image))).collect();
+    let others: Vec<_> = words.iter().flat_map(|path| folder(path)).collect();
+    let stored = records(&file).into_iter();
+    let all = stored.chain(others.iter().map(|(name, image)| (name.clone(), &image[..])));
+    let mut rows: Vec<_> = all.map(|(name, image)| (time(image), name, image.len(), fault(image))).collect();
     rows.sort_by(|a, b| b.0.cmp(&a.0));
     println!("{:>10} {:>10} {:>8} {:>6}  image", "median ns", "worst ns", "bytes", "fault");
-    for ((median, worst), name, bytes, fault) in rows.iter().take(12).chain(rows.iter().filter(|r| r.1 == "example")) {
+    let named = |name: &str| name == "example" || others.iter().any(|o| o.0 == name);
+    for ((median, worst), name, bytes, fault) in rows.iter().take(12).chain(rows.iter().skip(12).filter(|r| named(&r.1))) {
         println!("{median:>10} {worst:>10} {bytes:>8} {fault:>6}  {name}");
     }
 }

@@ -15,8 +15,8 @@
  * valid for its length; what is written to must overlap neither the image nor any other memory lent in the same call. The calls hold
  * no state, allocate nothing and keep no pointer: threads may call them at one time, each with memory of its own to write to.
  *
- * Machine stack: give a thread that calls them 1 MB. Measured (bench/memory.c), ownership_pass takes up to 262,080 bytes and
- * ownership_room 162,256. Nothing proves a bound, and a stack that is too small ends the process.
+ * Machine stack: give a thread that calls them 1 MB. Measured (bench/memory.c), ownership_pass takes up to 163,240 bytes and
+ * ownership_room 124,424. Nothing proves a bound, and a stack that is too small ends the process.
  *
  * An image of n bytes without faults 1 to 13 has, with m = n - 28 and rounded down, at most m / 7 errors, m / 21 warnings and 8 * m
  * left-behind entries, and n + 90 * m bytes of output; for 65,536 bytes 9,358, 3,119, 524,064 and 5,961,256. At least 28 bytes stand

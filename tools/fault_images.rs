@@ -104,6 +104,14 @@ fn long_names(n: usize) -> Bytes {
     counted(&list.collect::<Vec<_>>())
 }
 
+// `this`, and names of 64 bytes and one key, `n` in all, alike in their first 46: `Aa` and `BB` have one key.
+fn alike_names(n: usize) -> Bytes {
+    let pair = |bit: usize| if bit == 0 { b"Aa".to_vec() } else { b"BB".to_vec() };
+    let other = |i: usize| name(&cat(&[vec![vec![b'x'; 46]], (0..9).map(|k| pair(i >> k & 1)).collect()].concat()));
+    let list = (0..n).map(|i| if i == 0 { name(b"this") } else { other(i) });
+    counted(&list.collect::<Vec<_>>())
+}
+
 // `this`, and names of two letters, `n` in all.
 fn many_names(n: usize) -> Bytes {
     let other = |i: usize| name(&[b'a' + (i / 26) as u8, b'a' + (i % 26) as u8]);
@@ -286,6 +294,9 @@ fn name_tables(c: &mut Cases) {
     add("the last of 512 as the second", Refused(3), last(b"ab"));
     add("the last of 512 as no other", Accepted, last(b"zz"));
     add("two of 64 bytes that differ at the end", Accepted, names(&[b"this", &[b'x'; 64], &cat(&[vec![b'x'; 63], vec![b'y']])]));
+    add("two of one key", Accepted, names(&[b"this", b"Aa", b"BB"]));
+    add("two of one key, one of them twice", Refused(3), names(&[b"this", b"Aa", b"BB", b"Aa"]));
+    add("512 of 64 bytes and one key", Accepted, alike_names(512));
     add("one begins another", Accepted, names(&[b"this", b"thi", b"thiss", b"x", b"xx"]));
     add("bytes of all values", Accepted, names(&[b"this", &[0], &[255], &[0, 0], &[128, 255]]));
     for first in ["that", "This", "thi", "thiss", "x"] {

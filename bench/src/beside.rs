@@ -2,7 +2,7 @@
 use crate::adapter::{self, Marks, Numbers, ToHir};
 use crate::answer;
 use crate::build::*;
-use crate::image::{self, Block, Image, Name, SpanNo, Stmt};
+use crate::image::{self, Block, Image, Name, SpanNo, Stmt, Ty, TyNo};
 use crate::ours::{self, Lent};
 use crate::random::Random;
 use crate::speed::statements;
@@ -52,6 +52,39 @@ pub fn beside(runs: usize) {
     for (half, locals) in [(10_000, 4), (10_000, 16), (10_000, 64), (30_000, 4), (30_000, 16), (30_000, 64)] {
         twice(half, locals, runs);
     }
+    let mut slow = Memory::new(&deep_types(58_000));
+    let [pass, room] = [Memory::pass, Memory::room].map(|f| median((0..runs).map(|_| f(&mut slow)).collect()));
+    println!("64 locals of a type as deep as may be, {} bytes: pass {:.2} ms, room {:.2} ms", slow.image.len(), pass / 1e6, room / 1e6);
+}
+
+/// The bodies of four sizes with 4 locals, and the one of deep types, a file each, for `reading.rs` and counts of instructions.
+pub fn write_bodies(folder: &std::path::Path) -> i32 {
+    let write = |name: String, i: &Image| std::fs::write(folder.join(name), image::write(i).bytes).unwrap();
+    for bytes in [200, 2_000, 20_000, 60_000] {
+        write(format!("generated-{bytes}"), &generated(bytes, 4, 0));
+    }
+    write("deep-types".into(), &deep_types(58_000));
+    0
+}
+
+/// 64 locals of a type that is inline arrays as deep as they go; then an assignment, an unused result and a bare return in turn.
+fn deep_types(bytes: usize) -> Image {
+    let mut i = tables();
+    while i.types.len() < 256 {
+        i.types.push(Ty::Array(if i.types.len() == 3 { T } else { i.types.len() as TyNo - 1 }));
+    }
+    let (first, deep) = (i.names.len() as Name, 255);
+    i.names.extend((0..64).map(|k| format!("l{k}").into_bytes()));
+    i.body.statements = (0..64).map(|k| set(30, first + k, deep, literal())).collect();
+    let mut k = 0;
+    while image::write(&i).bytes.len() < bytes {
+        let some = (0..50).flat_map(|_| {
+            k += 1;
+            [assign(31, ident(32, first + k % 64), literal()), run(33, call(34, deep, literal(), vec![])), back(35)]
+        });
+        i.body.statements.extend(some);
+    }
+    i
 }
 
 // Time at twice the size over the time, both in each run.
@@ -143,7 +176,7 @@ impl Memory {
         let image = image::write(tree).bytes;
         let mut room = 0;
         assert_eq!(ours::room(&image, &mut room), 0);
-        Memory { image, output: vec![0; room as usize], lists: [1 << 16; 3].map(|n| vec![0; n]) }
+        Memory { image, output: vec![0; room as usize], lists: [1 << 20; 3].map(|n| vec![0; n]) }
     }
 
     fn pass(&mut self) -> f64 {

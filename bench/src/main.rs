@@ -57,10 +57,12 @@ fn command() -> i32 {
         ["records", folder, room, seed] => stored::records(&files.from.join(folder), room.parse().unwrap(), seed.parse().unwrap()),
         #[cfg(feature = "mistakes")]
         ["mistakes", images] => mistakes::find(images.parse().unwrap()),
+        #[cfg(ours)]
+        ["bodies", folder] => beside::write_bodies(&files.from.join(folder)),
         ["speed", runs] => speeds(runs.parse().unwrap()),
         _ => {
             eprintln!(
-                "bench compare IMAGES DAMAGED SEED | differ IMAGES DAMAGED SEED | answer < IMAGE | image LABEL | images FILE MANY | store FILE | replay FILE | records FOLDER BYTES SEED | speed RUNS"
+                "bench compare IMAGES DAMAGED SEED | differ IMAGES DAMAGED SEED | answer < IMAGE | image LABEL | images FILE MANY | store FILE | replay FILE | records FOLDER BYTES SEED | bodies FOLDER | speed RUNS"
             );
             2
         }

@@ -10,7 +10,7 @@ use lib.ListN.{length}
 use Rattle.tables.specs.Tables.{Tables}
 use Rattle.rules.specs.State.{State as Status}
 use Rattle.rules.specs.Stack.{Stack as Scope}
-use Rattle.expressions_effects.specs.Asked.{Says}
+use Rattle.tables_lookup.specs.Lent.{Says}
 use Rattle.image_writing.specs.Memory.{Memory}
 use Rattle.statements_returns.specs.Returns.{BlockThere}
 use Rattle.statements_returns.proofs.Surely.{block-there}
@@ -25,7 +25,7 @@ use Rattle.statements_changes.specs.Turns.{retold}
 use Rattle.blocks_laws.specs.Walks.{BlockWalks}
 use Rattle.blocks_laws.specs.Ends.{Merges}
 use Rattle.blocks_ends.specs.declared.Env.{Env}
-use Rattle.blocks_ends.specs.Ends.{placeIn, faultIn, sureIn, walkedIn, behindOf, Below, Stands, Branches, MergesIn}
+use Rattle.blocks_ends.specs.Ends.{placeIn, faultIn, sureIn, walkedIn, behindOf, Below, RowsStand, Branches, MergesIn}
 use Rattle.blocks.specs.Blocks.{Enters, Comes, blockRows, stmtRows, ElseMerges}
 use Rattle.blocks_ends.proofs.Numbers.{rows-few}
 use Rattle.blocks.proofs.Standing.{below-both}
@@ -33,27 +33,27 @@ use Rattle.blocks.proofs.Ending.{fault-walks}
 
 -- the same numbers, with rows from another place on
 abbrev pub movedOf : Env → ℕ → Env
-movedOf env at = record { globals = env .globals; first = env .first; left = env .left; limit = env .limit; width = env .width; cur = at }
+movedOf env at = record { left = env .left; limit = env .limit; width = env .width; cur = at }
 
 -- the states whose rows end before a place up to which nothing changed
-module _ (l : Locals) (t : States) (rows new : List ℕ) (cur width at : ℕ) (b : Below at rows new) (le : rowOf cur width (l .count) ≤ at) (h : Stands (l .count) t rows cur width) where
-  pub kept-stands : Stands (l .count) t new cur width
+module _ (l : Locals) (t : States) (rows new : List ℕ) (cur width at : ℕ) (b : Below at rows new) (le : rowOf cur width (l .count) ≤ at) (h : RowsStand (l .count) t rows cur width) where
+  pub kept-stands : RowsStand (l .count) t new cur width
   kept-stands = record { held = h .held; rowed = rowed-same l t rows new cur width (h .rowed) (b .room) (λ k lo hi. b .same k (omega arith)) }
 
   pub kept-view : view l t new cur width ≡ view l t rows cur width
   kept-view = view-same l t rows new cur width (h .rowed) (b .room) (λ k lo hi. b .same k (omega arith))
 
-pub stands-in : (l : Locals) (t : States) (rows : List ℕ) (cur width : ℕ) → Sound l t rows cur width → Stands (l .count) t rows cur width
+pub stands-in : (l : Locals) (t : States) (rows : List ℕ) (cur width : ℕ) → Sound l t rows cur width → RowsStand (l .count) t rows cur width
 stands-in l t rows cur width h = record { held = h .held; rowed = h .rowed }
 
-pub sound-of : (l : Locals) (t u : States) (rows new : List ℕ) (cur at width : ℕ) → Sound l t rows cur width → Stands (l .count) u new at width → Sound l u new at width
+pub sound-of : (l : Locals) (t u : States) (rows new : List ℕ) (cur at width : ℕ) → Sound l t rows cur width → RowsStand (l .count) u new at width → Sound l u new at width
 sound-of l t u rows new cur at width s h = record { kept = s .kept; held = h .held; rowed = h .rowed }
 
 pub below-less : (cur at : ℕ) (rows new : List ℕ) → cur ≤ at → Below at rows new → Below cur rows new
 below-less cur at rows new l b = record { room = b .room; same = λ k lk. b .same k (omega arith) }
 
 -- rows of a branch: those of the stack that it starts from, copied
-module _ (s ns ts xs : List ℕ) (env : Env) (l : Locals) (t : States) (rows : List ℕ) (p : Place) (h : Enters s ns ts xs env l t rows p) where
+module _ (s tb : List ℕ) (env : Env) (l : Locals) (t : States) (rows : List ℕ) (p : Place) (h : Enters s tb env l t rows p) where
   pub few : l .count * (env .width + 1) ≤ 576
   few = rows-few (l .count) (env .width) (h .sound .kept .small) (h .width)
 
@@ -78,8 +78,8 @@ module _ (s ns ts xs : List ℕ) (env : Env) (l : Locals) (t : States) (rows : L
     pub branch-view : ok ≡ true → view l t new at (env .width) ≡ view l t rows (env .cur) (env .width)
     branch-view e = view-copied l t rows new (env .cur) at (env .width) (h .sound .rowed) (copies-true e)
 
-    pub branch-enters : ok ≡ true → (a : Env) → a ≡ movedOf env at → Enters s ns ts xs a l t new p
-    branch-enters e a is = subst (λ (x : Env). Enters s ns ts xs x l t new p) (sym is) (record {
+    pub branch-enters : ok ≡ true → (a : Env) → a ≡ movedOf env at → Enters s tb a l t new p
+    branch-enters e a is = subst (λ (x : Env). Enters s tb x l t new p) (sym is) (record {
       lent = h .lent;
       within = h .within;
       depth = h .depth;
@@ -112,13 +112,13 @@ module _ (env r : Env) (at : ℕ) (is : r ≡ movedOf env at) where
       → Comes s at (env .width) (blockRows at (env .left)) l rows p o rows′ pl′
   comes-at {s} {l} {rows} {p} {o} {rows′} {pl′} h = subst (λ (x : Env). Comes s (x .cur) (x .width) (blockRows (x .cur) (x .left)) l rows p o rows′ pl′) is h
 
-  pub walks-at : (s ns ts xs : List ℕ) (l : Locals) (t : States) (rows : List ℕ) (p : Place) (m : Memory) (o : States) (rows′ pl′ : List ℕ) (m′ : Memory)
-      → ((T : Tables) → Says s ns ts xs (r .globals) (r .first) T → (faultIn pl′ ≡ 254 → ⊥)
+  pub walks-at : (s tb : List ℕ) (l : Locals) (t : States) (rows : List ℕ) (p : Place) (m : Memory) (o : States) (rows′ pl′ : List ℕ) (m′ : Memory)
+      → ((T : Tables) → Says s tb T → (faultIn pl′ ≡ 254 → ⊥)
       → BlockWalks T s (r .left) (suc (12 - r .left)) (view l t rows (r .cur) (r .width)) p m (walkedIn pl′ (view l o rows′ (r .cur) (r .width))) m′)
-      → (T : Tables) → Says s ns ts xs (env .globals) (env .first) T → (faultIn pl′ ≡ 254 → ⊥)
+      → (T : Tables) → Says s tb T → (faultIn pl′ ≡ 254 → ⊥)
       → BlockWalks T s (env .left) (suc (12 - env .left)) (view l t rows at (env .width)) p m (walkedIn pl′ (view l o rows′ at (env .width))) m′
-  walks-at s ns ts xs l t rows p m o rows′ pl′ m′ h =
-      subst (λ (x : Env). (T : Tables) → Says s ns ts xs (x .globals) (x .first) T → (faultIn pl′ ≡ 254 → ⊥)
+  walks-at s tb l t rows p m o rows′ pl′ m′ h =
+      subst (λ (x : Env). (T : Tables) → Says s tb T → (faultIn pl′ ≡ 254 → ⊥)
       → BlockWalks T s (x .left) (suc (12 - x .left)) (view l t rows (x .cur) (x .width)) p m (walkedIn pl′ (view l o rows′ (x .cur) (x .width))) m′) is h
 
   pub branches-at : {n : ℕ} {t u v : States} {rows : List ℕ} → Branches n t u v rows (env .cur) (env .width) at → Branches n t u v rows (env .cur) (env .width) (r .cur)
@@ -129,19 +129,19 @@ module _ (env r : Env) (at : ℕ) (is : r ≡ movedOf env at) where
   merges-at {x} {y} {n} {t} {u} {v} {rows} {pl} {o} {rows′} {pl′} h = subst (λ (z : Env). MergesIn x y n t u v rows (env .cur) (env .width) (z .cur) pl o rows′ pl′) is h
 
   -- what a branch's block is asked
-  pub block-asked : {s ns ts xs : List ℕ} {l : Locals} {t : States} {rows : List ℕ} {p : Place} (nodes pl : List ℕ) → Enters s ns ts xs r l t rows p → BlockThere s (env .left) (p .at)
+  pub block-asked : {s tb : List ℕ} {l : Locals} {t : States} {rows : List ℕ} {p : Place} (nodes pl : List ℕ) → Enters s tb r l t rows p → BlockThere s (env .left) (p .at)
       → at ≤ 1152 * (12 - env .left) → length nodes ≡ 26 → length pl ≡ 10
-      → Enters s ns ts xs r l t rows p × BlockThere s (r .left) (p .at) × (r .cur ≤ 1152 * (12 - r .left)) × (length nodes ≡ 26) × (length pl ≡ 10)
+      → Enters s tb r l t rows p × BlockThere s (r .left) (p .at) × (r .cur ≤ 1152 * (12 - r .left)) × (length nodes ≡ 26) × (length pl ≡ 10)
   block-asked {s} {p = p} nodes pl h there low en ep =
       (h, subst (λ (x : Env). BlockThere s (x .left) (p .at)) (sym is) there, subst (λ (x : Env). x .cur ≤ 1152 * (12 - x .left)) (sym is) low, en, ep)
 
   pub left-same : r .left ≡ env .left
   left-same = ap (λ (x : Env). x .left) is
 
-pub behind-asked : (s ns ts xs : List ℕ) (env : Env) (l : Locals) (t : States) (rows : List ℕ) (p : Place) → Enters s ns ts xs env l t rows p → env .cur + 1152 ≤ 1152 * (12 - env .left) → (r : Env)
+pub behind-asked : (s tb : List ℕ) (env : Env) (l : Locals) (t : States) (rows : List ℕ) (p : Place) → Enters s tb env l t rows p → env .cur + 1152 ≤ 1152 * (12 - env .left) → (r : Env)
     → r ≡ behindOf env (l .count) → (l .count ≤ 64) × (r .width ≡ 8) × (r .cur < 4294967296)
-behind-asked s ns ts xs env l t rows p h low r is =
-    let f = few s ns ts xs env l t rows p h in
+behind-asked s tb env l t rows p h low r is =
+    let f = few s tb env l t rows p h in
     subst (λ (x : Env). (l .count ≤ 64) × (x .width ≡ 8) × (x .cur < 4294967296)) (sym is) (h .sound .kept .small, h .width, omega arith)
 
 -- a walk that ends where the rows do not reach, or with a fault
@@ -157,8 +157,8 @@ comes-faulty s cur width least l rows p r rows′ pl′ room lt below short = re
 }
 
 -- the second block of an IfElse
-module _ (s ns ts xs : List ℕ) (env : Env) (l : Locals) (t first : States) (rows pl : List ℕ) (h : Enters s ns ts xs env l t rows (placeIn pl))
-    (there : BlockThere s (env .left) (placeIn pl .at)) (low : env .cur + 1152 ≤ 1152 * (12 - env .left)) (one : Stands (l .count) first rows (rowOf (env .cur) (env .width) (l .count)) (env .width)) where
+module _ (s tb : List ℕ) (env : Env) (l : Locals) (t first : States) (rows pl : List ℕ) (h : Enters s tb env l t rows (placeIn pl))
+    (there : BlockThere s (env .left) (placeIn pl .at)) (low : env .cur + 1152 ≤ 1152 * (12 - env .left)) (one : RowsStand (l .count) first rows (rowOf (env .cur) (env .width) (l .count)) (env .width)) where
   abbrev a : ℕ
   a = rowOf (env .cur) (env .width) (l .count)
 
@@ -166,27 +166,27 @@ module _ (s ns ts xs : List ℕ) (env : Env) (l : Locals) (t first : States) (ro
   b = rowOf a (env .width) (l .count)
 
   pub else-low : (b < 4294967296) × (b ≤ 1152 * (12 - env .left)) × (rowOf (env .cur) (env .width) (l .count) ≤ b)
-  else-low = let f = few s ns ts xs env l t rows (placeIn pl) h in (omega arith, omega arith, omega arith)
+  else-low = let f = few s tb env l t rows (placeIn pl) h in (omega arith, omega arith, omega arith)
 
   enough : 0 < env .left
   enough = block-there s (env .left) (placeIn pl .at) there .0
 
   pub else-short : length rows < rowOf b (env .width) (l .count) → length rows < stmtRows (env .cur) (env .left)
-  else-short lt = let f = few s ns ts xs env l t rows (placeIn pl) h in let e = enough in omega arith
+  else-short lt = let f = few s tb env l t rows (placeIn pl) h in let e = enough in omega arith
 
   module _ {ok : Bool} {rows₁ : List ℕ} (c : Copies (l .count) (env .width) (t .kinds) rows (env .cur) b ok rows₁) (yes : ok ≡ true) {other : States} {rows₂ pl₂ : List ℕ}
       (come : Comes s b (env .width) (blockRows b (env .left)) l rows₁ (placeIn pl) other rows₂ pl₂) where
     whole : Below b rows rows₂
-    whole = below-both b b rows rows₁ rows₂ (omega arith) (branch-below s ns ts xs env l t rows (placeIn pl) h b c) (come .below)
+    whole = below-both b b rows rows₁ rows₂ (omega arith) (branch-below s tb env l t rows (placeIn pl) h b c) (come .below)
 
     pub else-below : Below (env .cur) rows rows₂
-    else-below = let f = few s ns ts xs env l t rows (placeIn pl) h in below-less (env .cur) b rows rows₂ (omega arith) whole
+    else-below = let f = few s tb env l t rows (placeIn pl) h in below-less (env .cur) b rows rows₂ (omega arith) whole
 
     pub else-least : faultIn pl₂ ≡ 254 → length rows < stmtRows (env .cur) (env .left)
     else-least z =
         let q = come .short z in
         let r : length rows₁ ≡ length rows = c .rest .room in
-        let f = few s ns ts xs env l t rows (placeIn pl) h in
+        let f = few s tb env l t rows (placeIn pl) h in
         let e = enough in
         omega arith
 
@@ -211,7 +211,7 @@ module _ (s ns ts xs : List ℕ) (env : Env) (l : Locals) (t first : States) (ro
         (walks : BlockWalks T s (env .left) (suc (12 - env .left)) (view l t rows₁ b (env .width)) (placeIn pl) m (walkedIn pl₂ (view l other rows₂ b (env .width))) m₂) where
       walks-here : BlockWalks T s (env .left) (suc (12 - env .left)) (view l t rows (env .cur) (env .width)) (placeIn pl) m (walkedIn pl₂ (view l other rows₂ b (env .width))) m₂
       walks-here = subst (λ (σ : Scope Status). BlockWalks T s (env .left) (suc (12 - env .left)) σ (placeIn pl) m (walkedIn pl₂ (view l other rows₂ b (env .width))) m₂)
-          (branch-view s ns ts xs env l t rows (placeIn pl) h b c yes) walks
+          (branch-view s tb env l t rows (placeIn pl) h b c yes) walks
 
       -- its fault
       pub else-fault : 0 < faultIn pl₂ → ElseMerges T s (env .left) (12 - env .left) (sureIn pl) (view l t rows (env .cur) (env .width)) (view l first rows a (env .width)) (placeIn pl) m
@@ -246,7 +246,7 @@ module _ (s ns ts xs : List ℕ) (env : Env) (l : Locals) (t first : States) (ro
       short = λ q.
           let k = g .short q in
           let n : length rows₂ ≡ length rows = whole .room in
-          let f = few s ns ts xs env l t rows (placeIn pl) h in
+          let f = few s tb env l t rows (placeIn pl) h in
           let e = enough in
           omega arith;
       sound = λ q. sound-of l t r rows rows₃ (env .cur) (env .cur) (env .width) (h .sound) (g .stands q);

@@ -12,8 +12,8 @@ use Rattle.tables.specs.Tables.{Tables}
 use Rattle.rules.specs.Questions.{auto}
 use Rattle.rules.specs.State.{State as Status}
 use Rattle.rules.specs.Stack.{shape, pop, Stack as Scope}
-use Rattle.expressions_effects.specs.Asked.{Says}
-use Rattle.expressions_effects.proofs.Asked.{tablesOf, said}
+use Rattle.tables_lookup.specs.Lent.{Says}
+use Rattle.tables_lookup.proofs.Lent.{tablesOf, said}
 use Rattle.image_writing.specs.Memory.{Memory, memory}
 use Rattle.image_writing.specs.Stored.{Stored}
 use Rattle.statements_returns.specs.Returns.{StmtThere, BlockThere}
@@ -24,12 +24,12 @@ use Rattle.statements_acts.specs.Act.{Within, Grows as Further}
 use Rattle.scope_stack.specs.declared.Locals.{Locals}
 use Rattle.scope_stack.specs.declared.States.{States}
 use Rattle.scope_stack.specs.Word.{wordOf}
-use Rattle.scope_stack.specs.View.{view, stateAt, rowOf, entryAt, dropAt, Kept, Held, Rowed, Nested, Leaves, Extends}
+use Rattle.scope_stack.specs.View.{view, stateAt, rowOf, entryAt, dropAt, Kept, Held, Rowed, Nested, Leaves}
+use Rattle.scope_stack.proofs.Scopes.{Extends, leaves-pop, sound-leave, nested-view}
 use Rattle.scope_stack.proofs.Frames.{nested-deeper}
 use Rattle.scope_stack.proofs.Words.{word-same}
 use Rattle.scope_stack.proofs.Marked.{lives-at}
 use Rattle.scope_stack.proofs.Stores.{leaves-none}
-use Rattle.scope_stack.proofs.Scopes.{leaves-pop, sound-leave, nested-view}
 use Rattle.statements_acts.specs.Marks.{lent, dropIn, Marked}
 use Rattle.statements_changes.specs.declared.Cursor.{Cursor}
 use Rattle.statements_changes.specs.declared.Turn.the-variants.{Over, Blocks}
@@ -45,10 +45,10 @@ use Rattle.blocks.specs.Blocks.{Enters, Comes}
 use Rattle.blocks.proofs.Standing.{Turned, below-both, blocks-fault}
 
 -- what is promised of the walk of a block with so much depth left, from a place and a stack
-pub record Done (s ns ts xs : List ℕ) (globals first cur width left least : ℕ) (start : Place) (outer : Locals) (t₀ : States) (rows₀ : List ℕ) (m : Memory) (r : States) (rows ns′ pl : List ℕ) (m′ : Memory) : Type 0 where
+pub record Done (s tb : List ℕ) (cur width left least : ℕ) (start : Place) (outer : Locals) (t₀ : States) (rows₀ : List ℕ) (m : Memory) (r : States) (rows ns′ pl : List ℕ) (m′ : Memory) : Type 0 where
   pub comes : Comes s cur width least outer rows₀ start r rows pl
   pub nodes : length ns′ ≡ 26
-  pub walks : (T : Tables) → Says s ns ts xs globals first T → (faultIn pl ≡ 254 → ⊥)
+  pub walks : (T : Tables) → Says s tb T → (faultIn pl ≡ 254 → ⊥)
       → BlockWalks T s left (suc (12 - left)) (view outer t₀ rows₀ cur width) start m (walkedIn pl (view outer r rows cur width)) m′
 
 -- a fault alone is told of a walk that has one
@@ -67,7 +67,7 @@ marked-view T l t rows cur width mark h e =
     e ∙ word-same (l .count) (dropAt T l t) (dropIn T (l .types) (stateAt t rows cur width))
     (λ i li. ap (λ (b : Bool). b && auto T (getD (l .types) i 0)) (sym (lives-at rows width (rowOf cur width i) (entryAt t i) (h .known i))))
 
-module _ (s ns ts xs : List ℕ) (small : Bytes s) (e : Env) (left : ℕ) (low : 0 < left) (high : left ≤ 12) (el : e .left ≡ left - 1) (start : Place) (outer : Locals) (t₀ : States)
+module _ (s tb : List ℕ) (small : Bytes s) (e : Env) (left : ℕ) (low : 0 < left) (high : left ≤ 12) (el : e .left ≡ left - 1) (start : Place) (outer : Locals) (t₀ : States)
     (rows₀ out₁ errs₀ warns₀ lefts₀ : List ℕ) (within : Within s start) (there : BlockThere s left (start .at)) (out₀ : List ℕ)
     (head : Stored out₀ (start .written) (fourBytes (four s (start .at))) out₁ (start .written + 4)) where
   abbrev σ₀ : Scope Status
@@ -82,9 +82,9 @@ module _ (s ns ts xs : List ℕ) (small : Bytes s) (e : Env) (left : ℕ) (low :
   -- a fault, told of the block
   pub fault-done : (least : ℕ) (r : States) (rows′ nodes′ pl′ : List ℕ) (m′ : Memory) → 0 < faultIn pl′ → length nodes′ ≡ 26 → length pl′ ≡ 10 → Below (e .cur) rows₀ rows′
       → (faultIn pl′ ≡ 254 → length rows₀ < least) → (w : Walked) → w .fault ≡ faultIn pl′
-      → ((T : Tables) → Says s ns ts xs (e .globals) (e .first) T → (faultIn pl′ ≡ 254 → ⊥)
+      → ((T : Tables) → Says s tb T → (faultIn pl′ ≡ 254 → ⊥)
       → StmtsWalk T s (e .left) (12 - e .left) (two s (start .at + 4)) (view outer t₀ rows₀ (e .cur) (e .width)) (headed start (start .written + 4)) (memory out₁ errs₀ warns₀ lefts₀) w m′)
-      → Done s ns ts xs (e .globals) (e .first) (e .cur) (e .width) left least start outer t₀ rows₀ (memory out₀ errs₀ warns₀ lefts₀) r rows′ nodes′ pl′ m′
+      → Done s tb (e .cur) (e .width) left least start outer t₀ rows₀ (memory out₀ errs₀ warns₀ lefts₀) r rows′ nodes′ pl′ m′
   fault-done least r rows′ nodes′ pl′ m′ lt en ep below short w ew walks = record {
     comes = record {
       room = ep;
@@ -102,19 +102,19 @@ module _ (s ns ts xs : List ℕ) (small : Bytes s) (e : Env) (left : ℕ) (low :
 
   module _ {rows nodes out errs warns lefts pl : List ℕ} {l : Locals} {t : States} {c : Cursor} where
     -- a fault of the blocks of a statement
-    pub blocks-done : (tag : ℕ) → Turned s ns ts xs e start outer t₀ rows₀ out₁ errs₀ warns₀ lefts₀ rows nodes out errs warns lefts pl l t c (Blocks tag) → (p : Place) → p ≡ c .place → {r : States} {rows′ pl′ : List ℕ}
+    pub blocks-done : (tag : ℕ) → Turned s tb e start outer t₀ rows₀ out₁ errs₀ warns₀ lefts₀ rows nodes out errs warns lefts pl l t c (Blocks tag) → (p : Place) → p ≡ c .place → {r : States} {rows′ pl′ : List ℕ}
         (enough : ℕ) → Comes s (e .cur) (e .width) enough l rows p r rows′ pl′ → {out′ errs′ warns′ lefts′ : List ℕ}
-        → ((T : Tables) → Says s ns ts xs (e .globals) (e .first) T → (faultIn pl′ ≡ 254 → ⊥)
+        → ((T : Tables) → Says s tb T → (faultIn pl′ ≡ 254 → ⊥)
         → TagWalks T s (e .left) (12 - e .left) tag (view l t rows (e .cur) (e .width)) p (memory out errs warns lefts) (walkedIn pl′ (view l r rows′ (e .cur) (e .width))) (memory out′ errs′ warns′ lefts′))
         → 0 < faultIn pl′ → (nodes′ : List ℕ) → length nodes′ ≡ 26 → (least : ℕ) → (faultIn pl′ ≡ 254 → length rows₀ < least)
-        → Done s ns ts xs (e .globals) (e .first) (e .cur) (e .width) left least start outer t₀ rows₀ (memory out₀ errs₀ warns₀ lefts₀) r rows′ nodes′ pl′ (memory out′ errs′ warns′ lefts′)
+        → Done s tb (e .cur) (e .width) left least start outer t₀ rows₀ (memory out₀ errs₀ warns₀ lefts₀) r rows′ nodes′ pl′ (memory out′ errs′ warns′ lefts′)
     blocks-done tag h p ep {r} {rows′} {pl′} enough come {out′} {errs′} {warns′} {lefts′} tag-walks lt nodes′ en least short =
         fault-done least r rows′ nodes′ pl′ (memory out′ errs′ warns′ lefts′) lt en (come .room) (below-both (e .cur) (e .cur) rows₀ rows rows′ (omega arith) (h .owned .below) (come .below)) short
         (walkedIn pl′ (view l r rows′ (e .cur) (e .width))) refl
-        (λ T sy reach. blocks-fault s ns ts xs e start outer t₀ rows₀ out₁ errs₀ warns₀ lefts₀ tag h p ep enough come tag-walks lt reach T sy)
+        (λ T sy reach. blocks-fault s tb e start outer t₀ rows₀ out₁ errs₀ warns₀ lefts₀ tag h p ep enough come tag-walks lt reach T sy)
 
     -- the end
-    module _ (h : Turned s ns ts xs e start outer t₀ rows₀ out₁ errs₀ warns₀ lefts₀ rows nodes out errs warns lefts pl l t c Over) where
+    module _ (h : Turned s tb e start outer t₀ rows₀ out₁ errs₀ warns₀ lefts₀ rows nodes out errs warns lefts pl l t c Over) where
       pub end-there : EndThere s left start (c .place)
       end-there = record {
         low = low;
@@ -124,7 +124,7 @@ module _ (s ns ts xs : List ℕ) (small : Bytes s) (e : Env) (left : ℕ) (low :
         gap = omega (arith, within .written, within .inside, within .small);
         last = λ few.
             let g = stmts-in s left (e .left) (start .at) (two s (start .at + 4)) (start .at + 6) el refl refl there in
-            let k = h .after (tablesOf s ns ts xs (e .globals) (e .first)) (said s ns ts xs (e .globals) (e .first)) (g .t) (g .deep) (g .c) (g .end) (g .read) .last few in
+            let k = h .after (tablesOf s tb) (said s tb) (g .t) (g .deep) (g .c) (g .end) (g .read) .last few in
             subst (λ (n : ℕ). StmtThere s n (c .place .last)) el (record { t = g .t; deep = g .deep; x = k .0; next = k .1; read = k .2 });
       }
 
@@ -166,9 +166,9 @@ module _ (s ns ts xs : List ℕ) (small : Bytes s) (e : Env) (left : ℕ) (low :
             }
 
         pub end-done : (out′ : List ℕ)
-            → ((T : Tables) → Says s ns ts xs (e .globals) (e .first) T → (σ : Scope Status) → σ ≡ pop (suc (12 - left)) (view l t rows (e .cur) (e .width))
+            → ((T : Tables) → Says s tb T → (σ : Scope Status) → σ ≡ pop (suc (12 - left)) (view l t rows (e .cur) (e .width))
             → Ends T s left (suc (12 - left)) (view l t rows (e .cur) (e .width)) start (start .written + 4) (c .place) out (walkedIn pl′ σ) out′)
-            → Done s ns ts xs (e .globals) (e .first) (e .cur) (e .width) left least start outer t₀ rows₀ (memory out₀ errs₀ warns₀ lefts₀) r rows nodes pl′ (memory out′ errs warns lefts)
+            → Done s tb (e .cur) (e .width) left least start outer t₀ rows₀ (memory out₀ errs₀ warns₀ lefts₀) r rows nodes pl′ (memory out′ errs warns lefts)
         end-done out′ ends = record {
           comes = record {
             room = ended .room;
@@ -188,16 +188,16 @@ module _ (s ns ts xs : List ℕ) (small : Bytes s) (e : Env) (left : ℕ) (low :
         }
 
 -- said of the numbers that the block was given
-pub done-as : (s ns ts xs : List ℕ) (env e : Env) (left least : ℕ) (start p : Place) (outer : Locals) (t₀ : States) (rows₀ : List ℕ) (m : Memory) (r : States) (rows ns′ pl : List ℕ) (m′ : Memory)
-    → e ≡ innerOf env → start ≡ p → Done s ns ts xs (e .globals) (e .first) (e .cur) (e .width) left least start outer t₀ rows₀ m r rows ns′ pl m′
-    → Done s ns ts xs (env .globals) (env .first) (env .cur) (env .width) left least p outer t₀ rows₀ m r rows ns′ pl m′
-done-as s ns ts xs env e left least start p outer t₀ rows₀ m r rows ns′ pl m′ is ep d =
-    subst (λ (x : Env). Done s ns ts xs (x .globals) (x .first) (x .cur) (x .width) left least p outer t₀ rows₀ m r rows ns′ pl m′) is
-    (subst (λ (x : Place). Done s ns ts xs (e .globals) (e .first) (e .cur) (e .width) left least x outer t₀ rows₀ m r rows ns′ pl m′) ep d)
+pub done-as : (s tb : List ℕ) (env e : Env) (left least : ℕ) (start p : Place) (outer : Locals) (t₀ : States) (rows₀ : List ℕ) (m : Memory) (r : States) (rows ns′ pl : List ℕ) (m′ : Memory)
+    → e ≡ innerOf env → start ≡ p → Done s tb (e .cur) (e .width) left least start outer t₀ rows₀ m r rows ns′ pl m′
+    → Done s tb (env .cur) (env .width) left least p outer t₀ rows₀ m r rows ns′ pl m′
+done-as s tb env e left least start p outer t₀ rows₀ m r rows ns′ pl m′ is ep d =
+    subst (λ (x : Env). Done s tb (x .cur) (x .width) left least p outer t₀ rows₀ m r rows ns′ pl m′) is
+    (subst (λ (x : Place). Done s tb (e .cur) (e .width) left least x outer t₀ rows₀ m r rows ns′ pl m′) ep d)
 
 -- a block's statements may be walked where the block may be
-pub enters-inner : (s ns ts xs : List ℕ) (env e : Env) (l : Locals) (t : States) (rows : List ℕ) (p : Place) → e ≡ innerOf env → Enters s ns ts xs env l t rows p → Enters s ns ts xs e l t rows p
-enters-inner s ns ts xs env e l t rows p is h = subst (λ (x : Env). Enters s ns ts xs x l t rows p) (sym is) (record {
+pub enters-inner : (s tb : List ℕ) (env e : Env) (l : Locals) (t : States) (rows : List ℕ) (p : Place) → e ≡ innerOf env → Enters s tb env l t rows p → Enters s tb e l t rows p
+enters-inner s tb env e l t rows p is h = subst (λ (x : Env). Enters s tb x l t rows p) (sym is) (record {
   lent = h .lent;
   within = h .within;
   depth = let d = h .depth in omega arith;

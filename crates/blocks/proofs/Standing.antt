@@ -22,7 +22,7 @@ use Rattle.rules.specs.Stack.{shape, mark, Stack as Scope}
 use Rattle.rules.specs.Rules.{states, register}
 use Rattle.rules.specs.Walk.{tooMany}
 use Rattle.scope_state.specs.Kinds.{said, put}
-use Rattle.expressions_effects.specs.Asked.{Lent, Says}
+use Rattle.tables_lookup.specs.Lent.{Lent, Says}
 use Rattle.expressions_scan.specs.States.{stateAt, AllKept}
 use Rattle.expressions_scan.specs.declared.Env.{Env as Scanning}
 use Rattle.image_writing.specs.Memory.{Memory, memory}
@@ -35,9 +35,9 @@ use Rattle.statements_acts.specs.Act.{Within, Grows as Further}
 use Rattle.scope_stack.specs.declared.Locals.{Locals}
 use Rattle.scope_stack.specs.declared.States.{States}
 use Rattle.scope_stack.specs.Word.{wordOf}
-use Rattle.scope_stack.specs.View.{view, aliveAt, dropAt, Held, Sound, Drops, Nested, Grows, Marks, Named, Extends}
+use Rattle.scope_stack.specs.View.{view, aliveAt, dropAt, Held, Sound, Drops, Nested, Grows, Marks, Named}
+use Rattle.scope_stack.proofs.Scopes.{Extends, register-length, sound-mark, sound-register, registers-marked, registers-fresh, extends-none, extends-more, nested-view}
 use Rattle.scope_stack.proofs.Frames.{nested-register}
-use Rattle.scope_stack.proofs.Scopes.{register-length, sound-mark, sound-register, registers-marked, registers-fresh, extends-none, extends-more, nested-view}
 use Rattle.statements_changes.specs.declared.Cursor.{Cursor}
 use Rattle.statements_changes.specs.declared.Turn.{Turn}
 use Rattle.statements_changes.specs.declared.Turn.the-variants.{Nothing, Over, Mark, Register, Blocks}
@@ -83,12 +83,7 @@ register-goes n y e = let z : _≡_ {A = ℕ} 0 1 = cc in omega arith
 pub blocks-go : (tag : ℕ) → Blocks tag ≡ Over → ⊥
 blocks-go tag e = let z : _≡_ {A = ℕ} 0 1 = cc in omega arith
 
--- the question that is asked of a type is that of the rules
-pub auto-said : (s ns ts xs : List ℕ) (count first : ℕ) (T : Tables) → Says s ns ts xs count first T → (y : ℕ) (b : Bool) → b ≡ shouldAutoDelete (map (typeIn s) ts) (map (structIn s) xs) y → b ≡ auto T y
-unfolding auto
-auto-said s ns ts xs count first T h y b e = e ∙ ap (λ (x : List Ty). shouldAutoDelete x (map (structIn s) xs) y) (h .types) ∙ ap (λ (x : List Struct). shouldAutoDelete (T .types) x y) (h .structs)
-
-module _ (s ns ts xs : List ℕ) (e : Env) (start : Place) (outer : Locals) (t₀ : States) (rows₀ out₀ errs₀ warns₀ lefts₀ : List ℕ) where
+module _ (s tb : List ℕ) (e : Env) (start : Place) (outer : Locals) (t₀ : States) (rows₀ out₀ errs₀ warns₀ lefts₀ : List ℕ) where
   abbrev σ₀ : Scope Status
   σ₀ = view outer t₀ rows₀ (e .cur) (e .width)
 
@@ -108,7 +103,7 @@ module _ (s ns ts xs : List ℕ) (e : Env) (start : Place) (outer : Locals) (t�
   pub record Owned (rows : List ℕ) (l : Locals) (t : States) : Type 0 where
     pub sound : Sound l t rows (e .cur) (e .width)
     pub nested : Nested (12 - e .left) (shape (view l t rows (e .cur) (e .width)))
-    pub drops : (T : Tables) → Says s ns ts xs (e .globals) (e .first) T → Drops T l
+    pub drops : (T : Tables) → Says s tb T → Drops T l
     pub extends : Extends (12 - e .left) outer l
     pub below : Below (e .cur) rows₀ rows
 
@@ -126,7 +121,7 @@ module _ (s ns ts xs : List ℕ) (e : Env) (start : Place) (outer : Locals) (t�
     pub long : Long nodes out errs warns lefts pl
     pub steady : Steady s (e .left) nodes c
     pub grows : Further s (retold (headed start (start .written + 4)) 0) (retold (c .place) 0)
-    pub stood : (T : Tables) → Says s ns ts xs (e .globals) (e .first) T
+    pub stood : (T : Tables) → Says s tb T
         → Stood T s (e .left) (12 - e .left) (two s (start .at + 4)) (view outer t₀ rows₀ (e .cur) (e .width)) (headed start (start .written + 4)) (memory out₀ errs₀ warns₀ lefts₀)
         nodes c (view l t rows (e .cur) (e .width)) (memory out errs warns lefts)
 
@@ -136,12 +131,12 @@ module _ (s ns ts xs : List ℕ) (e : Env) (start : Place) (outer : Locals) (t�
     pub long : Long nodes out errs warns lefts pl
     pub fit : Fit s (e .left) nodes c turn
     pub grows : Further s (retold (headed start (start .written + 4)) 0) (retold (c .place) 0)
-    pub after : (T : Tables) → Says s ns ts xs (e .globals) (e .first) T
+    pub after : (T : Tables) → Says s tb T
         → After T s (e .left) (12 - e .left) (two s (start .at + 4)) (view outer t₀ rows₀ (e .cur) (e .width)) (headed start (start .written + 4)) (memory out₀ errs₀ warns₀ lefts₀)
         nodes c (view l t rows (e .cur) (e .width)) (memory out errs warns lefts) turn
 
   -- the loop begins behind the block's head
-  module _ (h : Enters s ns ts xs e outer t₀ rows₀ start) (left : ℕ) (el : e .left ≡ left - 1) (there : BlockThere s left (start .at)) where
+  module _ (h : Enters s tb e outer t₀ rows₀ start) (left : ℕ) (el : e .left ≡ left - 1) (there : BlockThere s left (start .at)) where
     start-owned : Owned rows₀ outer t₀
     start-owned = record { sound = h .sound; nested = h .nested; drops = h .drops; extends = extends-none (12 - e .left) outer; below = below-none (e .cur) rows₀ }
 
@@ -159,19 +154,19 @@ module _ (s ns ts xs : List ℕ) (e : Env) (start : Place) (outer : Locals) (t�
     })
 
   -- what next_change is asked
-  pub ask-next : Lent s ns ts xs (e .globals) (e .first) → e .left ≤ 12 → e .width ≡ 8 → e .cur < 4294967296 → {rows nodes out errs warns lefts pl : List ℕ} {l : Locals} {t : States} {c : Cursor}
+  pub ask-next : Lent s tb → e .left ≤ 12 → e .width ≡ 8 → e .cur < 4294967296 → {rows nodes out errs warns lefts pl : List ℕ} {l : Locals} {t : States} {c : Cursor}
       → Standing rows nodes out errs warns lefts pl l t c → (mark : ℕ) (here : Scanning)
-      → here ≡ record { globals = e .globals; first = e .first; left = e .left; locals = l .count; mark = mark; cur = e .cur; width = e .width }
-      → Lent s ns ts xs (here .globals) (here .first) × AllKept (t .kinds) (t .firsts) rows (here .cur) (here .width) (here .locals)
+      → here ≡ record { left = e .left; locals = l .count; mark = mark; cur = e .cur; width = e .width }
+      → Lent s tb × AllKept (t .kinds) (t .firsts) rows (here .cur) (here .width) (here .locals)
       × (here .left ≤ 12) × Steady s (here .left) nodes c × (length nodes ≡ 26)
   ask-next lent depth wide low {rows} {nodes} {out} {errs} {warns} {lefts} {pl} {l} {t} {c} st mark here is =
-      subst (λ (x : Scanning). Lent s ns ts xs (x .globals) (x .first) × AllKept (t .kinds) (t .firsts) rows (x .cur) (x .width) (x .locals) × (x .left ≤ 12) × Steady s (x .left) nodes c × (length nodes ≡ 26)) (sym is)
+      subst (λ (x : Scanning). Lent s tb × AllKept (t .kinds) (t .firsts) rows (x .cur) (x .width) (x .locals) × (x .left ≤ 12) × Steady s (x .left) nodes c × (length nodes ≡ 26)) (sym is)
       (lent, kept-view l t rows (e .cur) (e .width) (st .owned .sound) low (omega arith), depth, st .steady, st .long .nodes)
 
   -- what it answers, of the stack
   abbrev Answers : List ℕ → List ℕ → List ℕ → List ℕ → List ℕ → List ℕ → Locals → States → Cursor → List ℕ → List ℕ → List ℕ → List ℕ → List ℕ → Cursor → Turn → Scanning → Type 0
   Answers rows nodes out errs warns lefts l t c nodes′ out′ errs′ warns′ lefts′ c′ turn here =
-      ((T : Tables) → Says s ns ts xs (here .globals) (here .first) T → (σ : Scope Status)
+      ((T : Tables) → Says s tb T → (σ : Scope Status)
       → Lends T (here .mark) (l .names) (l .types) (l .depths) (stateAt (t .kinds) (t .firsts) rows (here .cur) (here .width)) (here .locals) σ
       → (n : ℕ) (τ : Scope Status) (q : Place) (m : Memory)
       → Stood T s (here .left) (12 - here .left) n τ q m nodes c σ (memory out errs warns lefts)
@@ -180,7 +175,7 @@ module _ (s ns ts xs : List ℕ) (e : Env) (start : Place) (outer : Locals) (t�
 
   pub turned : {rows nodes out errs warns lefts pl : List ℕ} {l : Locals} {t : States} {c : Cursor} → Standing rows nodes out errs warns lefts pl l t c → (mark : ℕ)
       → ((T : Tables) → Drops T l → mark ≡ wordOf (l .count) (dropAt T l t)) → (here : Scanning)
-      → here ≡ record { globals = e .globals; first = e .first; left = e .left; locals = l .count; mark = mark; cur = e .cur; width = e .width }
+      → here ≡ record { left = e .left; locals = l .count; mark = mark; cur = e .cur; width = e .width }
       → {nodes′ out′ errs′ warns′ lefts′ : List ℕ} {c′ : Cursor} {turn turn′ : Turn} → Answers rows nodes out errs warns lefts l t c nodes′ out′ errs′ warns′ lefts′ c′ turn here
       → turn ≡ turn′ → length out′ ≡ length out → length errs′ ≡ length errs → length warns′ ≡ length warns → length lefts′ ≡ length lefts
       → Turned rows nodes′ out′ errs′ warns′ lefts′ pl l t c′ turn′
@@ -223,7 +218,7 @@ module _ (s ns ts xs : List ℕ) (e : Env) (start : Place) (outer : Locals) (t�
       many : length more ≡ l .count + 1
       many = register-length l n y (12 - e .left) t rows (e .cur) (e .width)
 
-      module _ (dtor : Bool) (asked : (T : Tables) → Says s ns ts xs (e .globals) (e .first) T → dtor ≡ auto T y) (r : Locals) (g : Grows l n y (12 - e .left) dtor r) (room : l .count < 64) where
+      module _ (dtor : Bool) (asked : (T : Tables) → Says s tb T → dtor ≡ auto T y) (r : Locals) (g : Grows l n y (12 - e .left) dtor r) (room : l .count < 64) where
         standing-more : (u : States) → Sound r u rows (e .cur) (e .width) → view r u rows (e .cur) (e .width) ≡ more → Standing rows nodes out errs warns lefts pl r u c
         standing-more u sound is = record {
           owned = record {
@@ -251,7 +246,7 @@ module _ (s ns ts xs : List ℕ) (e : Env) (start : Place) (outer : Locals) (t�
             (registers-marked l r n y (12 - e .left) dtor g t rows (e .cur) (e .width) (h .owned .sound .rowed) p u m)
 
       -- and without
-      pub full : 64 ≤ l .count → (w : Walked) → w .fault ≡ 12 → (T : Tables) → Says s ns ts xs (e .globals) (e .first) T
+      pub full : 64 ≤ l .count → (w : Walked) → w .fault ≡ 12 → (T : Tables) → Says s tb T
           → StmtsWalk T s (e .left) (12 - e .left) (two s (start .at + 4)) (view outer t₀ rows₀ (e .cur) (e .width)) (headed start (start .written + 4)) (memory out₀ errs₀ warns₀ lefts₀) w (memory out errs warns lefts)
       full few w ew T sy =
           let k = many-some more (omega (arith, many)) in
@@ -265,7 +260,7 @@ module _ (s ns ts xs : List ℕ) (e : Env) (start : Place) (outer : Locals) (t�
 
     -- the blocks of a statement
     module _ (tag : ℕ) (h : Turned rows nodes out errs warns lefts pl l t c (Blocks tag)) where
-      pub enters-blocks : (env : Enters s ns ts xs e outer t₀ rows₀ start) (p : Place) → p ≡ c .place → Enters s ns ts xs e l t rows p
+      pub enters-blocks : (env : Enters s tb e outer t₀ rows₀ start) (p : Place) → p ≡ c .place → Enters s tb e l t rows p
       enters-blocks env p is = record {
         lent = env .lent;
         within = subst (Within s) (sym is) (h .fit .1);
@@ -281,22 +276,22 @@ module _ (s ns ts xs : List ℕ) (e : Env) (start : Place) (outer : Locals) (t�
       there-blocks p is = subst (λ (q : Place). TagThere s (e .left) (q .at) tag) (sym is) (h .fit .0)
 
       module _ (p : Place) (ep : p ≡ c .place) {rows′ out′ errs′ warns′ lefts′ pl′ : List ℕ} {r : States} (least : ℕ) (come : Comes s (e .cur) (e .width) least l rows p r rows′ pl′)
-          (tag-walks : (T : Tables) → Says s ns ts xs (e .globals) (e .first) T → (faultIn pl′ ≡ 254 → ⊥)
+          (tag-walks : (T : Tables) → Says s tb T → (faultIn pl′ ≡ 254 → ⊥)
           → TagWalks T s (e .left) (12 - e .left) tag (view l t rows (e .cur) (e .width)) p (memory out errs warns lefts) (walkedIn pl′ (view l r rows′ (e .cur) (e .width))) (memory out′ errs′ warns′ lefts′)) where
-        walks-there : (T : Tables) → Says s ns ts xs (e .globals) (e .first) T → (faultIn pl′ ≡ 254 → ⊥)
+        walks-there : (T : Tables) → Says s tb T → (faultIn pl′ ≡ 254 → ⊥)
             → TagWalks T s (e .left) (12 - e .left) tag (view l t rows (e .cur) (e .width)) (c .place) (memory out errs warns lefts) (walkedIn pl′ (view l r rows′ (e .cur) (e .width))) (memory out′ errs′ warns′ lefts′)
         walks-there T sy short = subst (λ (q : Place). TagWalks T s (e .left) (12 - e .left) tag (seen l t rows) q (memory out errs warns lefts) (walkedIn pl′ (seen l r rows′)) (memory out′ errs′ warns′ lefts′)) ep (tag-walks T sy short)
 
         -- a fault of theirs is the walk's
-        pub blocks-fault : 0 < faultIn pl′ → (faultIn pl′ ≡ 254 → ⊥) → (T : Tables) → Says s ns ts xs (e .globals) (e .first) T
+        pub blocks-fault : 0 < faultIn pl′ → (faultIn pl′ ≡ 254 → ⊥) → (T : Tables) → Says s tb T
             → StmtsWalk T s (e .left) (12 - e .left) (two s (start .at + 4)) (view outer t₀ rows₀ (e .cur) (e .width)) (headed start (start .written + 4)) (memory out₀ errs₀ warns₀ lefts₀)
             (walkedIn pl′ (view l r rows′ (e .cur) (e .width))) (memory out′ errs′ warns′ lefts′)
         blocks-fault lt short T sy = h .after T sy (walkedIn pl′ (seen l r rows′)) (memory out′ errs′ warns′ lefts′) (walks-there T sy short) .0 lt
 
         -- or the loop goes on behind them
-        module _ (small : Bytes s) (left : ℕ) (el : e .left ≡ left - 1) (there : BlockThere s left (start .at)) (some-tables : Tables) (said-some : Says s ns ts xs (e .globals) (e .first) some-tables)
+        module _ (small : Bytes s) (left : ℕ) (el : e .left ≡ left - 1) (there : BlockThere s left (start .at)) (some-tables : Tables) (said-some : Says s tb some-tables)
             (z : faultIn pl′ ≡ 0) (nodes′ : List ℕ) (en : length nodes′ ≡ 26) where
-          leads : (T : Tables) → Says s ns ts xs (e .globals) (e .first) T → LeadsAll T s (e .left) (12 - e .left) all σ₀ p₀ m₀ (c .left) (seen l r rows′) (placeIn pl′) (memory out′ errs′ warns′ lefts′)
+          leads : (T : Tables) → Says s tb T → LeadsAll T s (e .left) (12 - e .left) all σ₀ p₀ m₀ (c .left) (seen l r rows′) (placeIn pl′) (memory out′ errs′ warns′ lefts′)
           leads T sy = h .after T sy (walkedIn pl′ (seen l r rows′)) (memory out′ errs′ warns′ lefts′) (walks-there T sy (λ q. omega arith)) .1 (omega arith)
 
           pub less-behind : (k : ℕ) → ahead s c < k → (q : Place) (c′ : Cursor) → c′ ≡ betweenOf (c .left) q Nobody → ahead s c′ < k

@@ -31,7 +31,7 @@ use Rattle.blocks_laws.specs.Ends.{Merges}
 use Rattle.blocks_laws.proofs.Ifs.{flag-grows, else-none, else-block, then-there, if-first, loop-first, loop-walks, else-there, if-second, if-walks}
 use Rattle.blocks_laws.proofs.Branches.{ElseThere}
 use Rattle.blocks_ends.specs.declared.Env.{Env}
-use Rattle.blocks_ends.specs.Ends.{placeIn, faultIn, sureIn, walkedIn, Loops, Flags, Below, Stands, Branches, MergesIn}
+use Rattle.blocks_ends.specs.Ends.{placeIn, faultIn, sureIn, walkedIn, Loops, Flags, Below, RowsStand, Branches, MergesIn}
 use Rattle.blocks.specs.Blocks.{Enters, Comes, blockRows, stmtRows, ElseMerges}
 use Rattle.blocks.proofs.Standing.{below-both}
 use Rattle.blocks.proofs.Ending.{fault-walks}
@@ -75,7 +75,7 @@ flag-none zero k e l ne = refl
 flag-none (suc zero) k e l ne = absurd (ne refl)
 flag-none (suc (suc n)) k e l ne = absurd (omega arith)
 
-module _ (s ns ts xs : List ℕ) (small : Bytes s) (env : Env) (tag : ℕ) (l : Locals) (t : States) (rows pl : List ℕ) (h : Enters s ns ts xs env l t rows (placeIn pl))
+module _ (s tb : List ℕ) (small : Bytes s) (env : Env) (tag : ℕ) (l : Locals) (t : States) (rows pl : List ℕ) (h : Enters s tb env l t rows (placeIn pl))
     (there : TagThere s (env .left) (placeIn pl .at) tag) (low : env .cur + 1152 ≤ 1152 * (12 - env .left)) where
   abbrev a : ℕ
   a = rowOf (env .cur) (env .width) (l .count)
@@ -87,7 +87,7 @@ module _ (s ns ts xs : List ℕ) (small : Bytes s) (env : Env) (tag : ℕ) (l : 
   σ = view l t rows (env .cur) (env .width)
 
   narrow : l .count * (env .width + 1) ≤ 576
-  narrow = few s ns ts xs env l t rows (placeIn pl) h
+  narrow = few s tb env l t rows (placeIn pl) h
 
   pub block-of : BlockThere s (env .left) (placeIn pl .at)
   block-of = ⊎-elim
@@ -113,7 +113,7 @@ module _ (s ns ts xs : List ℕ) (small : Bytes s) (env : Env) (tag : ℕ) (l : 
   module _ {ok : Bool} {rows₁ : List ℕ} (c : Copies (l .count) (env .width) (t .kinds) rows (env .cur) a ok rows₁) (yes : ok ≡ true) {one : States} {rows₂ pl₂ : List ℕ}
       (come : Comes s a (env .width) (blockRows a (env .left)) l rows₁ (placeIn pl) one rows₂ pl₂) where
     whole : Below a rows rows₂
-    whole = below-both a a rows rows₁ rows₂ (omega arith) (branch-below s ns ts xs env l t rows (placeIn pl) h a c) (come .below)
+    whole = below-both a a rows rows₁ rows₂ (omega arith) (branch-below s tb env l t rows (placeIn pl) h a c) (come .below)
 
     pub then-below : Below (env .cur) rows rows₂
     then-below = let f = narrow in below-less (env .cur) a rows rows₂ (omega arith) whole
@@ -129,7 +129,7 @@ module _ (s ns ts xs : List ℕ) (small : Bytes s) (env : Env) (tag : ℕ) (l : 
     base-view : view l t rows₂ (env .cur) (env .width) ≡ σ
     base-view = kept-view l t rows rows₂ (env .cur) (env .width) a whole (omega arith) (stands-in l t rows (env .cur) (env .width) (h .sound))
 
-    base-stands : Stands (l .count) t rows₂ (env .cur) (env .width)
+    base-stands : RowsStand (l .count) t rows₂ (env .cur) (env .width)
     base-stands = kept-stands l t rows rows₂ (env .cur) (env .width) a whole (omega arith) (stands-in l t rows (env .cur) (env .width) (h .sound))
 
     -- what the walks of the first block say, whatever tables
@@ -139,7 +139,7 @@ module _ (s ns ts xs : List ℕ) (small : Bytes s) (env : Env) (tag : ℕ) (l : 
     walks-here : (T : Tables) (m m₂ : Memory) → Walks T m m₂ → BlockWalks T s (env .left) (suc d) σ (placeIn pl) m (walkedIn pl₂ (view l one rows₂ a (env .width))) m₂
     walks-here T m m₂ w =
         subst (λ (τ : Scope Status). BlockWalks T s (env .left) (suc d) τ (placeIn pl) m (walkedIn pl₂ (view l one rows₂ a (env .width))) m₂)
-        (branch-view s ns ts xs env l t rows (placeIn pl) h a c yes) w
+        (branch-view s tb env l t rows (placeIn pl) h a c yes) w
 
     -- its fault
     pub then-fault : (T : Tables) (m m₂ : Memory) → Walks T m m₂ → 0 < faultIn pl₂ → (tag ≡ 7) ⊎ (tag ≡ 8)
@@ -171,7 +171,7 @@ module _ (s ns ts xs : List ℕ) (small : Bytes s) (env : Env) (tag : ℕ) (l : 
 
         -- with a second block
         module _ (f : Flags s out₂ pl₂ flag out₃ pl₃) (e : ElseThere s (env .left) (placeIn pl₂ .at)) (on : flag ≡ 1) where
-          pub else-enters : Enters s ns ts xs env l t rows₂ (placeIn pl₃)
+          pub else-enters : Enters s tb env l t rows₂ (placeIn pl₃)
           else-enters = record {
             lent = h .lent;
             within = within-on (come .within z) (flag-further f (e .inside));
@@ -189,7 +189,7 @@ module _ (s ns ts xs : List ℕ) (small : Bytes s) (env : Env) (tag : ℕ) (l : 
           pub else-block-there : BlockThere s (env .left) (placeIn pl₃ .at)
           else-block-there = subst (BlockThere s (env .left)) (sym (ap (λ (q : Place). q .at) (f .tells .place))) (e .with (let q = at-flag in omega arith))
 
-          pub else-first : Stands (l .count) one rows₂ (rowOf (env .cur) (env .width) (l .count)) (env .width)
+          pub else-first : RowsStand (l .count) one rows₂ (rowOf (env .cur) (env .width) (l .count)) (env .width)
           else-first = stands-in l one rows₂ a (env .width) (come .sound z)
 
           pub else-comes-to : {r : States} {rows₄ pl₄ : List ℕ} → Comes s (env .cur) (env .width) (stmtRows (env .cur) (env .left)) l rows₂ (placeIn pl₃) r rows₄ pl₄

@@ -7,8 +7,7 @@ use lib.ListN.{length}
 use Rattle.tables.specs.Tables.{Tables}
 use Rattle.rules.specs.State.{State as Status}
 use Rattle.rules.specs.Stack.{shape, Stack as Scope}
-use Rattle.rules.specs.Rules.{merge}
-use Rattle.expressions_effects.specs.Asked.{Lent, Says}
+use Rattle.tables_lookup.specs.Lent.{Lent, Says}
 use Rattle.image_writing.specs.Memory.{Memory}
 use Rattle.statements_acts.specs.declared.Place.{Place}
 use Rattle.statements_acts.specs.Act.{Within, Grows}
@@ -22,15 +21,15 @@ use Rattle.blocks_ends.specs.declared.Env.{Env}
 use Rattle.blocks_ends.specs.Ends.{placeIn, faultIn, Below}
 
 -- a walk may begin at a place with a stack, where so much depth is left for blocks
-pub record Enters (s ns ts xs : List ℕ) (env : Env) (l : Locals) (t : States) (rows : List ℕ) (p : Place) : Type 0 where
-  pub lent : Lent s ns ts xs (env .globals) (env .first)
+pub record Enters (s tb : List ℕ) (env : Env) (l : Locals) (t : States) (rows : List ℕ) (p : Place) : Type 0 where
+  pub lent : Lent s tb
   pub within : Within s p
   pub depth : env .left ≤ 12
   pub limit : env .limit ≡ 64
   pub width : env .width ≡ 8
   pub sound : Sound l t rows (env .cur) (env .width)
   pub nested : Nested (12 - env .left) (shape (view l t rows (env .cur) (env .width)))
-  pub drops : (T : Tables) → Says s ns ts xs (env .globals) (env .first) T → Drops T l
+  pub drops : (T : Tables) → Says s tb T → Drops T l
 
 -- Where a walk with these locals comes to; fault 254 says that there are fewer rows than `least`.
 pub record Comes (s : List ℕ) (cur width least : ℕ) (l : Locals) (rows : List ℕ) (p : Place) (r : States) (rows′ pl′ : List ℕ) : Type 0 where

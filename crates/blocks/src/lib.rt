@@ -1,18 +1,18 @@
 // The ownership pass over the bytes of an image: blocks and branches.
-// Throughout, ns, ts and xs are where the names, types and structs stand in the image s, rows the places of joined states, nodes the open
+// Throughout, tb has the tables of the image s, rows the places of joined states, nodes the open
 // nodes of the values that are scanned, and pl the place of a walk, its fault and whether it surely returns, all lent.
 ghost use mathlib.Core.Path.{_≡_};
 ghost use mathlib.Core.Bool.{true, false};
 ghost use Prim.Native.Nat.{suc, _+_, _-_, _*_, _≤_, _<_};
 ghost use lib.ListN.{length};
 ghost use Rattle.tables.specs.Tables.{Tables};
-ghost use Rattle.expressions_effects.specs.Asked.{Says};
+ghost use Rattle.tables_lookup.specs.Lent.{Says};
 ghost use Rattle.image_writing.specs.Memory.{memory};
 ghost use Rattle.statements_returns.specs.Returns.{BlockThere};
 ghost use Rattle.scope_stack.specs.View.{rowOf, view};
 ghost use Rattle.statements_acts.specs.Marks.{lent};
 ghost use Rattle.blocks_laws.specs.Walks.{TagThere, TagWalks, BlockWalks, blocked};
-ghost use Rattle.blocks_ends.specs.Ends.{placeIn, faultIn, sureIn, walkedIn, Stands};
+ghost use Rattle.blocks_ends.specs.Ends.{placeIn, faultIn, sureIn, walkedIn, RowsStand};
 ghost use Rattle.blocks.specs.Blocks.{Enters, Comes, blockRows, stmtRows, ElseMerges};
 use blocks_ends::Env;
 use scope_stack::Locals;
@@ -25,9 +25,7 @@ use statements_changes::Turn;
 // The second block of an IfElse, and what is left of both.
 fn transform_else(
     s: &[u8],
-    ns: &[usize],
-    ts: &[usize],
-    xs: &[usize],
+    tb: &[u32],
     env: Env,
     first: States,
     l: Locals,
@@ -40,10 +38,10 @@ fn transform_else(
     lefts: &mut [u32],
     pl: &mut [usize; 10],
 ) -> States
-    requires { ⌜ Enters (now s) (now ns) (now ts) (now xs) env l st (now rows) (placeIn (now pl)) × BlockThere (now s) (env .left) (placeIn (now pl) .at)
-        × (env .cur + 1152 ≤ 1152 * (12 - env .left)) × Stands (l .count) first (now rows) (rowOf (env .cur) (env .width) (l .count)) (env .width) × (length (now nodes) ≡ 26) × (length (now pl) ≡ 10) ⌝ }
+    requires { ⌜ Enters (now s) (now tb) env l st (now rows) (placeIn (now pl)) × BlockThere (now s) (env .left) (placeIn (now pl) .at)
+        × (env .cur + 1152 ≤ 1152 * (12 - env .left)) × RowsStand (l .count) first (now rows) (rowOf (env .cur) (env .width) (l .count)) (env .width) × (length (now nodes) ≡ 26) × (length (now pl) ≡ 10) ⌝ }
     ensures { λ r. ⌜ Comes (now (s .entry)) (env .cur) (env .width) (stmtRows (env .cur) (env .left)) l (now (rows .entry)) (placeIn (now (pl .entry))) r (now (rows .exit)) (now (pl .exit)) × (length (now (nodes .exit)) ≡ 26) ⌝ }
-    ensures { λ r. ⌜ ((T : Tables) → Says (now (s .entry)) (now (ns .entry)) (now (ts .entry)) (now (xs .entry)) (env .globals) (env .first) T → (faultIn (now (pl .exit)) ≡ 254 → ⊥)
+    ensures { λ r. ⌜ ((T : Tables) → Says (now (s .entry)) (now (tb .entry)) T → (faultIn (now (pl .exit)) ≡ 254 → ⊥)
         → ElseMerges T (now (s .entry)) (env .left) (12 - env .left) (sureIn (now (pl .entry))) (view l st (now (rows .entry)) (env .cur) (env .width)) (view l first (now (rows .entry)) (rowOf (env .cur) (env .width) (l .count)) (env .width))
         (placeIn (now (pl .entry))) (memory (now (out .entry)) (now (errs .entry)) (now (warns .entry)) (now (lefts .entry))) (walkedIn (now (pl .exit)) (view l r (now (rows .exit)) (env .cur) (env .width))) (memory (now (out .exit)) (now (errs .exit)) (now (warns .exit)) (now (lefts .exit)))) ⌝ }
 {
@@ -54,22 +52,7 @@ fn transform_else(
         pl[8] = 254;
         return st;
     }
-    let other = transform_block(
-        s,
-        ns,
-        ts,
-        xs,
-        b,
-        l,
-        st,
-        rows,
-        nodes,
-        out,
-        errs,
-        warns,
-        lefts,
-        pl,
-    );
+    let other = transform_block(s, tb, b, l, st, rows, nodes, out, errs, warns, lefts, pl);
     if 0 < pl[8] {
         return other;
     }
@@ -91,9 +74,7 @@ fn transform_else(
 // The blocks of a statement of a tag.
 fn transform_blocks(
     s: &[u8],
-    ns: &[usize],
-    ts: &[usize],
-    xs: &[usize],
+    tb: &[u32],
     env: Env,
     tag: u8,
     l: Locals,
@@ -106,30 +87,15 @@ fn transform_blocks(
     lefts: &mut [u32],
     pl: &mut [usize; 10],
 ) -> States
-    requires { ⌜ Enters (now s) (now ns) (now ts) (now xs) env l st (now rows) (placeIn (now pl)) × TagThere (now s) (env .left) (placeIn (now pl) .at) tag × (blocked tag ≡ true)
+    requires { ⌜ Enters (now s) (now tb) env l st (now rows) (placeIn (now pl)) × TagThere (now s) (env .left) (placeIn (now pl) .at) tag × (blocked tag ≡ true)
         × (env .cur + 1152 ≤ 1152 * (12 - env .left)) × (length (now nodes) ≡ 26) × (length (now pl) ≡ 10) ⌝ }
     ensures { λ r. ⌜ Comes (now (s .entry)) (env .cur) (env .width) (stmtRows (env .cur) (env .left)) l (now (rows .entry)) (placeIn (now (pl .entry))) r (now (rows .exit)) (now (pl .exit)) × (length (now (nodes .exit)) ≡ 26) ⌝ }
-    ensures { λ r. ⌜ ((T : Tables) → Says (now (s .entry)) (now (ns .entry)) (now (ts .entry)) (now (xs .entry)) (env .globals) (env .first) T → (faultIn (now (pl .exit)) ≡ 254 → ⊥)
+    ensures { λ r. ⌜ ((T : Tables) → Says (now (s .entry)) (now (tb .entry)) T → (faultIn (now (pl .exit)) ≡ 254 → ⊥)
         → TagWalks T (now (s .entry)) (env .left) (12 - env .left) tag (view l st (now (rows .entry)) (env .cur) (env .width))
         (placeIn (now (pl .entry))) (memory (now (out .entry)) (now (errs .entry)) (now (warns .entry)) (now (lefts .entry))) (walkedIn (now (pl .exit)) (view l r (now (rows .exit)) (env .cur) (env .width))) (memory (now (out .exit)) (now (errs .exit)) (now (warns .exit)) (now (lefts .exit)))) ⌝ }
 {
     if tag == 1 {
-        return transform_block(
-            s,
-            ns,
-            ts,
-            xs,
-            env,
-            l,
-            st,
-            rows,
-            nodes,
-            out,
-            errs,
-            warns,
-            lefts,
-            pl,
-        );
+        return transform_block(s, tb, env, l, st, rows, nodes, out, errs, warns, lefts, pl);
     }
     let n = l.count;
     let a = blocks_ends::behind(env, n);
@@ -137,31 +103,14 @@ fn transform_blocks(
         pl[8] = 254;
         return st;
     }
-    let first = transform_block(
-        s,
-        ns,
-        ts,
-        xs,
-        a,
-        l,
-        st,
-        rows,
-        nodes,
-        out,
-        errs,
-        warns,
-        lefts,
-        pl,
-    );
+    let first = transform_block(s, tb, a, l, st, rows, nodes, out, errs, warns, lefts, pl);
     if 0 < pl[8] {
         return first;
     }
     if blocks_ends::then_over(s, tag, out, pl) == 1 {
         return transform_else(
             s,
-            ns,
-            ts,
-            xs,
+            tb,
             env,
             first,
             l,
@@ -182,9 +131,7 @@ fn transform_blocks(
 // A block, with so much depth left: the one loop that owns the stack.
 pub fn transform_block(
     s: &[u8],
-    ns: &[usize],
-    ts: &[usize],
-    xs: &[usize],
+    tb: &[u32],
     env: Env,
     outer: Locals,
     states: States,
@@ -196,10 +143,10 @@ pub fn transform_block(
     lefts: &mut [u32],
     pl: &mut [usize; 10],
 ) -> States
-    requires { ⌜ Enters (now s) (now ns) (now ts) (now xs) env outer states (now rows) (placeIn (now pl)) × BlockThere (now s) (env .left) (placeIn (now pl) .at)
+    requires { ⌜ Enters (now s) (now tb) env outer states (now rows) (placeIn (now pl)) × BlockThere (now s) (env .left) (placeIn (now pl) .at)
         × (env .cur ≤ 1152 * (12 - env .left)) × (length (now nodes) ≡ 26) × (length (now pl) ≡ 10) ⌝ }
     ensures { λ r. ⌜ Comes (now (s .entry)) (env .cur) (env .width) (blockRows (env .cur) (env .left)) outer (now (rows .entry)) (placeIn (now (pl .entry))) r (now (rows .exit)) (now (pl .exit)) × (length (now (nodes .exit)) ≡ 26) ⌝ }
-    ensures { λ r. ⌜ ((T : Tables) → Says (now (s .entry)) (now (ns .entry)) (now (ts .entry)) (now (xs .entry)) (env .globals) (env .first) T → (faultIn (now (pl .exit)) ≡ 254 → ⊥)
+    ensures { λ r. ⌜ ((T : Tables) → Says (now (s .entry)) (now (tb .entry)) T → (faultIn (now (pl .exit)) ≡ 254 → ⊥)
         → BlockWalks T (now (s .entry)) (env .left) (suc (12 - env .left)) (view outer states (now (rows .entry)) (env .cur) (env .width))
         (placeIn (now (pl .entry))) (memory (now (out .entry)) (now (errs .entry)) (now (warns .entry)) (now (lefts .entry))) (walkedIn (now (pl .exit)) (view outer r (now (rows .exit)) (env .cur) (env .width))) (memory (now (out .exit)) (now (errs .exit)) (now (warns .exit)) (now (lefts .exit)))) ⌝ }
 {
@@ -214,9 +161,7 @@ pub fn transform_block(
         let here = blocks_ends::scanning(e, l.count, mark);
         let r = statements_changes::next_change(
             s,
-            ns,
-            ts,
-            xs,
+            tb,
             here,
             &l.names,
             &l.types,
@@ -266,7 +211,7 @@ pub fn transform_block(
                     name,
                     ty,
                     depth,
-                    tables_lookup::should_auto_delete(s, ts, xs, ty as usize),
+                    tables_lookup::auto_deleted(tb, ty as usize),
                 );
                 if scope_stack::needs_revival(&l.names, &l.depths, st.words, name, depth) {
                     st = st.mark(&l.names, &l.depths, l.count, name, 0, 0, false);
@@ -276,9 +221,7 @@ pub fn transform_block(
                 blocks_ends::put_place(pl, p, false);
                 st = transform_blocks(
                     s,
-                    ns,
-                    ts,
-                    xs,
+                    tb,
                     e,
                     tag,
                     l,

@@ -1,13 +1,12 @@
 -- The merge of two branches: rows copied back, joined, and fault 13.
 -- Assumes nothing.
-use Prim.Native.Nat.{ℕ, _+_, _*_, _≤_, _<_}
+use Prim.Native.Nat.{ℕ, _≤_, _<_}
 use native.Mathlib.Omega.{arith}
 use mathlib.Core.Path.{_≡_, refl, sym, ap, _∙_, subst}
 use mathlib.Core.Bool.{Bool, true, false}
 use mathlib.Core.List.{List, []}
-use mathlib.Core.Logic.{_≢_, _⊎_, inl, inr, ⊎-elim}
-use lib.ListN.{length, getD, set, length-set}
-use lib.Seq.{getD-set-other, getD-set-same}
+use mathlib.Core.Logic.{_⊎_, inl, inr, ⊎-elim}
+use lib.ListN.{length, getD, set}
 use Rattle.image_fields.proofs.Tests.{false-true}
 use Rattle.tables.specs.Limits.{version1}
 use Rattle.scope_stack.specs.declared.Locals.{Locals}
@@ -15,11 +14,8 @@ use Rattle.scope_stack.specs.declared.States.{States}
 use Rattle.scope_stack.specs.View.{rowOf, saidAt, view, Known, Rowed}
 use Rattle.scope_stack.specs.Rows.{Copied, Copies, JoinsAll, Branches as Apart}
 use Rattle.scope_stack.proofs.Scopes.{view-copied, rowed-copied}
-use Rattle.blocks_ends.specs.Ends.{placeIn, faultIn, Below, Branches, MergesIn}
-
--- rows of eight places
-pub rows-are : (at width n : ℕ) → width ≡ 8 → rowOf at width n ≡ at + n * 9
-rows-are at width n e = rw e
+use Rattle.blocks_ends.specs.Ends.{placeIn, faultIn, sureIn, Tells, Below, Branches, MergesIn}
+use Rattle.blocks_ends.proofs.Numbers.{fault-told, rows-few}
 
 -- a copy back, where the rows do not stand there already
 module _ (n : ℕ) (kinds rows : List ℕ) (src cur width : ℕ)
@@ -27,7 +23,7 @@ module _ (n : ℕ) (kinds rows : List ℕ) (src cur width : ℕ)
   pub to-copy : (src ≡ cur → ⊥) → Copied n width kinds rows src cur
   to-copy ne =
       let le : rowOf cur width n ≤ src = h .3 ne in
-      let e : rowOf src width n ≡ src + n * 9 = rows-are src width n (h .1) in
+      let e = rows-few n width (h .0) (h .1) in
       record { small = h .0; wide = omega (arith, h .1); known = h .2; apart = inr le; fits = (omega (arith, h .0, h .4), omega (arith, h .4)) }
 
   pub copied-same : src ≡ cur → Copies n width kinds rows src cur true rows
@@ -55,12 +51,6 @@ module _ (n : ℕ) (t : States) (rows new : List ℕ) (src cur width : ℕ) (h :
       view-copied l t rows new src cur width (subst (λ (k : ℕ). Rowed k t rows src width) (sym e) h)
       (subst (λ (k : ℕ). Copies k width (t .kinds) rows src cur true new) (sym e) c)
 
--- a fault that is put beside a place
-placed : (pl : List ℕ) (k : ℕ) → placeIn (set pl 8 k) ≡ placeIn pl
-placed pl k =
-    let other : (i : ℕ) → i < 8 → getD (set pl 8 k) i 0 ≡ getD pl i 0 = λ i l. let ne : i ≢ 8 = λ z. omega arith in getD-set-other pl 8 i k 0 ne in
-    rw (other 0 (omega arith), other 1 (omega arith), other 2 (omega arith), other 3 (omega arith), other 4 (omega arith), other 5 (omega arith), other 6 (omega arith), other 7 (omega arith))
-
 -- the fault of a join, by what it told
 abbrev FaultOf : ℕ → ℕ → Type 0
 FaultOf told k = (told ≡ 255 → k ≡ 13) × ((told ≡ 255 → ⊥) → k ≡ told)
@@ -81,7 +71,7 @@ module _ (n : ℕ) (base first other : States) (rows : List ℕ) (cur width b : 
   pub copies-first : (t : States) (new : List ℕ) (a : ℕ) → a ≡ rowOf cur width n → Rowed n t new a width
       → (n ≤ 64) × (width ≡ 8) × ((i : ℕ) → i < n → Known new width (rowOf a width i) (getD (t .kinds) i 0)) × ((a ≡ cur → ⊥) → rowOf cur width n ≤ a) × (a < 4294968000)
   copies-first t new a e r =
-      let x : rowOf cur width n ≡ cur + n * 9 = rows-are cur width n (h .0 .wide) in
+      let x = rows-few n width (h .0 .small) (h .0 .wide) in
       (h .0 .small, h .0 .wide, λ i li. r .known i, λ ne. omega arith, omega (arith, h .0 .low .0, h .0 .small))
 
   pub first-rowed : (a : ℕ) → a ≡ rowOf cur width n → Rowed n first rows a width
@@ -89,9 +79,7 @@ module _ (n : ℕ) (base first other : States) (rows : List ℕ) (cur width b : 
 
   pub apart : (a : ℕ) → a ≡ rowOf cur width n → Apart n width first other rows a b
   apart a e =
-      let x : rowOf cur width n ≡ cur + n * 9 = rows-are cur width n (h .0 .wide) in
-      let y : rowOf a width n ≡ a + n * 9 = rows-are a width n (h .0 .wide) in
-      let z : rowOf b width n ≡ b + n * 9 = rows-are b width n (h .0 .wide) in
+      let x = rows-few n width (h .0 .small) (h .0 .wide) in
       record {
         held = h .0 .first .held;
         other = h .0 .other .held;
@@ -155,11 +143,9 @@ module _ (n : ℕ) (base first other : States) (rows : List ℕ) (cur width b : 
     abbrev j : JoinsAll n width first other rows (rowOf cur width n) b r mid told
     j = subst (λ (i : ℕ). JoinsAll n width first other rows i b r mid told) ea ja
 
-    here : faultIn (set pl 8 k) ≡ k
-    here = getD-set-same pl 8 k 0 (omega (arith, h .2))
-
-    ten : length (set pl 8 k) ≡ 10
-    ten = length-set pl 8 k ∙ h .2
+    -- the fault is put beside the place
+    put : Tells (set pl 8 k) k (sureIn pl) (placeIn pl)
+    put = fault-told pl (h .2) k
 
     pub merges-joined : (x y : Bool) → x ≡ false → y ≡ false → told ≡ 0 → (new : List ℕ) → Copies n width (r .kinds) mid a cur true new
         → MergesIn x y n base first other rows cur width b pl r new (set pl 8 k)
@@ -168,12 +154,12 @@ module _ (n : ℕ) (base first other : States) (rows : List ℕ) (cur width b : 
         let none : k ≡ 0 = is .1 (λ z. omega arith) ∙ t in
         let w = j .rowed t in
         rw (e, f) (record {
-          room = ten;
+          room = put .room;
           below = record { room = c .rest .room ∙ j .rest .room; same = λ i li. c .rest .same i (inl li) ∙ j .rest .same i (inl (omega arith)) };
-          place = placed pl k;
-          short = λ z. absurd (omega (arith, here));
+          place = put .place;
+          short = λ z. absurd (omega (arith, put .fault));
           stands = λ z. record { held = j .held t; rowed = copied-rowed n r mid new (rowOf cur width n) cur width w c };
-          fault = λ z l g. here ∙ none ∙ rw (j .calm t version1 (sym (h .0 .wide)) l g);
+          fault = λ z l g. put .fault ∙ none ∙ rw (j .calm t version1 (sym (h .0 .wide)) l g);
           locals = λ z l g. copied-view n r mid new (rowOf cur width n) cur width w c l g ∙ j .is t l g;
         })
 
@@ -187,24 +173,24 @@ module _ (n : ℕ) (base first other : States) (rows : List ℕ) (cur width b : 
         crowds t =
             let thirteen : k ≡ 13 = is .0 t in
             rw (e, f) (record {
-              room = ten;
+              room = put .room;
               below = below;
-              place = placed pl k;
-              short = λ z. absurd (omega (arith, here));
-              stands = λ z. absurd (omega (arith, here));
-              fault = λ z l g. here ∙ thirteen ∙ rw (j .crowd t version1 (sym (h .0 .wide)) l g);
-              locals = λ z l g. absurd (omega (arith, here));
+              place = put .place;
+              short = λ z. absurd (omega (arith, put .fault));
+              stands = λ z. absurd (omega (arith, put .fault));
+              fault = λ z l g. put .fault ∙ thirteen ∙ rw (j .crowd t version1 (sym (h .0 .wide)) l g);
+              locals = λ z l g. absurd (omega (arith, put .fault));
             })
 
         ends : told ≡ 254 → MergesIn x y n base first other rows cur width b pl r mid (set pl 8 k)
         ends t =
             let same : k ≡ 254 = is .1 (λ z. omega arith) ∙ t in
             rw (e, f) (record {
-              room = ten;
+              room = put .room;
               below = below;
-              place = placed pl k;
+              place = put .place;
               short = λ z. j .short t;
-              stands = λ z. absurd (omega (arith, here));
-              fault = λ z l g. absurd (z (here ∙ same));
-              locals = λ z l g. absurd (omega (arith, here));
+              stands = λ z. absurd (omega (arith, put .fault));
+              fault = λ z l g. absurd (z (put .fault ∙ same));
+              locals = λ z l g. absurd (omega (arith, put .fault));
             })

@@ -50,10 +50,10 @@ pub record Tells (pl : List ℕ) (k : ℕ) (b : Bool) (p : Place) : Type 0 where
 
 -- the numbers of the walk of a block's statements; of a branch, whose rows stand behind those of n locals
 abbrev pub innerOf : Env → Env
-innerOf env = record { globals = env .globals; first = env .first; left = env .left - 1; limit = env .limit; width = env .width; cur = env .cur }
+innerOf env = record { left = env .left - 1; limit = env .limit; width = env .width; cur = env .cur }
 
 abbrev pub behindOf : Env → ℕ → Env
-behindOf env n = record { globals = env .globals; first = env .first; left = env .left; limit = env .limit; width = env .width; cur = rowOf (env .cur) (env .width) n }
+behindOf env n = record { left = env .left; limit = env .limit; width = env .width; cur = rowOf (env .cur) (env .width) n }
 
 -- the head of the block at a place: its span, and room for its count
 pub record Heads (s : List ℕ) (p : Place) (out : List ℕ) (c : Cursor) (out′ : List ℕ) : Type 0 where
@@ -77,7 +77,7 @@ pub record Below (cur : ℕ) (rows new : List ℕ) : Type 0 where
   pub same : (k : ℕ) → k < cur → getD new k 0 ≡ getD rows k 0
 
 -- the states of n locals, with their rows
-pub record Stands (n : ℕ) (t : States) (rows : List ℕ) (cur width : ℕ) : Type 0 where
+pub record RowsStand (n : ℕ) (t : States) (rows : List ℕ) (cur width : ℕ) : Type 0 where
   pub held : Held t
   pub rowed : Rowed n t rows cur width
 
@@ -85,9 +85,9 @@ pub record Stands (n : ℕ) (t : States) (rows : List ℕ) (cur width : ℕ) : T
 pub record Branches (n : ℕ) (t u v : States) (rows : List ℕ) (cur width b : ℕ) : Type 0 where
   pub small : n ≤ 64
   pub wide : width ≡ 8
-  pub base : Stands n t rows cur width
-  pub first : Stands n u rows (rowOf cur width n) width
-  pub other : Stands n v rows b width
+  pub base : RowsStand n t rows cur width
+  pub first : RowsStand n u rows (rowOf cur width n) width
+  pub other : RowsStand n v rows b width
   pub apart : (b ≡ cur) ⊎ (rowOf (rowOf cur width n) width n ≤ b)
   pub low : (cur < 4294967296) × (b < 4294967296)
 
@@ -97,7 +97,7 @@ pub record MergesIn (x y : Bool) (n : ℕ) (base first other : States) (rows : L
   pub below : Below cur rows rows′
   pub place : placeIn pl′ ≡ placeIn pl
   pub short : faultIn pl′ ≡ 254 → length rows < rowOf (rowOf cur width n) width n
-  pub stands : faultIn pl′ ≡ 0 → Stands n r rows′ cur width
+  pub stands : faultIn pl′ ≡ 0 → RowsStand n r rows′ cur width
   pub fault : (faultIn pl′ ≡ 254 → ⊥) → (l : Locals) → l .count ≡ n
       → faultIn pl′ ≡ numberOf (tooWide version1 (not x && not y) (joins states (view l first rows (rowOf cur width n) width) (view l other rows b width)))
   pub locals : faultIn pl′ ≡ 0 → (l : Locals) → l .count ≡ n

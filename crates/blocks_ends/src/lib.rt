@@ -22,16 +22,17 @@ ghost use Rattle.blocks_laws.specs.Places.{headed};
 ghost use Rattle.blocks_ends.specs.Ends.{placeIn, faultIn, walkedIn, Tells, innerOf, behindOf, Heads, Loops, Flags, Branches, MergesIn, EndThere, Ended};
 use scope_stack::Locals;
 use scope_stack::States;
+use scope_state::Depths;
+use scope_state::Kinds;
+use scope_state::Names;
+use scope_state::Types;
 use statements_acts::Named;
 use statements_acts::Place;
 use statements_changes::Cursor;
 use statements_changes::Turn;
 
-// Where the globals stand, how much depth is left for blocks, how many locals and places there may be, where the rows of this stack
-// begin.
+// How much depth is left for blocks, how many locals and places there may be, where the rows of this stack begin.
 pub struct Env {
-    pub globals: usize,
-    pub first: usize,
     pub left: usize,
     pub limit: usize,
     pub width: usize,
@@ -85,8 +86,6 @@ pub fn inner(env: Env) -> Env
     ensures { λ r. ⌜ r ≡ innerOf env ⌝ }
 {
     Env {
-        globals: env.globals,
-        first: env.first,
         left: env.left - 1,
         limit: env.limit,
         width: env.width,
@@ -100,8 +99,6 @@ pub fn behind(env: Env, n: usize) -> Env
     ensures { λ r. ⌜ r ≡ behindOf env n ⌝ }
 {
     Env {
-        globals: env.globals,
-        first: env.first,
         left: env.left,
         limit: env.limit,
         width: env.width,
@@ -111,11 +108,9 @@ pub fn behind(env: Env, n: usize) -> Env
 
 // Those for the walk up to the next change of a stack of so many locals.
 pub fn scanning(env: Env, count: usize, mark: u64) -> expressions_scan::Env
-    ensures { λ r. ⌜ r ≡ record { globals = env .globals; first = env .first; left = env .left; locals = count; mark = mark; cur = env .cur; width = env .width } ⌝ }
+    ensures { λ r. ⌜ r ≡ record { left = env .left; locals = count; mark = mark; cur = env .cur; width = env .width } ⌝ }
 {
     expressions_scan::Env {
-        globals: env.globals,
-        first: env.first,
         left: env.left,
         locals: count,
         mark: mark,
@@ -180,7 +175,7 @@ fn join_fault(told: u8) -> usize
 }
 
 // The rows of n locals, back to where those of the stack begin.
-fn copy_back(kinds: &[u8; 64], n: usize, rows: &mut [u32], src: usize, cur: usize, width: usize)
+fn copy_back(kinds: &Kinds, n: usize, rows: &mut [u32], src: usize, cur: usize, width: usize)
     requires { ⌜ (n ≤ 64) × (width ≡ 8) × ((i : ℕ) → i < n → Known (now rows) width (rowOf src width i) (getD (now kinds) i 0))
         × ((src ≡ cur → ⊥) → rowOf cur width n ≤ src) × (src < 4294968000) ⌝ }
     ensures { λ r. ⌜ Copies n width (now (kinds .entry)) (now (rows .entry)) src cur true (now (rows .exit)) ⌝ }
@@ -242,9 +237,9 @@ fn ends_in_return(s: &[u8], left: usize, total: usize, last: usize) -> bool
 
 // The deletes at the end of a block that does not surely return.
 fn put_tail<'a>(
-    ln: &'a [u16; 64],
-    lt: &'a [u16; 64],
-    ld: &'a [u8; 64],
+    ln: &'a Names,
+    lt: &'a Types,
+    ld: &'a Depths,
     mark: u64,
     sure: bool,
     depth: u8,
@@ -296,9 +291,9 @@ pub fn end_block<'a>(
     left: usize,
     start: Place,
     p: Place,
-    ln: &'a [u16; 64],
-    lt: &'a [u16; 64],
-    ld: &'a [u8; 64],
+    ln: &'a Names,
+    lt: &'a Types,
+    ld: &'a Depths,
     mark: u64,
     out: &mut [u8],
     pl: &mut [usize; 10],

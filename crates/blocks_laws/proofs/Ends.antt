@@ -4,7 +4,7 @@ use Prim.Native.Nat.{ℕ, suc, _+_, _-_, _%_, _≤_, _<_}
 use native.Mathlib.Omega.{arith}
 use mathlib.Core.Path.{_≡_, refl, sym, ap, _∙_, subst}
 use mathlib.Core.Bool.{Bool, true, false, _&&_}
-use mathlib.Core.List.{List, []}
+use mathlib.Core.List.{List}
 use lib.ListN.{length}
 use lib.Dec.{leb}
 use Rattle.image_fields.specs.Number.{two, four}
@@ -17,18 +17,14 @@ use Rattle.statements_acts.specs.Drops.{admitted}
 use Rattle.statements_acts.specs.declared.Which.the-variants.{Frame}
 use Rattle.image_writing.specs.Stored.{Stored}
 use Rattle.statements_acts.specs.declared.Place.{Place}
+use Rattle.statements_acts.proofs.Laws.{none-put}
 use Rattle.blocks_laws.specs.Walks.{Walked}
 use Rattle.blocks_laws.specs.Ends.{tail, LastReturns, Ends}
-use Rattle.image_writing.proofs.Stores.{none-stored}
 use Rattle.statements_steps.specs.Drops.{deleteBytes}
 
 -- so many deletes are stored
 abbrev Puts : List ℕ → ℕ → List Drop → List ℕ → ℕ → ℕ → Type 0
 Puts old at x new next count = Stored old at (deleteBytes x) new next × (count ≡ length x)
-
--- none are
-none-put : (old : List ℕ) (at : ℕ) (x : List Drop) → x ≡ [] → Puts old at x old at 0
-none-put old at x e = (rw e (none-stored old at), sym (ap length e))
 
 module _ (T : Tables) (sure : Bool) (d sp : ℕ) (σ : Scope Status) where
   -- a block that surely returns has no deletes at its end

@@ -19,9 +19,10 @@ use Rattle.rules.specs.Effects.{group, resolveAll}
 use Rattle.rules.specs.Report.{Report, errors, warnings, lefts}
 use Rattle.rules.specs.Verdict.{entriesOf}
 use Rattle.image_writing.specs.Stored.{Stored}
-use Rattle.expressions_scan.specs.Changes.{toldAll}
-use Rattle.statements_steps.specs.Statement.{valuesOf, frontSize, frontDrops, frontReports, settle}
-use Rattle.statements_steps.specs.Own.{both, blocksSize, blocksOwn, valued, frontOwn, ownFault, blockless}
+use Rattle.expressions_scan.proofs.Values.{toldAll}
+use Rattle.statements_steps.specs.Statement.{frontSize, frontDrops, frontReports, settle}
+use Rattle.statements_steps.proofs.Whole.{valuesOf, blocksSize, valued, frontOwn, ownFault, blockless}
+use Rattle.statements_steps.specs.Own.{both, blocksOwn}
 use Rattle.statements_steps.proofs.Lists.{Errors, errors-append, warnings-append, lefts-append, all-errors, front-errors}
 use Rattle.statements_steps.proofs.Before.{stmt-end}
 use Rattle.statements_steps.proofs.Plain.{blockless-own, blockless-after, blockless-size}
@@ -29,7 +30,8 @@ use Rattle.statements_acts.specs.declared.Place.{Place}
 use Rattle.statements_acts.specs.declared.Act.{Act}
 use Rattle.statements_acts.specs.Act.{Acts}
 use Rattle.image_writing.specs.Memory.{Memory}
-use Rattle.blocks_laws.specs.Walks.{Walked, Wrote, StmtDone, BlocksWalk}
+use Rattle.blocks_laws.specs.Walks.{Walked, Wrote, BlocksWalk}
+use Rattle.blocks_laws.proofs.Statements.{StmtDone}
 use Rattle.blocks_laws.proofs.Wrotes.{stored-as, wrote-both, wrote-nothing, wrote-as}
 
 and-none : (a b : Bool) → a ≡ b → a ≡ (b && true)

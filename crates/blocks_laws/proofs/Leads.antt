@@ -22,12 +22,14 @@ use Rattle.rules.specs.Report.{Report, report}
 use Rattle.rules.specs.Walk.{walkFault}
 use Rattle.rules.specs.Verdict.{countsFit}
 use Rattle.statements_steps.specs.Statement.{frontSize}
-use Rattle.statements_steps.specs.Own.{nothing, both, restOf, blocksSize, returned, own, ownFault, ownAfter, sureOf}
+use Rattle.statements_steps.specs.Own.{nothing, both, returned}
+use Rattle.statements_steps.proofs.Whole.{restOf, blocksSize, own, ownFault, ownAfter, sureOf}
 use Rattle.statements_steps.proofs.Steps.{exit-step, fault-step, sure-step, bytes-step, size-step, fits-step, report-step}
 use Rattle.statements_steps.proofs.Before.{rest-before, going-before, sure-before, stmt-end}
 use Rattle.statements_acts.specs.declared.Place.{Place}
 use Rattle.image_writing.specs.Memory.{Memory}
-use Rattle.blocks_laws.specs.Walks.{StmtDone, Leads}
+use Rattle.blocks_laws.specs.Walks.{Leads}
+use Rattle.blocks_laws.proofs.Statements.{StmtDone}
 use Rattle.blocks_laws.proofs.Wrotes.{Alike, wrote-nothing, wrote-both}
 
 alike : (p : Place) → Alike p p

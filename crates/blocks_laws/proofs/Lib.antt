@@ -1,4 +1,5 @@
 pub mod Wrotes
+pub mod Statements
 pub mod Leads
 pub mod Turns
 pub mod Values

@@ -24,7 +24,7 @@ use Rattle.statements_returns.specs.Returns.{BlockThere}
 use Rattle.statements_returns.proofs.Fronts.{front-values}
 use Rattle.statements_acts.specs.declared.Place.{Place}
 use Rattle.statements_steps.specs.Statement.{frontSize}
-use Rattle.statements_steps.specs.Own.{blockless}
+use Rattle.statements_steps.proofs.Whole.{blockless}
 use Rattle.statements_steps.proofs.Plain.{blockless-before}
 use Rattle.image_writing.specs.Memory.{Memory}
 use Rattle.blocks_laws.specs.Walks.{Walked, BlocksWalk, TagThere, IfWalks, TagWalks, blocked}

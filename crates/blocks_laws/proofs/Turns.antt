@@ -14,10 +14,12 @@ use Rattle.rules.specs.State.{State as Status}
 use Rattle.rules.specs.Stack.{Stack as Scope}
 use Rattle.rules.specs.Walk.{walkFault}
 use Rattle.statements_acts.specs.declared.Place.{Place}
-use Rattle.statements_steps.specs.Own.{numberOf, ownFault, restOf, ownAfter}
+use Rattle.statements_steps.specs.Own.{numberOf}
+use Rattle.statements_steps.proofs.Whole.{ownFault, restOf, ownAfter}
 use Rattle.statements_steps.proofs.Faults.{real-none, real-own}
 use Rattle.image_writing.specs.Memory.{Memory}
-use Rattle.blocks_laws.specs.Walks.{Walked, Leads, LeadsAll, StmtsThere, StmtWalks, StmtsWalk}
+use Rattle.blocks_laws.specs.Walks.{Walked, Leads, LeadsAll, StmtsThere, StmtsWalk}
+use Rattle.blocks_laws.proofs.Statements.{StmtWalks}
 use Rattle.blocks_laws.proofs.Leads.{next-of, leads-start, leads-next, leads-fault, leads-end}
 
 -- the first fault is that of both

@@ -25,7 +25,8 @@ use Rattle.statements_returns.specs.Front.{frontAt}
 use Rattle.statements_returns.specs.Returns.{StmtThere}
 use Rattle.statements_returns.proofs.Fronts.{front-values}
 use Rattle.statements_returns.proofs.Surely.{values-there}
-use Rattle.statements_steps.specs.Statement.{valuesOf, frontSize}
+use Rattle.statements_steps.specs.Statement.{frontSize}
+use Rattle.statements_steps.proofs.Whole.{valuesOf}
 use Rattle.statements_steps.proofs.Plain.{values-before}
 
 -- expressions that were read with depth d left are no deeper than d

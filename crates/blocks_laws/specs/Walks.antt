@@ -21,9 +21,8 @@ use Rattle.rules.specs.Verdict.{entriesOf, countsFit}
 use Rattle.image_writing.specs.Memory.{Memory}
 use Rattle.image_writing.specs.Stored.{Stored}
 use Rattle.statements_returns.specs.Returns.{BlockThere, BranchesThere}
-use Rattle.statements_steps.specs.Statement.{frontDrops}
 use Rattle.statements_acts.specs.declared.Place.{Place}
-use Rattle.statements_steps.specs.Own.{numberOf, Own, returned, blocksOwn, blocksFault, blocksAfter, blockOwn, own, ownFault, ownAfter, valued}
+use Rattle.statements_steps.specs.Own.{numberOf, Own, returned, blocksOwn, blocksFault, blocksAfter, blockOwn}
 
 -- what a walk comes to: its fault or 0, whether it surely returns, where it stands, the locals
 pub record Walked : Type 0 where
@@ -40,20 +39,6 @@ pub record Wrote (o : Own) (p : Place) (m : Memory) (q : Place) (m′ : Memory) 
   pub lefts : Stored (m .lefts) (p .lefts) (entriesOf version1 (lefts (o .reports))) (m′ .lefts) (q .lefts)
   pub long : q .written ≡ p .written + length (o .bytes)
   pub fits : q .fits ≡ (p .fits && o .fits)
-
--- a statement without a fault: what is stored, where it ends, the deletes put in, where it began, the locals
-pub record StmtDone (T : Tables) (c : Tree) (d : ℕ) (σ : Scope Status) (p : Place) (m : Memory) (q : Place) (m′ : Memory) (σ′ : Scope Status) (next : ℕ) : Type 0 where
-  pub wrote : Wrote (own T c d (p .at) σ) p m q m′
-  pub inserted : q .inserted ≡ p .inserted + length (frontDrops T c (valued T c σ))
-  pub last : q .last ≡ p .at
-  pub at : q .at ≡ next
-  pub locals : σ′ ≡ ownAfter T c d σ
-
--- a statement of a block of depth d, whose own blocks have so much depth left, before whatever follows it
-pub record StmtWalks (T : Tables) (s : List ℕ) (left d : ℕ) (σ : Scope Status) (p : Place) (m : Memory) (r : Walked) (m′ : Memory) : Type 0 where
-  pub walks : (t : Reading) → t .exprDepth ≡ 24 → (x : Stmt) (next : ℕ) → stmtIn t s left (p .at) ≡ ok x next → (c : Tree)
-      → (r .fault ≡ numberOf (ownFault T (before x c) d σ))
-      × (ownFault T (before x c) d σ ≡ none → StmtDone T (before x c) d σ p m (r .place) m′ (r .locals) next)
 
 -- a block without a fault
 pub record BlockDone (T : Tables) (b : Block) (d : ℕ) (σ : Scope Status) (p : Place) (m : Memory) (r : Walked) (m′ : Memory) (next : ℕ) : Type 0 where

@@ -9,7 +9,7 @@ use lib.ListN.{length, set, getD}
 use lib.Seq.{sets, slice, slice-cons, slice-empty}
 use native.Mathlib.Numerals.{add-one}
 use Rattle.statements_acts.specs.declared.Place.{Place}
-use Rattle.entries_verdict.specs.Images.{lackOf}
+use Rattle.entries_verdict.specs.Verdicts.{lackOf}
 
 module _ (p : Place) (bytes errs warns lefts : ℕ) where
   pub lack-errors : errs < p .errors → 14 ≡ lackOf p bytes errs warns lefts

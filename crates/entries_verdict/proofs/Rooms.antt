@@ -27,8 +27,9 @@ use Rattle.image_writing.specs.Memory.{Memory, memory}
 use Rattle.entries_verdict.specs.declared.Outcome.{Outcome}
 use Rattle.entries_verdict.specs.declared.Outcome.the-variants.{Accepted, Refused}
 use Rattle.entries_verdict.specs.Passes.{lentOf, outcomeOf, over, memoryAfter, verdictOn, Passes}
-use Rattle.entries_verdict.specs.declared.Seen.{Seen}
-use Rattle.entries_verdict.specs.Images.{ImageDone, ImageWalks, lackOf, Fits, CopiesAll, outcomeIn, Judges}
+use Rattle.entries_image.specs.declared.Seen.{Seen}
+use Rattle.entries_image.specs.Images.{ImageDone, ImageWalks}
+use Rattle.entries_verdict.specs.Verdicts.{lackOf, Fits, CopiesAll, outcomeIn, Judges}
 
 -- numbers stored where there is room for them
 pub front-stored : (old vs : List ℕ) → length vs ≤ length old → sets old 0 vs ≡ over vs old

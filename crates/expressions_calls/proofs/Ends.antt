@@ -19,7 +19,7 @@ use Rattle.image_body.specs.Node.{nodeOf, nodeAt}
 use Rattle.image_body.specs.declared.Node.{Node}
 use Rattle.image_body.specs.declared.Node.the-variants.{Ident, FieldAccess}
 use Rattle.image_body.proofs.Node.{the-type}
-use Rattle.image_body.proofs.Walking.{head-at, Looked, tag-of, others, not-kind, field, first-child}
+use Rattle.image_body.proofs.Walking.{head-at, Looked, tag-of, others, not-kind, first-child}
 use Rattle.rules.specs.Questions.{isMoveOf, consumes}
 use Rattle.rules.specs.Effects.{Raw, gives, movesNone, consume, fieldCall, moveHead, moveIdent, moveLocal, moveFirst, finish}
 use Rattle.expressions_effects.proofs.Laws.{name-at}
@@ -130,7 +130,11 @@ module _ (s : List ℕ) (at p : ℕ) (looked : Looked s at p) {v : Node} (ev : v
 
   module _ {target : ℕ} (ef : v ≡ FieldAccess target) where
     field-at : (target ≡ p + 7) × (getD s p 0 ≡ 11) × (p < length s)
-    field-at = field [] s at p looked ev ef
+    unfolding nodeOf
+    field-at =
+        let t = tag-of s p (FieldAccess target) (sym ef ∙ ev) (omega arith) in
+        let k : FieldAccess target ≡ nodeOf s p 11 = sym ef ∙ ev ∙ ap (nodeOf s p) (t .0) in
+        (cc, t .0, t .1)
 
     module _ (q : ℕ) (inner : Looked s target q) {w : Node} (ew : w ≡ nodeAt s q) where
       look-7 : Looked s (p + 7) q

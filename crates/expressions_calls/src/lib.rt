@@ -15,18 +15,19 @@ ghost use Rattle.image_body.specs.Expr.{Expr, headOf, through};
 ghost use Rattle.image_body.specs.Stands.{Stands, Placed};
 ghost use Rattle.rules.specs.Questions.{isMoveOf, consumes as consuming};
 ghost use Rattle.rules.specs.Effects.{fieldCall, moveLocal, moveIdent, moveHead, finish as finished};
-ghost use Rattle.expressions_effects.specs.Asked.{emits, Lent, Says};
+ghost use Rattle.tables_lookup.specs.Lent.{Lent, Says};
+ghost use Rattle.expressions_effects.specs.Asked.{emits};
 use expressions_effects::Effect;
 use expressions_effects::is_temp;
 use expressions_effects::name_at;
 use expressions_effects::span_at;
-use expressions_effects::wide16;
 use image_body::Node;
 use image_fields::peek;
 use image_fields::peek_two;
+use image_fields::wide16;
 
 // Whether a name is the table's `std::move`.
-fn is_move(s: &[u8], names: &[usize], n: u16) -> bool
+fn is_move(s: &[u8], names: &[u32], n: u16) -> bool
     requires { ⌜ AllWithin (now s) (now names) ⌝ }
     ensures { λ r. ⌜ ((T : Tables) → map (nameOf (now (s .entry))) (now (names .entry)) ≡ T .names → r ≡ isMoveOf T n) ⌝ }
 {
@@ -38,7 +39,7 @@ fn is_move(s: &[u8], names: &[usize], n: u16) -> bool
 }
 
 // Whether a method consumes a receiver of the type.
-fn consumes(s: &[u8], types: &[usize], structs: &[usize], ty: usize, method: usize) -> bool
+fn consumes(s: &[u8], types: &[u32], structs: &[u32], ty: usize, method: usize) -> bool
     requires { ⌜ AllWithin (now s) (now types) × AllWithin (now s) (now structs) × Lower (map (typeIn (now s)) (now types)) ⌝ }
     ensures { λ r. ⌜ ((T : Tables) → map (typeIn (now (s .entry))) (now (types .entry)) ≡ T .types
         → map (structIn (now (s .entry))) (now (structs .entry)) ≡ T .structs → r ≡ consuming T ty method) ⌝ }
@@ -50,7 +51,7 @@ fn consumes(s: &[u8], types: &[usize], structs: &[usize], ty: usize, method: usi
 }
 
 // The receiver that the call with the callee at `at` consumes.
-fn consuming_method_receiver(s: &[u8], types: &[usize], structs: &[usize], at: usize) -> Effect
+fn consuming_method_receiver(s: &[u8], types: &[u32], structs: &[u32], at: usize) -> Effect
     requires { ⌜ AllWithin (now s) (now types) × AllWithin (now s) (now structs) × Lower (map (typeIn (now s)) (now types)) ⌝ }
     ensures { λ r. ⌜ ((T : Tables) → map (typeIn (now (s .entry))) (now (types .entry)) ≡ T .types
         → map (structIn (now (s .entry))) (now (structs .entry)) ≡ T .structs
@@ -72,7 +73,7 @@ fn consuming_method_receiver(s: &[u8], types: &[usize], structs: &[usize], at: u
     Effect::Nothing
 }
 
-fn move_local(s: &[u8], names: &[usize], n: u16, p: u32) -> Effect
+fn move_local(s: &[u8], names: &[u32], n: u16, p: u32) -> Effect
     requires { ⌜ AllWithin (now s) (now names) ⌝ }
     ensures { λ r. ⌜ ((T : Tables) → map (nameOf (now (s .entry))) (now (names .entry)) ≡ T .names → emits r ≡ moveLocal T n p ∷ []) ⌝ }
 {
@@ -82,7 +83,7 @@ fn move_local(s: &[u8], names: &[usize], n: u16, p: u32) -> Effect
     Effect::Move(n, p)
 }
 
-fn move_ident(s: &[u8], names: &[usize], count: usize, first: usize, n: u16, p: u32) -> Effect
+fn move_ident(s: &[u8], names: &[u32], count: usize, first: usize, n: u16, p: u32) -> Effect
     requires { ⌜ AllWithin (now s) (now names) × (first + 6 * count ≤ length (now s)) ⌝ }
     ensures { λ r. ⌜ ((T : Tables) → map (nameOf (now (s .entry))) (now (names .entry)) ≡ T .names
         → entries (globalIn (now (s .entry))) 6 count first ≡ T .globals → emits r ≡ moveIdent T n p ∷ []) ⌝ }
@@ -94,13 +95,7 @@ fn move_ident(s: &[u8], names: &[usize], count: usize, first: usize, n: u16, p: 
 }
 
 // The move of the argument at `at`.
-fn validate_move_argument(
-    s: &[u8],
-    names: &[usize],
-    count: usize,
-    first: usize,
-    at: usize,
-) -> Effect
+fn validate_move_argument(s: &[u8], names: &[u32], count: usize, first: usize, at: usize) -> Effect
     requires { ⌜ AllWithin (now s) (now names) × (first + 6 * count ≤ length (now s)) × (at < length (now s) + 13) ⌝ }
     ensures { λ r. ⌜ ((T : Tables) → map (nameOf (now (s .entry))) (now (names .entry)) ≡ T .names
         → entries (globalIn (now (s .entry))) 6 count first ≡ T .globals
@@ -118,7 +113,7 @@ fn validate_move_argument(
 }
 
 // What the Intrinsic that starts there does after its arguments: `std::move` moves the first of them.
-fn moves(s: &[u8], names: &[usize], count: usize, first: usize, start: usize) -> Effect
+fn moves(s: &[u8], names: &[u32], count: usize, first: usize, start: usize) -> Effect
     requires { ⌜ AllWithin (now s) (now names) × (first + 6 * count ≤ length (now s)) × (start ≤ length (now s)) ⌝ }
     ensures { λ r. ⌜ ((T : Tables) → map (nameOf (now (s .entry))) (now (names .entry)) ≡ T .names
         → entries (globalIn (now (s .entry))) 6 count first ≡ T .globals
@@ -134,25 +129,19 @@ fn moves(s: &[u8], names: &[usize], count: usize, first: usize, start: usize) ->
 }
 
 // What the node that starts there does after its children.
-pub fn finish(
-    s: &[u8],
-    names: &[usize],
-    types: &[usize],
-    structs: &[usize],
-    count: usize,
-    first: usize,
-    tag: u8,
-    start: usize,
-) -> Effect
-    requires { ⌜ Lent (now s) (now names) (now types) (now structs) count first × (start ≤ length (now s)) ⌝ }
-    ensures { λ r. ⌜ ((T : Tables) → Says (now (s .entry)) (now (names .entry)) (now (types .entry)) (now (structs .entry)) count first T
+pub fn finish(s: &[u8], tb: &[u32], tag: u8, start: usize) -> Effect
+    requires { ⌜ Lent (now s) (now tb) × (start ≤ length (now s)) ⌝ }
+    ensures { λ r. ⌜ ((T : Tables) → Says (now (s .entry)) (now (tb .entry)) T
         → (e : Expr) → (0 < tag → Placed (now (s .entry)) start e) → headOf e .tag ≡ tag → emits r ≡ finished T e) ⌝ }
 {
     if tag == 6 {
-        return consuming_method_receiver(s, types, structs, start + 7);
+        let types = 520 + tb[1] as usize;
+        let structs = 776 + tb[2] as usize;
+        return consuming_method_receiver(s, &tb[520..types], &tb[776..structs], start + 7);
     }
     if tag == 14 {
-        return moves(s, names, count, first, start);
+        let names = 8 + tb[0] as usize;
+        return moves(s, &tb[8..names], tb[3] as usize, tb[4] as usize, start);
     }
     Effect::Nothing
 }

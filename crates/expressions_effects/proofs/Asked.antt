@@ -22,14 +22,9 @@ use Rattle.tables_lookup.specs.Answer.{foundOf}
 use Rattle.tables_lookup.specs.declared.Found.{Found}
 use Rattle.tables_lookup.specs.declared.Found.the-variants.{At, Nothing}
 use Rattle.tables_lookup.proofs.First.{viewed, was-found, was-missing}
-use Rattle.image.specs.Image.{Image}
-use Rattle.image.specs.Layout.{Laid}
-use Rattle.image.specs.declared.Layout.{Layout}
-use Rattle.image.proofs.Asking.{Asking}
 use Rattle.rules.specs.Questions.{isTempOf, isMoveOf, consumes}
 use Rattle.rules.specs.Questions as questions
 use Rattle.rules.specs.Effects.{movesGlobal, moveLocal, moveGlobal, moveIdent}
-use Rattle.expressions_effects.specs.Asked.{Lent, Says}
 
 past : {A : Type 0} (f : ℕ → List A) (ns : List ℕ) (n : ℕ) → length ns ≤ n → getD (map f ns) n [] ≡ []
 past f [] n le = refl
@@ -110,18 +105,3 @@ module _ (s : List ℕ) (count first : ℕ) (T : Tables) (e : entries (globalIn 
 
   pub no-global : r ≡ Nothing → moveLocal T n p ≡ moveIdent T n p
   no-global ed = sym (ap (moveGlobal T n p) (was-missing asked ed))
-
--- some tables stand there
-abbrev pub tablesOf : List ℕ → List ℕ → List ℕ → List ℕ → ℕ → ℕ → Tables
-tablesOf s ns ts xs count first = record { names = map (nameOf s) ns; types = map (typeIn s) ts; structs = map (structIn s) xs; globals = entries (globalIn s) 6 count first }
-
-pub said : (s ns ts xs : List ℕ) (count first : ℕ) → Says s ns ts xs count first (tablesOf s ns ts xs count first)
-said s ns ts xs count first = record { names = refl; types = refl; structs = refl; globals = refl }
-
--- what the reader of an image gives back is what is to be lent, and says the image's tables
-module _ (s : List ℕ) (i : Image) (l : Layout) (a : Asking s i l) (g : Laid s i l) where
-  pub lent-of : Lent s (take (l .«name_count») (l .names)) (take (l .«type_count») (l .types)) (take (l .rest .«struct_count») (l .structs)) (l .rest .«global_count») (l .rest .globals)
-  lent-of = record { names = a .namesWithin; types = a .typesWithin; structs = a .structsWithin; lower = a .lower; globals = g .rest .globalsFit }
-
-  pub says-of : Says s (take (l .«name_count») (l .names)) (take (l .«type_count») (l .types)) (take (l .rest .«struct_count») (l .structs)) (l .rest .«global_count») (l .rest .globals) (i .tables)
-  says-of = record { names = a .names; types = a .types; structs = a .structs; globals = g .rest .globals }

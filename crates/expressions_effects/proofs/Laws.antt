@@ -4,15 +4,14 @@ use mathlib.Core.Path.{_≡_, refl, sym, ap, _∙_, subst}
 use mathlib.Core.List.{List, [], _∷_, _++_, append-assoc, append-nil}
 use mathlib.Core.Bool.{Bool, true, false, cond}
 use mathlib.Core.Logic.{_⊎_, inl, inr, ⊎-elim}
-use Prim.Native.Nat.{ℕ, suc, _+_, _≤_, _<_}
+use Prim.Native.Nat.{ℕ, suc, _+_, _≤_}
 use native.Mathlib.Omega.{arith}
 use native.Mathlib.Nat.{le-refl}
-use lib.ListN.{length, getD}
+use lib.ListN.{getD}
 use lib.Dec.{eqb}
 use borrow.Author.Tests.{eqb-true}
 use Rattle.image_fields.specs.Number.{two, four, numberIn}
-use Rattle.image_fields.proofs.Tests.{split, and-true, less}
-use Rattle.image_fields.proofs.Numbers.{past-end}
+use Rattle.image_fields.proofs.Tests.{split, and-true}
 use Rattle.tables.specs.Tables.{Tables}
 use Rattle.image_body.specs.Expr.{Head, Expr, Exprs, node, none, more, argWidth, fixedCount, countWidth, lastWidth, headOf, noopUnary, through, throughFirst}
 use Rattle.image_body.specs.Stands.{Stands, StandAll, HeadStands, count}
@@ -21,10 +20,6 @@ use Rattle.image_body.proofs.Walking.{head-at}
 use Rattle.rules.specs.Questions.{isTempOf}
 use Rattle.rules.specs.Effects.{handed, takes, Raw, uses, hands, handHead, handIf, finish, raws, group}
 use Rattle.expressions_effects.specs.Asked.{leaf, leafOf}
-
--- a byte that is not 0 stands within
-pub within : (s : List ℕ) (p k : ℕ) → getD s p 0 ≡ k → 0 < k → p < length s
-within s p k e pos = ⊎-elim (λ x. x) (λ x. let z = past-end s p x in absurd (omega arith)) (less p (length s))
 
 -- the name of an Ident or an Intrinsic
 pub name-at : (s : List ℕ) (p u : ℕ) (h : Head) → HeadStands h s p u → (h .tag ≡ 1) ⊎ (h .tag ≡ 14) → h .arg ≡ two s (p + 7)

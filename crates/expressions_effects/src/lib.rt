@@ -14,6 +14,7 @@ ghost use Rattle.expressions_effects.specs.Asked.{leaf as leafAt, leafOf
 ghost use Rattle.expressions_effects.specs.Asked.{emits};
 use image_fields::peek;
 use image_fields::peek_two;
+use image_fields::wide16;
 
 // A name and a place. UseHand is a use and then the hand-over of a temporary; MoveTemp a move of a temporary. BadMove, the move of
 // what is no name, has a place; GlobalMove a place and the place of the global's definition.
@@ -26,12 +27,6 @@ pub enum Effect {
     MoveTemp(u16, u32),
     BadMove(u32),
     GlobalMove(u32, u32),
-}
-
-pub fn wide16(x: u16) -> usize
-    ensures { λ r. ⌜ r ≡ x ⌝ }
-{
-    x as usize
 }
 
 // The number in two bytes, 0 for what is past the end.
@@ -51,7 +46,7 @@ pub fn span_at(s: &[u8], at: usize) -> u32
 }
 
 // Whether a name is one of the table that begins with `__tmp`.
-pub fn is_temp(s: &[u8], names: &[usize], n: u16) -> bool
+pub fn is_temp(s: &[u8], names: &[u32], n: u16) -> bool
     requires { ⌜ AllWithin (now s) (now names) ⌝ }
     ensures { λ r. ⌜ ((T : Tables) → map (nameOf (now (s .entry))) (now (names .entry)) ≡ T .names → r ≡ isTempOf T n) ⌝ }
 {
@@ -63,7 +58,7 @@ pub fn is_temp(s: &[u8], names: &[usize], n: u16) -> bool
 }
 
 // What is handed over: its use, and the hand-over of a temporary.
-fn mark_compiler_temp_consumed(s: &[u8], names: &[usize], n: u16, p: u32) -> Effect
+fn mark_compiler_temp_consumed(s: &[u8], names: &[u32], n: u16, p: u32) -> Effect
     requires { ⌜ AllWithin (now s) (now names) ⌝ }
     ensures { λ r. ⌜ ((T : Tables) → map (nameOf (now (s .entry))) (now (names .entry)) ≡ T .names → emits r ≡ leafAt T true n p) ⌝ }
 {
@@ -74,7 +69,7 @@ fn mark_compiler_temp_consumed(s: &[u8], names: &[usize], n: u16, p: u32) -> Eff
 }
 
 // The use of a name, and its hand-over where it is handed over.
-fn validate_identifier_use(s: &[u8], names: &[usize], handed: bool, n: u16, p: u32) -> Effect
+fn identifier_effect(s: &[u8], names: &[u32], handed: bool, n: u16, p: u32) -> Effect
     requires { ⌜ AllWithin (now s) (now names) ⌝ }
     ensures { λ r. ⌜ ((T : Tables) → map (nameOf (now (s .entry))) (now (names .entry)) ≡ T .names → emits r ≡ leafAt T handed n p) ⌝ }
 {
@@ -85,17 +80,17 @@ fn validate_identifier_use(s: &[u8], names: &[usize], handed: bool, n: u16, p: u
 }
 
 // What the node at p does before its children.
-pub fn own(s: &[u8], names: &[usize], handed: bool, p: usize) -> Effect
+pub fn own(s: &[u8], names: &[u32], handed: bool, p: usize) -> Effect
     requires { ⌜ (p < length (now s)) × AllWithin (now s) (now names) ⌝ }
     ensures { λ r. ⌜ ((T : Tables) → map (nameOf (now (s .entry))) (now (names .entry)) ≡ T .names
         → emits r ≡ leafOf T handed (getD (now (s .entry)) p 0) (two (now (s .entry)) (p + 7)) (four (now (s .entry)) (p + 1))) ⌝ }
 {
     let tag = peek(s, p);
     if tag == 1 {
-        return validate_identifier_use(s, names, handed, name_at(s, p + 7), span_at(s, p + 1));
+        return identifier_effect(s, names, handed, name_at(s, p + 7), span_at(s, p + 1));
     }
     if tag == 2 {
-        return validate_identifier_use(s, names, handed, 0, span_at(s, p + 1));
+        return identifier_effect(s, names, handed, 0, span_at(s, p + 1));
     }
     Effect::Nothing
 }

@@ -8,8 +8,9 @@ use lib.ListN.{length, getD}
 use Rattle.tables.specs.Tables.{Tables}
 use Rattle.rules.specs.State.{State as Status}
 use Rattle.rules.specs.Stack.{Stack as Scope}
-use Rattle.expressions_effects.specs.Asked.{emits, Says}
-use Rattle.expressions_effects.proofs.Asked.{tablesOf, said}
+use Rattle.tables_lookup.specs.Lent.{Says}
+use Rattle.expressions_effects.specs.Asked.{emits}
+use Rattle.tables_lookup.proofs.Lent.{tablesOf, said}
 use Rattle.expressions_steps.specs.Scan.{Stage, Stacked, topOf, Ready, Waits, Goes, nodesAfter, openAfter, fuel}
 use Rattle.expressions_steps.specs.declared.Open.{Open}
 use Rattle.expressions_steps.specs.declared.Step.{Step}
@@ -28,7 +29,7 @@ use Rattle.expressions_scan.proofs.Onward.{onward-none, onward-both, on
 pub waits-at : (s ns : List ℕ) (d p : ℕ) (top : Open) → Ready s (opens ns) d p → 0 < d → top ≡ openOf (getD ns (d - 1) 0) → Waits s top p
 waits-at s ns d p top g lt e = record { os = opens ns; n = d; ready = g; some = lt; is = top-node ns d ∙ sym e }
 
-module _ (s names types structs : List ℕ) (globals first : ℕ) (locals : List ℕ) (at : ℕ → Status) (n : ℕ) (nodes : List ℕ) (count pos : ℕ) (errors : List ℕ) (told : ℕ) where
+module _ (s tb : List ℕ) (locals : List ℕ) (at : ℕ → Status) (n : ℕ) (nodes : List ℕ) (count pos : ℕ) (errors : List ℕ) (told : ℕ) where
   -- no change so far
   pub record Scan (ns : List ℕ) (d p : ℕ) (new : List ℕ) (t : ℕ) : Type 0 where
     pub ready : Ready s (opens ns) d p
@@ -36,13 +37,13 @@ module _ (s names types structs : List ℕ) (globals first : ℕ) (locals : List
     pub less : fuel s d p ≤ fuel s count pos
     pub room : length new ≡ length errors
     pub ends : (frames : List Stage) (end : ℕ) → Stacked (opens nodes) count frames s pos end → (fs : List Stage) × Stacked (opens ns) d fs s p end
-    pub onward : (T : Tables) → Says s names types structs globals first T → (σ : Scope Status) → Holds locals at n σ
+    pub onward : (T : Tables) → Says s tb T → (σ : Scope Status) → Holds locals at n σ
         → Onward T s (opens nodes) count pos σ errors told (opens ns) d p σ new t
 
   -- what it comes back with
   abbrev pub Stops : List ℕ → List ℕ → Scanned → Type 0
   Stops ns new v =
-      ((T : Tables) → Says s names types structs globals first T → (σ : Scope Status) → Holds locals at n σ
+      ((T : Tables) → Says s tb T → (σ : Scope Status) → Holds locals at n σ
       → Onward T s (opens nodes) count pos σ errors told (opens ns) (v .nodes) (v .at) (applied (v .change) σ) new (v .told)) × Going s (opens nodes) count pos told (opens ns) v
 
   pub stops-as : (ns new : List ℕ) {v w : Scanned} → v ≡ w → Stops ns new w → Stops ns new v
@@ -52,14 +53,14 @@ module _ (s names types structs : List ℕ) (globals first : ℕ) (locals : List
   scan-start g = record { ready = g; most = omega arith; less = omega arith; room = refl; ends = λ frames end st. (frames, st); onward = λ T sy σ h. onward-none (opens nodes) count pos σ errors told }
 
   module _ {ns : List ℕ} {d p : ℕ} {new : List ℕ} {t : ℕ} (w : Scan ns d p new t) (ns′ : List ℕ) (r : Step) (en : opens ns′ ≡ nodesAfter (opens ns) d r)
-      (g : (T : Tables) → Says s names types structs globals first T → Goes T s (opens ns) d p r) where
+      (g : (T : Tables) → Says s tb T → Goes T s (opens ns) d p r) where
     -- whatever tables stand there
-    abbrev pub some-goes : Goes (tablesOf s names types structs globals first) s (opens ns) d p r
-    some-goes = g (tablesOf s names types structs globals first) (said s names types structs globals first)
+    abbrev pub some-goes : Goes (tablesOf s tb) s (opens ns) d p r
+    some-goes = g (tablesOf s tb) (said s tb)
 
     step-ready : Ready s (opens ns′) (openAfter d r) (r .at)
     step-ready =
-        subst (λ os. Ready s os (openAfter d r) (r .at)) (sym en) (ready-next (tablesOf s names types structs globals first) s (opens ns) d p r (w .ready) some-goes)
+        subst (λ os. Ready s os (openAfter d r) (r .at)) (sym en) (ready-next (tablesOf s tb) s (opens ns) d p r (w .ready) some-goes)
 
     step-ends : (frames : List Stage) (end : ℕ) → Stacked (opens nodes) count frames s pos end
         → (fs : List Stage) × Stacked (opens ns′) (openAfter d r) fs s (r .at) end
@@ -69,7 +70,7 @@ module _ (s names types structs : List ℕ) (globals first : ℕ) (locals : List
         (k .after, subst (λ os. Stacked os (openAfter d r) (k .after) s (r .at) end) (sym en) (k .stacked))
 
     module _ {newer : List ℕ} {a : Answer} (q : ((σ : Scope Status) → Holds locals at n σ → Answers (emits (r .effect)) σ new t newer a) × Small t new newer a) where
-      step-onward : (T : Tables) → Says s names types structs globals first T → (σ : Scope Status) → Holds locals at n σ
+      step-onward : (T : Tables) → Says s tb T → (σ : Scope Status) → Holds locals at n σ
           → Onward T s (opens nodes) count pos σ errors told (opens ns′) (openAfter d r) (r .at) (applied (a .change) σ) newer (a .told)
       step-onward T sy σ h =
           onward-as (sym en) refl (onward-both (w .onward T sy σ h) (onward-step r a (g T sy) (q .0 σ h)))
@@ -90,7 +91,7 @@ module _ (s names types structs : List ℕ) (globals first : ℕ) (locals : List
 
       -- a change: the scan comes back
       pub scan-stop : (c : Change) → a .change ≡ c → ((b f : ℕ) → f < b → Came c (openAfter d r) b f)
-          → ((T : Tables) → Says s names types structs globals first T → (σ : Scope Status) → Holds locals at n σ
+          → ((T : Tables) → Says s tb T → (σ : Scope Status) → Holds locals at n σ
           → Onward T s (opens nodes) count pos σ errors told (opens ns′) (openAfter d r) (r .at) (applied (a .change) σ) newer (a .told))
           × Going s (opens nodes) count pos told (opens ns′) (record { at = r .at; nodes = openAfter d r; told = a .told; change = a .change })
       scan-stop c e came = (
@@ -106,6 +107,6 @@ module _ (s names types structs : List ℕ) (globals first : ℕ) (locals : List
 
   -- no node is open
   pub scan-end : {ns : List ℕ} {d p : ℕ} {new : List ℕ} {t : ℕ} → d ≤ 0 → Scan ns d p new t
-      → ((T : Tables) → Says s names types structs globals first T → (σ : Scope Status) → Holds locals at n σ → Onward T s (opens nodes) count pos σ errors told (opens ns) d p σ new t)
+      → ((T : Tables) → Says s tb T → (σ : Scope Status) → Holds locals at n σ → Onward T s (opens nodes) count pos σ errors told (opens ns) d p σ new t)
       × Going s (opens nodes) count pos told (opens ns) (record { at = p; nodes = d; told = t; change = Nothing })
   scan-end le w = (w .onward, record { ready = w .ready; ends = w .ends; most = w .most; came = omega arith; marks = tt })

@@ -1,25 +1,21 @@
 -- Raw effects one after another: the locals after them, and what they report.
 -- Assumes nothing.
 use mathlib.Core.Path.{_≡_, refl, sym, ap, _∙_}
-use mathlib.Core.Bool.{false}
 use mathlib.Core.List.{List, [], _∷_, _++_, append-assoc}
-use Rattle.tables.specs.Tables.{Tables}
-use Rattle.image_body.specs.Expr.{Exprs}
 use Rattle.rules.specs.State.{State as Status}
 use Rattle.rules.specs.Stack.{Shape, shape, Stack as Scope}
-use Rattle.rules.specs.Effects.{Effect}
+use Rattle.rules.specs.Effects.{Effect, Raw, resolveAll}
 use Rattle.rules.specs.Rules.{states, apply, applyAll}
 use Rattle.rules.specs.Report.{reportOf, reportAll}
 use Rattle.rules.proofs.Shapes.{shape-all}
-use Rattle.rules.specs.Effects.{Raw, group, resolveAll}
 use Rattle.rules.proofs.ByTag.{resolve-append}
-use Rattle.expressions_scan.specs.Changes.{after, told, afterAll, toldAll}
+use Rattle.expressions_scan.specs.Changes.{after, told}
 
-apply-append : (xs ys : List Effect) (σ : Scope Status) → applyAll states (xs ++ ys) σ ≡ applyAll states ys (applyAll states xs σ)
+pub apply-append : (xs ys : List Effect) (σ : Scope Status) → applyAll states (xs ++ ys) σ ≡ applyAll states ys (applyAll states xs σ)
 apply-append [] ys σ = refl
 apply-append (x ∷ xs) ys σ = apply-append xs ys (apply states x σ)
 
-report-append : (xs ys : List Effect) (σ : Scope Status) → reportAll (xs ++ ys) σ ≡ reportAll xs σ ++ reportAll ys (applyAll states xs σ)
+pub report-append : (xs ys : List Effect) (σ : Scope Status) → reportAll (xs ++ ys) σ ≡ reportAll xs σ ++ reportAll ys (applyAll states xs σ)
 report-append [] ys σ = refl
 report-append (x ∷ xs) ys σ =
     ap (λ l. reportOf x σ ++ l) (report-append xs ys (apply states x σ))

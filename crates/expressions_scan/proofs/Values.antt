@@ -11,17 +11,25 @@ use Rattle.image_body.specs.Expr.{Exprs}
 use Rattle.rules.specs.State.{State as Status}
 use Rattle.rules.specs.Stack.{Stack as Scope}
 use Rattle.rules.specs.Verdict.{entriesOf}
-use Rattle.rules.specs.Effects.{Raw}
-use Rattle.expressions_steps.specs.Scan.{pending, rootOf, topOf}
+use Rattle.rules.specs.Report.{Report}
+use Rattle.rules.specs.Effects.{Raw, group}
+use Rattle.expressions_steps.specs.Scan.{rootOf, topOf}
 use Rattle.expressions_steps.specs.declared.Open.{Open}
 use Rattle.expressions_steps.proofs.Start.{root, starts, start-tells, finished}
 use Rattle.image_writing.specs.Stored.{Stored}
-use Rattle.expressions_scan.specs.Changes.{after, told, afterAll, toldAll, Standing}
+use Rattle.expressions_scan.specs.Changes.{after, told, Standing}
 use Rattle.expressions_scan.specs.Resumed.{Onward}
 use Rattle.expressions_scan.proofs.Entries.{stored-eq}
 use Rattle.expressions_scan.proofs.Runs.{after-none, told-none}
 
--- validate_expr of each value in turn: the locals after them, their errors stored, and where they end
+-- validate_expr of each expression in turn: the locals after, and the errors
+abbrev pub afterAll : Tables → Exprs → Scope Status → Scope Status
+afterAll T es σ = after (group T false es) σ
+
+abbrev pub toldAll : Tables → Exprs → Scope Status → List Report
+toldAll T es σ = told (group T false es) σ
+
+-- the values: the locals after them, their errors stored, and where they end
 pub record Valued (T : Tables) (s : List ℕ) (k at : ℕ) (σ : Scope Status) (old : List ℕ) (m p : ℕ) (τ : Scope Status) (new : List ℕ) (m′ : ℕ) (es : Exprs) (next : ℕ) : Type 0 where
   pub locals : τ ≡ afterAll T es σ
   pub errors : Stored old m (entriesOf version1 (toldAll T es σ)) new m′

@@ -1,16 +1,13 @@
 -- What raw effects do to the locals of a stack, what they report of them, and the change that the code hands out instead.
 use Prim.Native.Nat.{ℕ, _+_, _≤_, _<_}
 use mathlib.Core.Path.{_≡_}
-use mathlib.Core.Bool.{Bool, false}
 use mathlib.Core.List.{List, [], _∷_}
 use Rattle.tables.specs.Limits.{version1}
-use Rattle.tables.specs.Tables.{Tables}
 use Rattle.image_body.specs.Expr.{Exprs}
 use Rattle.image_body.specs.Stands.{StandAll, count}
 use Rattle.image_body.specs.Depth.{depthAll}
 use Rattle.rules.specs.State.{State as Status}
 use Rattle.rules.specs.Stack.{shape, mark, Stack as Scope}
-use Rattle.rules.specs.Effects.{group}
 use Rattle.rules.specs.Rules.{states, applyAll}
 use Rattle.rules.specs.Report.{Report, reportAll}
 use Rattle.rules.specs.Verdict.{entriesOf}
@@ -47,13 +44,6 @@ Marks (Mark n k p o) = (0 < k) × (k < 7)
 pub record Small (n : ℕ) (old new : List ℕ) (r : Answer) : Type 0 where
   pub most : r .told ≤ n + 12
   pub marks : Marks (r .change)
-
--- validate_expr of each expression in turn: the locals after, and the errors
-abbrev pub afterAll : Tables → Exprs → Scope Status → Scope Status
-afterAll T es σ = after (group T false es) σ
-
-abbrev pub toldAll : Tables → Exprs → Scope Status → List Report
-toldAll T es σ = told (group T false es) σ
 
 -- so many expressions stand from a position up to another, none deeper than 24
 pub record Standing (s : List ℕ) (k at : ℕ) (es : Exprs) (next : ℕ) : Type 0 where

@@ -13,7 +13,8 @@ ghost use Rattle.rules.specs.Stack.{lookup, Stack as Scope};
 ghost use Rattle.rules.specs.Report.{error, badUse, useOf};
 ghost use Rattle.rules.specs.Verdict.{entryOf, entriesOf};
 ghost use Rattle.rules.specs.Effects.{uses, hands, gives, moves};
-ghost use Rattle.expressions_effects.specs.Asked.{emits, Lent, Says};
+ghost use Rattle.tables_lookup.specs.Lent.{Lent, Says};
+ghost use Rattle.expressions_effects.specs.Asked.{emits};
 ghost use Rattle.expressions_steps.specs.Scan.{rootOf, topOf, Ready, Goes, nodesAfter, fuel};
 ghost use Rattle.scope_state.specs.Kinds.{baseOf};
 ghost use Rattle.image_writing.specs.Stored.{Stored};
@@ -24,6 +25,10 @@ ghost use Rattle.expressions_scan.specs.Resumed.{openOf, opens, Onward, 
 use expressions_effects::Effect;
 use expressions_steps::Open;
 use expressions_steps::Step;
+use image_fields::wide32;
+use scope_state::Firsts;
+use scope_state::Kinds;
+use scope_state::Names;
 use tables_lookup::Found;
 
 // What the stack must do: nothing, or mark a name: its kind (1 to 6), its place, and whether only what is Alive is marked.
@@ -32,11 +37,9 @@ pub enum Change {
     Mark(u16, u8, u32, bool),
 }
 
-// The numbers of a walk: how many globals there are and where the first stands; the depth that is left for blocks; how many locals there
-// are, and their mark; where their rows start, and the places that a row has room for.
+// The numbers of a walk: the depth that is left for blocks; how many locals there are, and their mark; where their rows start, and the
+// places that a row has room for.
 pub struct Env {
-    pub globals: usize,
-    pub first: usize,
     pub left: usize,
     pub locals: usize,
     pub mark: u64,
@@ -59,7 +62,7 @@ pub struct Scanned {
 }
 
 // The number of the newest local of a name.
-pub fn find_local(names: &[u16; 64], count: usize, name: u16) -> Found
+pub fn find_local(names: &Names, count: usize, name: u16) -> Found
     requires { ⌜ count ≤ 64 ⌝ }
     ensures { λ r. ⌜ Finds (now (names .entry)) count name r ⌝ }
 {
@@ -133,12 +136,6 @@ fn put_places(list: &mut [u32], at: usize, rows: &[u32], row: usize, count: usiz
     next
 }
 
-fn wide32(x: u32) -> usize
-    ensures { λ r. ⌜ r ≡ x ⌝ }
-{
-    x as usize
-}
-
 // An error with the places of a row.
 fn put_row(list: &mut [u32], n: usize, kind: u8, place: u32, rows: &[u32], row: usize) -> usize
     requires { ⌜ (n < 4294967100) × (row + getD (now rows) row 0 < length (now rows)) × (getD (now rows) row 0 ≤ 8) ⌝ }
@@ -200,8 +197,8 @@ fn row_of(cur: usize, width: usize, i: usize) -> usize
 
 // The error of a use of the local of a number.
 fn put_use_of<'a>(
-    kinds: &'a [u8; 64],
-    firsts: &'a [u32; 64],
+    kinds: &'a Kinds,
+    firsts: &'a Firsts,
     n: usize,
     rows: &[u32],
     cur: usize,
@@ -226,11 +223,11 @@ fn put_use_of<'a>(
     )
 }
 
-// validate_identifier_use.
-fn use_local<'a>(
-    ln: &'a [u16; 64],
-    lk: &'a [u8; 64],
-    lf: &'a [u32; 64],
+// The use of a name: what is wrong with it is stored, and the stack stays as it is.
+fn validate_identifier_use<'a>(
+    ln: &'a Names,
+    lk: &'a Kinds,
+    lf: &'a Firsts,
     n: usize,
     rows: &[u32],
     cur: usize,
@@ -261,9 +258,9 @@ fn use_local<'a>(
 
 // A use, and then the hand-over of a temporary.
 fn use_and_hand_over<'a>(
-    ln: &'a [u16; 64],
-    lk: &'a [u8; 64],
-    lf: &'a [u32; 64],
+    ln: &'a Names,
+    lk: &'a Kinds,
+    lf: &'a Firsts,
     n: usize,
     rows: &[u32],
     cur: usize,
@@ -293,7 +290,7 @@ fn use_and_hand_over<'a>(
 }
 
 // The consumption of a receiver that is a local.
-fn consume(names: &[u16; 64], n: usize, name: u16, place: u32, told: usize) -> Answer
+fn consume(names: &Names, n: usize, name: u16, place: u32, told: usize) -> Answer
     requires { ⌜ n ≤ 64 ⌝ }
     ensures { λ r. ⌜ ((at : ℕ → Status) (σ : Scope Status) (old : List ℕ) → Holds (now (names .entry)) at n σ → Answers (gives name place ∷ []) σ old told old r) × ((old : List ℕ) → Small told old old r) ⌝ }
 {
@@ -323,7 +320,7 @@ fn put_bad_move(list: &mut [u32], n: usize, place: u32, hint: u8) -> Answer
 
 // validate_move_argument, of a name that is no global: a temporary is not moved.
 fn validate_move(
-    names: &[u16; 64],
+    names: &Names,
     n: usize,
     name: u16,
     place: u32,
@@ -352,9 +349,9 @@ fn validate_move(
 // One effect: its error is stored, and what the stack must do is the answer.
 pub fn effect_on<'a>(
     effect: Effect,
-    ln: &'a [u16; 64],
-    lk: &'a [u8; 64],
-    lf: &'a [u32; 64],
+    ln: &'a Names,
+    lk: &'a Kinds,
+    lf: &'a Firsts,
     n: usize,
     rows: &[u32],
     cur: usize,
@@ -371,8 +368,8 @@ pub fn effect_on<'a>(
             told: told,
             change: Change::Nothing,
         },
-        Effect::Use(name, place) => {
-            let a = use_local(ln, lk, lf, n, rows, cur, width, name, place, errs, told);
+        Effect::Use(name, at) => {
+            let a = validate_identifier_use(ln, lk, lf, n, rows, cur, width, name, at, errs, told);
             a
         }
         Effect::UseHand(name, place) => {
@@ -420,24 +417,14 @@ pub fn start(nodes: &mut [u64; 26], k: u16)
 }
 
 // One step at the innermost open node; the nodes after it are stored.
-fn step_on(
-    s: &[u8],
-    ns: &[usize],
-    ts: &[usize],
-    xs: &[usize],
-    globals: usize,
-    first: usize,
-    nodes: &mut [u64; 26],
-    depth: usize,
-    at: usize,
-) -> Step
-    requires { ⌜ Lent (now s) (now ns) (now ts) (now xs) globals first × Ready (now s) (opens (now nodes)) depth at × (0 < depth) ⌝ }
-    ensures { λ r. ⌜ ((T : Tables) → Says (now (s .entry)) (now (ns .entry)) (now (ts .entry)) (now (xs .entry)) globals first T
+fn step_on(s: &[u8], tb: &[u32], nodes: &mut [u64; 26], depth: usize, at: usize) -> Step
+    requires { ⌜ Lent (now s) (now tb) × Ready (now s) (opens (now nodes)) depth at × (0 < depth) ⌝ }
+    ensures { λ r. ⌜ ((T : Tables) → Says (now (s .entry)) (now (tb .entry)) T
         → Goes T (now (s .entry)) (opens (now (nodes .entry))) depth at r) × (opens (now (nodes .exit)) ≡ nodesAfter (opens (now (nodes .entry))) depth r) ⌝ }
 {
     let m = depth - 1;
     let top = unpack(nodes[m]);
-    let r = expressions_steps::advance(s, ns, ts, xs, globals, first, top, at);
+    let r = expressions_steps::advance(s, tb, top, at);
     let outer = r.top;
     let inner = r.inner;
     nodes[m] = pack(outer);
@@ -459,13 +446,11 @@ fn stopped(at: usize, nodes: usize, told: usize, change: Change) -> Scanned
 // The values from the innermost open node on, up to the next change or their end.
 pub fn scan_on<'a>(
     s: &[u8],
-    ns: &[usize],
-    ts: &[usize],
-    xs: &[usize],
+    tb: &[u32],
     env: Env,
-    ln: &'a [u16; 64],
-    lk: &'a [u8; 64],
-    lf: &'a [u32; 64],
+    ln: &'a Names,
+    lk: &'a Kinds,
+    lf: &'a Firsts,
     rows: &[u32],
     nodes: &mut [u64; 26],
     count: usize,
@@ -473,9 +458,9 @@ pub fn scan_on<'a>(
     errs: &mut [u32],
     told: usize,
 ) -> Scanned
-    requires { ⌜ Lent (now s) (now ns) (now ts) (now xs) (env .globals) (env .first) × AllKept (now lk) (now lf) (now rows) (env .cur) (env .width) (env .locals)
+    requires { ⌜ Lent (now s) (now tb) × AllKept (now lk) (now lf) (now rows) (env .cur) (env .width) (env .locals)
         × Ready (now s) (opens (now nodes)) count at × (told + 12 * fuel (now s) count at < 4294967000) ⌝ }
-    ensures { λ r. ⌜ ((T : Tables) → Says (now (s .entry)) (now (ns .entry)) (now (ts .entry)) (now (xs .entry)) (env .globals) (env .first) T
+    ensures { λ r. ⌜ ((T : Tables) → Says (now (s .entry)) (now (tb .entry)) T
         → (σ : Scope Status) → Holds (now (ln .entry)) (stateAt (now (lk .entry)) (now (lf .entry)) (now (rows .entry)) (env .cur) (env .width)) (env .locals) σ
         → Onward T (now (s .entry)) (opens (now (nodes .entry))) count at σ (now (errs .entry)) told
         (opens (now (nodes .exit))) (r .nodes) (r .at) (applied (r .change) σ) (now (errs .exit)) (r .told))
@@ -485,7 +470,7 @@ pub fn scan_on<'a>(
     let mut p = at;
     let mut t = told;
     while 0 < depth {
-        let r = step_on(s, ns, ts, xs, env.globals, env.first, nodes, depth, p);
+        let r = step_on(s, tb, nodes, depth, p);
         depth = depth - 1 + r.held;
         p = r.at;
         let effect = r.effect;

@@ -8,14 +8,13 @@ use Prim.Native.Nat.{ℕ, _+_, _-_, _≤_, _<_}
 use native.Mathlib.Omega.{arith}
 use lib.ListN.{length, getD, set, length-set}
 use lib.Seq.{getD-set-same, getD-set-other}
-use lib.Dec.{T as So, eqb, eqb→eq}
-use borrow.Author.Tests.{eq-eqb}
+use lib.Dec.{eqb}
 use Rattle.image_fields.specs.Number.{two, four, numberIn}
-use Rattle.image_fields.proofs.Rules.{at}
 use Rattle.tables.specs.Tables.{Tables}
-use Rattle.image_body.specs.Expr.{Head, Expr, Exprs, node, none, more, argWidth, fixedCount, countWidth, lastWidth, headOf, through}
+use Rattle.image_body.specs.Expr.{Head, Expr, Exprs, node, none, more, argWidth, fixedCount, countWidth, lastWidth, leaf, headOf, through}
 use Rattle.image_body.specs.Stands.{Stands, StandAll, HeadStands, Placed, count}
 use Rattle.image_body.specs.Depth.{depth, depthAll}
+use Rattle.image_body.proofs.Columns.{leaf-columns}
 use Rattle.image_body.proofs.Standing.{order-all, none-or-two}
 use Rattle.image_body.proofs.Walking.{head-at, Looked}
 use Rattle.rules.specs.Questions.{isMoveOf}
@@ -76,28 +75,6 @@ sees s os n p e frames lt g =
 
 shape : (x : Expr) → (h : Head) × (ks : Exprs) × (xs : Exprs) × (x ≡ node h ks xs)
 shape (node h ks xs) = (h, ks, xs, refl)
-
--- by tag: 1 if the node is a leaf
-unfoldable pub leaves : List ℕ
-leaves = 0 ∷ 1 ∷ 1 ∷ 0 ∷ 0 ∷ 0 ∷ 0 ∷ 0 ∷ 0 ∷ 0 ∷ 0 ∷ 0 ∷ 0 ∷ 1 ∷ 0 ∷ 1 ∷ []
-
-abbrev implies : Bool → Bool → Bool
-implies true b = b
-implies false b = true
-
-implied : (a b : Bool) → a ≡ true → So (implies a b) → So b
-implied true b e t = t
-implied false b e t = let z : _≡_ {A = ℕ} 0 1 = cc in absurd (omega arith)
-
-leaf-test : ℕ → ℕ → Bool
-leaf-test i x = implies (eqb x 1) (eqb (getD fixedCount i 0 + (getD countWidth i 0 + getD lastWidth i 0)) 0)
-
-leaf-table : (k : ℕ) → k < 16 → getD leaves k 0 ≡ 1 → (getD fixedCount k 0 ≡ 0) × (getD countWidth k 0 ≡ 0) × (getD lastWidth k 0 ≡ 0)
-unfolding leaf-test leaves fixedCount countWidth lastWidth
-leaf-table k lt e =
-    let z : getD fixedCount k 0 + (getD countWidth k 0 + getD lastWidth k 0) ≡ 0 =
-    eqb→eq _ _ (implied (eqb (getD leaves k 0) 1) (eqb (getD fixedCount k 0 + (getD countWidth k 0 + getD lastWidth k 0)) 0) (eq-eqb _ 1 e) (at leaf-test leaves tt k lt)) in
-    (omega arith, omega arith, omega arith)
 
 finish-none : (T : Tables) (h : Head) → finish T (node h none none) ≡ []
 unfolding finish
@@ -360,15 +337,15 @@ module _ (s : List ℕ) (os : List Open) (n p e : ℕ) (frames : List Stage) (lt
         ∙ ap (λ x. told ++ (inner ++ ((group T x (k .cs) ++ items) ++ pending T (t .fs)))) eb
 
     -- the child is a leaf: it is through at once
-    module _ (tag b : ℕ) (et : tag ≡ getD s r 0) (eb : b ≡ getD argWidth tag 0) (lf : getD leaves tag 0 ≡ 1) where
+    module _ (tag b : ℕ) (et : tag ≡ getD s r 0) (eb : b ≡ getD argWidth tag 0) (lf : leaf tag ≡ true) where
       same-tag : tag ≡ k .h .tag
       same-tag = et ∙ head .1 .tag
 
-      none-of : (getD fixedCount (k .h .tag) 0 ≡ 0) × (getD countWidth (k .h .tag) 0 ≡ 0) × (getD lastWidth (k .h .tag) 0 ≡ 0)
-      none-of = leaf-table (k .h .tag) (head .1 .high) (subst (λ x. getD leaves x 0 ≡ 1) same-tag lf)
+      none-of : (k .h .tag < 16) × (getD fixedCount (k .h .tag) 0 ≡ 0) × (getD countWidth (k .h .tag) 0 ≡ 0) × (getD lastWidth (k .h .tag) 0 ≡ 0)
+      none-of = leaf-columns (k .h .tag) (subst (λ x. leaf x ≡ true) same-tag lf)
 
       empty : (k .ks ≡ none) × (k .xs ≡ none)
-      empty = leaf-empty s r (k .mid) (k .h) (k .ks) (k .xs) (k .looked) (none-of .0) (none-of .1)
+      empty = leaf-empty s r (k .mid) (k .h) (k .ks) (k .xs) (k .looked) (none-of .1) (none-of .2)
 
       leaf-end : k .mid ≡ r + 7 + b
       unfolding Stands StandAll
@@ -378,7 +355,7 @@ module _ (s : List ℕ) (os : List Open) (n p e : ℕ) (frames : List Stage) (lt
           let e1 : g .0 ≡ r + 7 + getD argWidth (k .h .tag) 0 = subst (λ x. StandAll x s (r + 7 + getD argWidth (k .h .tag) 0) (g .0)) (empty .0) (g .4) in
           let e2 : g .1 ≡ g .0 + getD countWidth (k .h .tag) 0 = subst (λ x. StandAll x s (g .0 + getD countWidth (k .h .tag) 0) (g .1)) (empty .1) (g .6) in
           let e3 = g .7 in
-          let c0 = none-of .1 in let a0 = none-of .2 in
+          let c0 = none-of .2 in let a0 = none-of .3 in
           omega arith
 
       leaf-stacked : (i : Open) → Stacked (set (set os (n - 1) (lower-stage .code)) n i) (n - 1 + 1) (lower-stage ∷ t .fs) s (r + 7 + b) e
@@ -443,7 +420,7 @@ module _ (s : List ℕ) (os : List Open) (n p : ℕ) (ready : Ready s os n p) (l
       }
 
   pub goes-leaf : (T : Tables) (r : ℕ) → Looked s p r → 0 < o .left
-      → (told : Effect) (hd : Bool) (tag b : ℕ) (i : Open) → tag ≡ getD s r 0 → b ≡ getD argWidth tag 0 → getD leaves tag 0 ≡ 1
+      → (told : Effect) (hd : Bool) (tag b : ℕ) (i : Open) → tag ≡ getD s r 0 → b ≡ getD argWidth tag 0 → leaf tag ≡ true
       → hd ≡ handed (o .counted) (o .tag) → emits told ≡ leafOf T hd (getD s r 0) (two s (r + 7)) (four s (r + 1))
       → Goes T s os n p (record { effect = told; at = r + 7 + b; held = 1; top = record { start = o .start; left = o .left - 1; tag = o .tag; counted = o .counted }; inner = i })
   goes-leaf T r look pos told hd tag b i et eb lf eh tl =

@@ -3,7 +3,7 @@ use mathlib.Core.Path.{_≡_, refl, sym, ap, _∙_}
 use mathlib.Core.Bool.{false}
 use mathlib.Core.Logic.{inl}
 use mathlib.Core.List.{List, [], _∷_, append-nil}
-use Prim.Native.Nat.{ℕ, _-_, _≤_, _<_}
+use Prim.Native.Nat.{ℕ, _≤_}
 use native.Mathlib.Omega.{arith}
 use lib.ListN.{length, length-set}
 use Rattle.tables.specs.Tables.{Tables}
@@ -12,7 +12,7 @@ use Rattle.image_body.specs.Stands.{StandAll, count}
 use Rattle.image_body.specs.Depth.{depthAll, WalkableAll}
 use Rattle.image_body.proofs.Standing.{end-all}
 use Rattle.rules.specs.Effects.{handed, takes, group, finish}
-use Rattle.expressions_steps.specs.Scan.{Stage, Fits, Stacked, rest, pending, rootOf, topOf, Ready, Waits, Goes, nodesAfter, openAfter}
+use Rattle.expressions_steps.specs.Scan.{Stage, Fits, Stacked, rest, pending, rootOf, topOf, Ready, Goes, nodesAfter, openAfter}
 use Rattle.expressions_steps.specs.declared.Open.{Open}
 use Rattle.expressions_steps.specs.declared.Step.{Step}
 
@@ -78,9 +78,6 @@ pub ready-next : (T : Tables) (s : List ℕ) (os : List Open) (n p : ℕ) (r : S
 ready-next T s os n p r k g =
     let x = g .steps (k .frames) (k .end) (k .stacked) in
     record { frames = x .after; end = k .end; stacked = x .stacked; room = simp length-set (k .room); small = k .small }
-
-pub waits : (s : List ℕ) (os : List Open) (n p : ℕ) → Ready s os n p → 0 < n → Waits s (topOf os n) p
-waits s os n p k lt = record { os = os; n = n; ready = k; some = lt; is = refl }
 
 few-nodes : (s : List ℕ) (os : List Open) (n p e : ℕ) (frames : List Stage) → Stacked os n frames s p e → n ≤ 25
 unfolding Stacked

@@ -3,29 +3,19 @@
 ghost use mathlib.Core.Path.{_≡_};
 ghost use mathlib.Core.List.{List, map};
 ghost use Prim.Native.Nat.{ℕ, _≤_, _<_};
+ghost use lib.ListN.{getD};
+ghost use lib.Dec.{eqb};
 ghost use Rattle.tables.specs.Tables.{Tables};
 ghost use Rattle.tables.specs.Name.{nameOf};
 ghost use Rattle.tables_lookup.specs.First.{AllWithin};
-ghost use Rattle.rules.specs.Effects.{handed as isHanded};
-ghost use Rattle.expressions_effects.specs.Asked.{Lent, Says};
+ghost use Rattle.rules.specs.Effects.{takes, handed as isHanded};
+ghost use Rattle.tables_lookup.specs.Lent.{Lent, Says};
 ghost use Rattle.expressions_steps.specs.Scan.{rootOf, topOf, Ready, Waits, Goes};
 ghost use Rattle.expressions_steps.specs.declared.Open.{Open};
 use expressions_effects::Effect;
+use image_body::layout;
 use image_fields::wide;
-
-// By tag, 0 to 15, as in image_body/specs/Expr.antt and rules/specs/Effects.antt.
-const ARG_WIDTH: [u8; 16] = [0, 2, 0, 1, 0, 0, 0, 0, 0, 0, 0, 0, 0, 0, 2, 0];
-
-const FIXED_COUNT: [u16; 16] = [0, 0, 0, 1, 1, 2, 1, 0, 1, 0, 1, 1, 2, 0, 0, 0];
-
-const COUNT_WIDTH: [u8; 16] = [0, 0, 0, 0, 0, 0, 2, 2, 0, 2, 0, 0, 0, 0, 2, 0];
-
-const LAST_WIDTH: [u8; 16] = [0, 0, 0, 0, 0, 0, 0, 0, 0, 0, 0, 2, 0, 0, 0, 0];
-
-const TAKES: [u8; 16] = [0, 0, 0, 0, 0, 0, 1, 0, 1, 1, 0, 0, 0, 0, 0, 0];
-
-// 1 if nothing follows the head.
-const LEAVES: [u8; 16] = [0, 1, 1, 0, 0, 0, 0, 0, 0, 0, 0, 0, 0, 1, 0, 1];
+use image_fields::wide32;
 
 // An open node: where it starts, how many children are left of those being scanned, its tag, and the bytes of the count of its
 // items while that is still to come.
@@ -46,10 +36,16 @@ pub struct Step {
     pub inner: Open,
 }
 
-fn wide32(x: u32) -> usize
-    ensures { λ r. ⌜ r ≡ x ⌝ }
+// Whether a node of a tag takes its items or its child over.
+fn takes_over(tag: u8) -> bool
+    ensures { λ r. ⌜ r ≡ eqb (getD takes tag 0) 1 ⌝ }
 {
-    x as usize
+    match tag {
+        6 => true,
+        8 => true,
+        9 => true,
+        _ => false,
+    }
 }
 
 // Whether a child being scanned is handed over: the callee, before the count of the arguments, is not.
@@ -58,7 +54,7 @@ fn is_handed(counted: u8, tag: u8) -> bool
     ensures { λ r. ⌜ r ≡ isHanded counted tag ⌝ }
 {
     if counted == 0 {
-        return TAKES[wide(tag)] == 1;
+        return takes_over(tag);
     }
     false
 }
@@ -76,7 +72,7 @@ pub fn root(k: u16) -> Open
 }
 
 // The next child begins, at `at`.
-fn next_child(s: &[u8], names: &[usize], top: Open, at: usize) -> Step
+fn next_child(s: &[u8], names: &[u32], top: Open, at: usize) -> Step
     requires { ⌜ AllWithin (now s) (now names) × Waits (now s) top at × (0 < top .left) ⌝ }
     ensures { λ r. ⌜ ((T : Tables) → map (nameOf (now (s .entry))) (now (names .entry)) ≡ T .names
         → (os : List Open) (n : ℕ) → Ready (now (s .entry)) os n at → 0 < n → topOf os n ≡ top → Goes T (now (s .entry)) os n at r) ⌝ }
@@ -85,14 +81,14 @@ fn next_child(s: &[u8], names: &[usize], top: Open, at: usize) -> Step
     let effect = expressions_effects::own(s, names, is_handed(top.counted, top.tag), p);
     let tag = s[p];
     let k = wide(tag);
-    let next = p + 7 + wide(ARG_WIDTH[k]);
+    let next = p + 7 + layout::arg_width(k);
     let lower = Open {
         start: top.start,
         left: top.left - 1,
         tag: top.tag,
         counted: top.counted,
     };
-    if LEAVES[k] == 1 {
+    if layout::is_leaf(k) {
         return Step {
             effect: effect,
             at: next,
@@ -103,9 +99,9 @@ fn next_child(s: &[u8], names: &[usize], top: Open, at: usize) -> Step
     }
     let inner = Open {
         start: p as u32,
-        left: FIXED_COUNT[k],
+        left: layout::fixed_count(k) as u16,
         tag: tag,
-        counted: COUNT_WIDTH[k],
+        counted: layout::count_width(k) as u8,
     };
     Step {
         effect: effect,
@@ -137,32 +133,24 @@ fn count_items(s: &[u8], top: Open, at: usize) -> Step
 }
 
 // The next child begins, the count of the items is read, or the node ends.
-pub fn advance(
-    s: &[u8],
-    names: &[usize],
-    types: &[usize],
-    structs: &[usize],
-    count: usize,
-    first: usize,
-    top: Open,
-    at: usize,
-) -> Step
-    requires { ⌜ Lent (now s) (now names) (now types) (now structs) count first × Waits (now s) top at ⌝ }
-    ensures { λ r. ⌜ ((T : Tables) → Says (now (s .entry)) (now (names .entry)) (now (types .entry)) (now (structs .entry)) count first T
+pub fn advance(s: &[u8], tb: &[u32], top: Open, at: usize) -> Step
+    requires { ⌜ Lent (now s) (now tb) × Waits (now s) top at ⌝ }
+    ensures { λ r. ⌜ ((T : Tables) → Says (now (s .entry)) (now (tb .entry)) T
         → (os : List Open) (n : ℕ) → Ready (now (s .entry)) os n at → 0 < n → topOf os n ≡ top → Goes T (now (s .entry)) os n at r) ⌝ }
 {
     if 0 < top.left {
-        return next_child(s, names, top, at);
+        let names = 8 + tb[0] as usize;
+        return next_child(s, &tb[8..names], top, at);
     }
     if 0 < top.counted {
         return count_items(s, top, at);
     }
     let tag = top.tag;
     let start = wide32(top.start);
-    let effect = expressions_calls::finish(s, names, types, structs, count, first, tag, start);
+    let effect = expressions_calls::finish(s, tb, tag, start);
     Step {
         effect: effect,
-        at: at + wide(LAST_WIDTH[wide(tag)]),
+        at: at + layout::last_width(wide(tag)),
         held: 0,
         top: top,
         inner: top,

@@ -3,5 +3,5 @@ pub mod Numbered
 pub mod Whole
 pub mod RoundTrip
 pub mod AllBytes
-pub mod Asking
+pub mod Placed
 pub mod Example

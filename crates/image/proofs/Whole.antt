@@ -3,36 +3,34 @@
 use mathlib.Core.Path.{_≡_, refl, sym, ap, _∙_, subst}
 use mathlib.Core.List.{List, [], _∷_, _++_, map}
 use mathlib.Core.Bool.{Bool, true, false, cond, _&&_}
-use Prim.Native.Nat.{ℕ, zero, suc, _+_, _-_, _*_, _≤_, _<_}
+use Prim.Native.Nat.{ℕ, zero, _+_, _-_, _*_, _≤_, _<_}
 use native.Mathlib.Omega.{arith}
-use borrow.Author.Tests.{eqb-true, eq-eqb, ne-eqb}
-use lib.ListN.{length, getD, take, length-map, length-append}
-use lib.Seq.{length-take-le, getD-take}
+use borrow.Author.Tests.{eqb-true, leb-true, eq-eqb, ne-eqb}
+use lib.ListN.{length, getD, length-map, length-append}
 use lib.Dec.{eqb, leb}
 use Rattle.image_fields.specs.Parsed.{Parsed, ok, fault, bind, ensure}
-use Rattle.image_fields.specs.Number.{fieldAt, two, four}
-use Rattle.image_fields.specs.Table.{tableFrom, tableAt, entries}
+use Rattle.image_fields.specs.Number.{two, four}
+use Rattle.image_fields.specs.Table.{entries}
 use Rattle.image_fields.specs.Answer.{readOf}
 use Rattle.image_fields.specs.declared.Read.{Read}
 use Rattle.image_fields.specs.declared.Read.the-variants.{Next, Fault}
 use Rattle.image_fields.specs.declared.Number.{Number}
 use Rattle.image_fields.specs.declared.Number.the-variants.{Is, Wrong}
 use Rattle.image_fields.proofs.Inverse.{ensure-ok, bound, impossible}
-use Rattle.image_fields.proofs.Numbers.{Field, field-ok}
+use Rattle.image_fields.proofs.Tests.{and-true}
+use Rattle.image_fields.proofs.Numbers.{field-ok}
 use Rattle.image_fields.proofs.Tables.{table-parts, table-all, table-entries}
 use Rattle.tables.specs.Limits.{Limits, version1}
 use Rattle.tables.specs.Name.{nameOf, nameAt, namesAt}
-use Rattle.tables.specs.Ty.{Ty, typeAt, typesAt, typeIn, genericFlag, genericFlags}
+use Rattle.tables.specs.Ty.{Ty, typeAt, typesAt, genericFlag, genericFlags}
 use Rattle.tables.specs.Signature.{Struct, Global, Entry, structsAt, globalAt, globalsAt, entryAt, structIn, globalIn}
-use Rattle.tables.specs.Answer.{Within, Listed}
+use Rattle.tables.specs.Answer.{Listed}
 use Rattle.image_body.specs.Expr.{Scope}
 use Rattle.image_body.specs.Stmt.{Block, blockAt}
-use Rattle.image.specs.Image.{Image, Decoded, accepted, refused, lengthOk, bodyAt, restAt, imageAt, outcome, decode, faultOf, scopeIn}
-use Rattle.image.specs.Layout.{headFault, wrongOf, faultIn, RestStands, RestReads, Laid, Reads}
+use Rattle.image.specs.Image.{Image, accepted, refused, bodyAt, restAt, imageAt, outcome, decode, faultOf, scopeIn}
+use Rattle.image.specs.Layout.{headFault, wrongOf, faultIn, RestStands, RestReads, Places}
 use Rattle.image.specs.declared.Rest.{Rest}
-use Rattle.image.specs.declared.Layout.{Layout}
 use Rattle.image.specs.declared.ImageRead.{ImageRead}
-use Rattle.image.proofs.Numbered.{Numbered, of-rest}
 
 -- an answer that is no number has a fault
 pub wrong-is : {n : Number} {f k : ℕ} → f ≡ wrongOf n → n ≡ Wrong k → f ≡ k
@@ -196,9 +194,9 @@ refusing : (s : List ℕ) {k : ℕ} → imageAt version1 s ≡ fault k → decod
 unfolding decode outcome
 refusing s e = rw e refl
 
-no-layout : (s : List ℕ) {k : ℕ} {r : ImageRead} → decode version1 s ≡ refused k → r .fault ≡ k → Reads s r
+no-places : (s : List ℕ) {k : ℕ} {tb : List ℕ} {r : ImageRead} → decode version1 s ≡ refused k → r .fault ≡ k → Places s tb r
 unfolding faultOf
-no-layout s {k = k} z e = record { fault = e ∙ sym (rw z refl); layout = λ i y. not-both (sym z ∙ y) }
+no-places s {k = k} z e = record { fault = e ∙ sym (rw z refl); placed = λ i y. not-both (sym z ∙ y) }
   where
     not-both : {C : Type 0} {i : Image} → refused k ≡ accepted i → C
     not-both e = let z : _≡_ {A = ℕ} 0 1 = cc in absurd (omega arith)
@@ -222,63 +220,58 @@ tables-kept L ns ts s at i p e =
     let z : record { tables = record { names = ns; types = ts; structs = ss; globals = gs }; entry = y; body = b } ≡ i = cc in
     (ap (λ x. x .tables .names) z, ap (λ x. x .tables .types) z)))))
 
+first-passed : (a b : Bool) {r : ℕ} → r ≡ cond a (cond b 0 2) 1 → r ≤ 0 → a ≡ true
+first-passed true b e le = refl
+first-passed false b e le = absurd (omega arith)
+
 module _ (s : List ℕ) {r : ℕ} (er : r ≡ headFault version1 s) where
-  pub head-stops : {x : ImageRead} → 0 < r → x .fault ≡ r → Reads s x
+  pub head-stops : {tb : List ℕ} {x : ImageRead} → 0 < r → x .fault ≡ r → Places s tb x
   unfolding imageAt headFault
-  head-stops lt e = no-layout s (refusing s (two-tests _ _ _ er lt)) e
+  head-stops lt e = no-places s (refusing s (two-tests _ _ _ er lt)) e
 
   module _ (le : r ≤ 0) where
+    pub head-short : length s ≤ 65536
+    unfolding headFault
+    head-short =
+        let g = and-true (leb 5 (length s)) (leb (length s) 65536 && eqb (four s 0 + 4) (length s)) (first-passed _ (eqb (getD s 4 0) 1) er le) in
+        leb-true _ _ (and-true (leb (length s) 65536) (eqb (four s 0 + 4) (length s)) (g .1) .0)
+
     head-passes : imageAt version1 s ≡ bind (namesAt version1 s 5) (λ ns p. bind (typesAt version1 (length ns) s p) (λ ts q. restAt version1 ns ts s q))
     unfolding imageAt headFault
     head-passes = two-passed _ _ _ er le
 
-    pub names-stop : {k : ℕ} {x : ImageRead} → namesAt version1 s 5 ≡ fault k → x .fault ≡ k → Reads s x
+    pub names-stop : {k : ℕ} {tb : List ℕ} {x : ImageRead} → namesAt version1 s 5 ≡ fault k → x .fault ≡ k → Places s tb x
     unfolding bind
-    names-stop e f = no-layout s (refusing s (head-passes ∙ rw e refl)) f
+    names-stop e f = no-places s (refusing s (head-passes ∙ rw e refl)) f
 
     module _ {ns : List (List ℕ)} {p n : ℕ} (e1 : namesAt version1 s 5 ≡ ok ns p) (l1 : length ns ≡ n) where
-      pub types-stop : {k : ℕ} {x : ImageRead} → typesAt version1 n s p ≡ fault k → x .fault ≡ k → Reads s x
+      pub types-stop : {k : ℕ} {tb : List ℕ} {x : ImageRead} → typesAt version1 n s p ≡ fault k → x .fault ≡ k → Places s tb x
       unfolding bind
-      types-stop e f = no-layout s (refusing s (head-passes ∙ simp (e1, l1, e))) f
+      types-stop e f = no-places s (refusing s (head-passes ∙ simp (e1, l1, e))) f
 
-      module _ {ts : List Ty} {q m : ℕ} (e2 : typesAt version1 n s p ≡ ok ts q) (l2 : length ts ≡ m) where
+      module _ {ts : List Ty} {q : ℕ} (e2 : typesAt version1 n s p ≡ ok ts q) where
         to-rest : imageAt version1 s ≡ restAt version1 ns ts s q
         unfolding bind
         to-rest = head-passes ∙ simp (e1, l1, e2)
 
-        same-names : (nameStarts : List ℕ) → Listed (nameOf s) s nameStarts ns → map (nameOf s) (take n nameStarts) ≡ ns
-        same-names nameStarts ln = subst (λ k. map (nameOf s) (take k nameStarts) ≡ ns) l1 (ln .placed)
+        pub rest-stop : {starts : List ℕ} {z : Rest} {tb : List ℕ} {x : ImageRead} → RestReads ns ts s q starts z → 0 < z .fault → x .fault ≡ z .fault → Places s tb x
+        rest-stop g lt e = no-places s (refusing s (to-rest ∙ outcome-fault _ (g .fault) lt)) e
 
-        pub rest-stop : (nameStarts : List ℕ) {starts : List ℕ} {z : Rest} {x : ImageRead} → Listed (nameOf s) s nameStarts ns
-            → RestReads (map (nameOf s) (take n nameStarts)) ts s q starts z → 0 < z .fault → x .fault ≡ z .fault → Reads s x
-        rest-stop nameStarts {starts} {z} ln g0 lt e =
-            let g = subst (λ x. RestReads x ts s q starts z) (same-names nameStarts ln) g0 in
-            no-layout s (refusing s (to-rest ∙ outcome-fault _ (g .fault) lt)) e
+        -- the rest was read: the image is accepted, with these names and types
+        module _ {starts : List ℕ} {z : Rest} (g : RestReads ns ts s q starts z) (none : z .fault ≤ 0) where
+          pub rest-passes : 0 ≡ faultOf (decode version1 s)
+          unfolding decode
+          rest-passes =
+              let f : z .fault ≡ faultOf (outcome (restAt version1 ns ts s q)) = g .fault in
+              let zero : 0 ≡ z .fault = omega arith in
+              zero ∙ f ∙ ap (λ x. faultOf (outcome x)) (sym to-rest)
 
-        pub rest-done : (nameStarts : List ℕ) {typeStarts starts : List ℕ} {z : Rest} → Listed (nameOf s) s nameStarts ns
-            → RestReads (map (nameOf s) (take n nameStarts)) ts s q starts z → z .fault ≤ 0 → Listed (typeIn s) s typeStarts ts
-            → Reads s (record { fault = 0; layout = record { names = nameStarts; «name_count» = n; types = typeStarts; «type_count» = m; structs = starts; rest = z } })
-        unfolding decode
-        rest-done nameStarts {typeStarts} {starts} {z} ln g0 le lt =
-            let g = subst (λ x. RestReads x ts s q starts z) (same-names nameStarts ln) g0 in
-            let f : z .fault ≡ faultOf (outcome (restAt version1 ns ts s q)) = g .fault in
-            let zero : 0 ≡ z .fault = omega arith in
-            record {
-              fault = zero ∙ f ∙ ap (λ x. faultOf (outcome x)) (sym to-rest);
-              layout = λ i y. laid g i (outcome-ok (restAt version1 ns ts s q) (ap outcome (sym to-rest) ∙ y));
-            }
-          where
-            laid : RestReads ns ts s q starts z → (i : Image) → (p : ℕ) × (restAt version1 ns ts s q ≡ ok i p)
-                → Laid s i (record { names = nameStarts; «name_count» = n; types = typeStarts; «type_count» = m; structs = starts; rest = z })
-            laid g i w =
-                let k = tables-kept version1 ns ts s q i (w .0) (w .1) in
-                record {
-                  nameCount = sym l1 ∙ ap length (k .0);
-                  names = subst (Listed (nameOf s) s nameStarts) (k .0) ln;
-                  typeCount = sym l2 ∙ ap length (k .1);
-                  types = subst (Listed (typeIn s) s typeStarts) (k .1) lt;
-                  rest = g .stands i (w .0) (w .1);
-                }
+          pub rest-stands : (i : Image) → decode version1 s ≡ accepted i → (ns ≡ i .tables .names) × (ts ≡ i .tables .types) × RestStands s starts i z
+          unfolding decode
+          rest-stands i y =
+              let w = outcome-ok (restAt version1 ns ts s q) (ap outcome (sym to-rest) ∙ y) in
+              let k = tables-kept version1 ns ts s q i (w .0) (w .1) in
+              (k .0, k .1, g .stands i (w .0) (w .1))
 
 -- the tables' limits
 pub name-limit : (s : List ℕ) (at : ℕ) (ns : List (List ℕ)) (p : ℕ) → namesAt version1 s at ≡ ok ns p → (length ns ≤ 512) × (0 < length ns)
@@ -299,13 +292,3 @@ type-limit names s at ts p e =
     let f = field-ok (g .2) .small in
     let l = g .5 in
     omega arith
-
--- the names' positions as they are lent
-pub names-lent : (s starts : List ℕ) {ns : List (List ℕ)} {n : ℕ} → Listed (nameOf s) s starts ns → length ns ≡ n → 0 < n → n ≤ length starts
-    → (0 < length (take n starts)) × Within s (take n starts) (length (take n starts))
-names-lent s starts {ns} {n} l e pos le =
-    let k : length (take n starts) ≡ n = length-take-le n starts le in (
-      omega arith,
-      λ i lt. let h : i < n = omega arith in
-          subst (λ x. x < length s) (sym (getD-take n starts i 0 h)) (l .within i (omega arith)),
-    )

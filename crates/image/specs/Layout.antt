@@ -1,4 +1,4 @@
--- Where the parts of an accepted image stand: what the reader gives back, and every later walk relies on.
+-- Where the parts of an accepted image stand: what the reader leaves in the tables lent, and every later walk relies on.
 use Prim.Native.Nat.{ℕ, _+_, _*_, _≤_}
 use mathlib.Core.Path.{_≡_}
 use mathlib.Core.List.{List}
@@ -12,13 +12,12 @@ use Rattle.image_fields.specs.declared.Read.the-variants.{Next, Fault}
 use Rattle.image_fields.specs.declared.Number.{Number}
 use Rattle.image_fields.specs.declared.Number.the-variants.{Is, Wrong}
 use Rattle.tables.specs.Limits.{Limits, version1}
-use Rattle.tables.specs.Name.{nameOf}
-use Rattle.tables.specs.Ty.{Ty, typeIn}
+use Rattle.tables.specs.Ty.{Ty}
 use Rattle.tables.specs.Signature.{globalIn, structIn, entryAt}
 use Rattle.tables.specs.Answer.{Listed}
+use Rattle.tables_lookup.specs.Lent.{Filled, Lent, Says}
 use Rattle.image_body.specs.Stmt.{blockAt}
-use Rattle.image.specs.Image.{Image, Decoded, accepted, decode, outcome, faultOf, lengthOk, restAt, scopeIn}
-use Rattle.image.specs.declared.Layout.{Layout}
+use Rattle.image.specs.Image.{Image, accepted, decode, outcome, faultOf, lengthOk, restAt, scopeIn}
 use Rattle.image.specs.declared.Rest.{Rest}
 use Rattle.image.specs.declared.ImageRead.{ImageRead}
 
@@ -49,15 +48,33 @@ pub record RestReads (ns : List (List ℕ)) (ts : List Ty) (s : List ℕ) (at : 
   pub fault : r .fault ≡ faultOf (outcome (restAt version1 ns ts s at))
   pub stands : (i : Image) (next : ℕ) → restAt version1 ns ts s at ≡ ok i next → RestStands s starts i r
 
--- every part of the image
-pub record Laid (s : List ℕ) (i : Image) (l : Layout) : Type 0 where
-  pub nameCount : l .«name_count» ≡ length (i .tables .names)
-  pub names : Listed (nameOf s) s (l .names) (i .tables .names)
-  pub typeCount : l .«type_count» ≡ length (i .tables .types)
-  pub types : Listed (typeIn s) s (l .types) (i .tables .types)
-  pub rest : RestStands s (l .structs) i (l .rest)
+-- the numbers that go to the tables are within their limits
+pub record Counts (n m : ℕ) (r : Rest) : Type 0 where
+  pub names : n ≤ 512
+  pub types : m ≤ 256
+  pub structs : r .«struct_count» ≤ 64
+  pub globals : r .«global_count» ≤ 64
+  pub first : r .globals ≤ 65536
 
--- the reader's answer: the fault's number, or 0 and the layout
-pub record Reads (s : List ℕ) (r : ImageRead) : Type 0 where
+-- every part of the image, before it is asked which types are deleted
+pub record Placed (s : List ℕ) (i : Image) (tb : List ℕ) (r : ImageRead) : Type 0 where
+  pub filled : Filled s tb
+  pub says : Says s tb (i .tables)
+  pub entry : entryAt version1 (length (i .tables .names)) (length (i .tables .types)) s (r .entry) ≡ ok (i .entry) (r .body)
+  pub body : blockAt (scopeIn version1 (i .tables .names) (i .tables .types)) s 12 (r .body) ≡ ok (i .body) (length s)
+
+pub record Places (s tb : List ℕ) (r : ImageRead) : Type 0 where
   pub fault : r .fault ≡ faultOf (decode version1 s)
-  pub layout : (i : Image) → decode version1 s ≡ accepted i → Laid s i (r .layout)
+  pub placed : (i : Image) → decode version1 s ≡ accepted i → Placed s i tb r
+
+-- every part of the image
+pub record Laid (s : List ℕ) (i : Image) (tb : List ℕ) (r : ImageRead) : Type 0 where
+  pub lent : Lent s tb
+  pub says : Says s tb (i .tables)
+  pub entry : entryAt version1 (length (i .tables .names)) (length (i .tables .types)) s (r .entry) ≡ ok (i .entry) (r .body)
+  pub body : blockAt (scopeIn version1 (i .tables .names) (i .tables .types)) s 12 (r .body) ≡ ok (i .body) (length s)
+
+-- the reader's answer: the fault's number, or 0 and where everything stands
+pub record Reads (s tb : List ℕ) (r : ImageRead) : Type 0 where
+  pub fault : r .fault ≡ faultOf (decode version1 s)
+  pub laid : (i : Image) → decode version1 s ≡ accepted i → Laid s i tb r

@@ -1,8 +1,9 @@
 // Reads a whole image: head, tables, entry and body, up to the end of its bytes.
 ghost use mathlib.Core.Path.{_≡_};
 ghost use Prim.Native.Nat.{_+_, _≤_, _<_};
-ghost use mathlib.Core.List.{List, [], map};
-ghost use lib.ListN.{length};
+ghost use mathlib.Core.List.{List, [], _∷_, map};
+ghost use lib.ListN.{length, drop};
+ghost use lib.Seq.{paste};
 ghost use Rattle.image_fields.specs.Answer.{readOf};
 ghost use Rattle.tables.specs.Limits.{version1};
 ghost use Rattle.tables.specs.Name.{nameOf};
@@ -10,34 +11,24 @@ ghost use Rattle.tables.specs.Ty.{Ty, genericFlags};
 ghost use Rattle.tables.specs.Answer.{Within};
 ghost use Rattle.image_body.specs.Answer.{scopeOf};
 ghost use Rattle.image.specs.Image.{bodyAt, decode, faultOf};
-ghost use Rattle.image.specs.Layout.{headFault, wrongOf, faultIn, RestReads, Reads};
+ghost use Rattle.image.specs.Layout.{headFault, wrongOf, faultIn, RestReads, Counts, Places, Reads};
 
 // What follows the names and the types: the fault's number or 0, how many structs and globals there are, and where the globals, the
 // entry and the body start.
-pub struct Rest {
-    pub fault: u8,
-    pub struct_count: usize,
-    pub globals: usize,
-    pub global_count: usize,
-    pub entry: usize,
-    pub body: usize,
+struct Rest {
+    fault: u8,
+    struct_count: usize,
+    globals: usize,
+    global_count: usize,
+    entry: usize,
+    body: usize,
 }
 
-// Positions where each name, type and struct stands, how many there are, and where the rest stands. Past the counts the positions
-// say nothing.
-pub struct Layout {
-    pub names: [usize; 512],
-    pub name_count: usize,
-    pub types: [usize; 256],
-    pub type_count: usize,
-    pub structs: [usize; 64],
-    pub rest: Rest,
-}
-
-// The fault's number, or 0 and where everything stands. With a fault the layout says nothing.
+// The fault's number, or 0 and where the entry and the body start.
 pub struct ImageRead {
     pub fault: u8,
-    pub layout: Layout,
+    pub entry: usize,
+    pub body: usize,
 }
 
 // Fault 1 or 2, or 0.
@@ -90,8 +81,8 @@ fn no_rest(fault: u8) -> Rest
 }
 
 // What follows the names and the types.
-fn read_rest(s: &[u8], names: &[usize], flags: &[u8], structs: &mut [usize], at: usize) -> Rest
-    requires { ⌜ (64 ≤ length (now structs)) × (0 < length (now names)) × Within (now s) (now names) (length (now names)) ⌝ }
+fn read_rest(s: &[u8], names: &[u32], flags: &[u8], structs: &mut [u32], at: usize) -> Rest
+    requires { ⌜ (64 ≤ length (now structs)) × (0 < length (now names)) × Within (now s) (now names) (length (now names)) × (length (now s) ≤ 65536) ⌝ }
     ensures { λ r. ⌜ ((ts : List Ty) → now (flags .entry) ≡ genericFlags [] ts
         → RestReads (map (nameOf (now (s .entry))) (now (names .entry))) ts (now (s .entry)) at (now (structs .exit)) r) ⌝ }
 {
@@ -145,65 +136,86 @@ fn fault(n: image_fields::Read) -> u8
     }
 }
 
-// A fault, and no layout.
+// A fault, and nothing read.
 fn refusal(fault: u8) -> ImageRead
     ensures { λ r. ⌜ r .fault ≡ fault ⌝ }
 {
-    let names = [0usize; 512];
-    let types = [0usize; 256];
-    let structs = [0usize; 64];
-    let rest = no_rest(fault);
-    let layout = Layout {
-        names,
-        name_count: 0,
-        types,
-        type_count: 0,
-        structs,
-        rest,
-    };
-    ImageRead { fault, layout }
+    ImageRead {
+        fault,
+        entry: 0,
+        body: 0,
+    }
 }
 
-// The whole image.
-pub fn read_image(s: &[u8]) -> ImageRead
-    ensures { λ r. ⌜ Reads (now (s .entry)) r ⌝ }
+// The structs' positions, to their place in the tables.
+fn copy_structs(structs: &[u32], n: usize, tb: &mut [u32])
+    requires { ⌜ (n ≤ length (now structs)) × (776 + n ≤ length (now tb)) ⌝ }
+    ensures { λ _. ⌜ now (tb .exit) ≡ paste (now (tb .entry)) 776 (now (structs .entry)) n ⌝ }
+{
+    let mut i = 0;
+    while i < n {
+        tb[776 + i] = structs[i];
+        i += 1;
+    }
+}
+
+// The counts, and where the globals stand.
+fn put_counts(tb: &mut [u32], names: usize, types: usize, rest: Rest)
+    requires { ⌜ (5 ≤ length (now tb)) × Counts names types rest ⌝ }
+    ensures { λ _. ⌜ now (tb .exit) ≡ names ∷ (types ∷ (rest .«struct_count» ∷ (rest .«global_count» ∷ (rest .globals ∷ drop 5 (now (tb .entry)))))) ⌝ }
+{
+    tb[0] = names as u32;
+    tb[1] = types as u32;
+    tb[2] = rest.struct_count as u32;
+    tb[3] = rest.global_count as u32;
+    tb[4] = rest.globals as u32;
+}
+
+// The whole image, and its tables but for what is asked of the types.
+fn read_parts(s: &[u8], tb: &mut [u32]) -> ImageRead
+    requires { ⌜ length (now tb) ≡ 1096 ⌝ }
+    ensures { λ r. ⌜ Places (now (s .entry)) (now (tb .exit)) r ⌝ }
 {
     let head = head_fault(s);
     if 0 < head {
         return refusal(head);
     }
-    let mut names = [0usize; 512];
-    let name_table = tables::name::read_names(s, &mut names, 5);
+    let name_table = tables::name::read_names(s, &mut tb[8..520], 5);
     let image_fields::Number::Is(name_count, p) = name_table else {
         return refusal(wrong(name_table));
     };
-    let mut types = [0usize; 256];
     let mut flags = [0u8; 256];
-    let type_table = tables::ty::read_types(s, &mut types, &mut flags, name_count, p);
+    let type_table = tables::ty::read_types(s, &mut tb[520..776], &mut flags, name_count, p);
     let image_fields::Number::Is(type_count, q) = type_table else {
         return refusal(wrong(type_table));
     };
-    let mut structs = [0usize; 64];
-    let rest = read_rest(
-        s,
-        &names[..name_count],
-        &flags[..type_count],
-        &mut structs,
-        q,
-    );
+    let mut structs = [0u32; 64];
+    let names_end = 8 + name_count;
+    let rest = read_rest(s, &tb[8..names_end], &flags[..type_count], &mut structs, q);
     let found = rest.fault;
     if 0 < found {
         return refusal(found);
     }
-    let layout = Layout {
-        names,
-        name_count,
-        types,
-        type_count,
-        structs,
-        rest,
-    };
-    ImageRead { fault: 0, layout }
+    copy_structs(&structs, rest.struct_count, tb);
+    put_counts(tb, name_count, type_count, rest);
+    ImageRead {
+        fault: 0,
+        entry: rest.entry,
+        body: rest.body,
+    }
+}
+
+// The whole image. Its tables go to the memory lent.
+pub fn read_image(s: &[u8], tb: &mut [u32]) -> ImageRead
+    requires { ⌜ length (now tb) ≡ 1096 ⌝ }
+    ensures { λ r. ⌜ Reads (now (s .entry)) (now (tb .exit)) r ⌝ }
+{
+    let read = read_parts(s, tb);
+    let fault = read.fault;
+    if fault == 0 {
+        tables_lookup::fill_drops(s, tb);
+    }
+    read
 }
 
 // For Rust and C: the first fault of 1 to 11, or 0.
@@ -211,7 +223,8 @@ pub fn read_image(s: &[u8]) -> ImageRead
 pub extern "C" fn image_fault(s: &[u8]) -> u64
     ensures { λ r. ⌜ r ≡ faultOf (decode version1 (now (s .entry))) ⌝ }
 {
-    let read = read_image(s);
+    let mut tb = [0u32; 1096];
+    let read = read_parts(s, &mut tb);
     let fault = read.fault;
     fault as u64
 }

@@ -1,4 +1,5 @@
 -- What the proofs of several functions and crates use.
+pub mod Columns
 pub mod Standing
 pub mod Shallow
 pub mod Walking

@@ -3,8 +3,8 @@
 use mathlib.Core.Path.{_≡_, refl, sym, ap, _∙_, subst, subst₂}
 use mathlib.Core.List.{List, [], _∷_}
 use mathlib.Core.Bool.{Bool, true, false, not, _&&_}
-use mathlib.Core.Logic.{_⊎_, ⊎-elim}
-use Prim.Native.Nat.{ℕ, suc, _+_, _-_, _≤_, _<_}
+use mathlib.Core.Logic.{⊎-elim}
+use Prim.Native.Nat.{ℕ, suc, _+_, _≤_, _<_}
 use native.Mathlib.Omega.{arith}
 use lib.ListN.{length, getD, replicate}
 use lib.Dec.{T, eqb, eqb→eq}
@@ -20,8 +20,11 @@ use Rattle.image_body.specs.Expr.{Head, Expr, Exprs, node, none, more, a
 use Rattle.image_body.specs.Stands.{Stands, StandAll, HeadStands, Placed, count}
 use Rattle.image_body.specs.Node.{nodeOf, nodeAt, kindOf}
 use Rattle.image_body.specs.declared.Node.{Node}
-use Rattle.image_body.specs.declared.Node.the-variants.{Ident, Unary, FieldAccess}
 use Rattle.image_body.proofs.Node.{the-type}
+
+-- a byte that is not 0 stands within
+pub within : (s : List ℕ) (p k : ℕ) → getD s p 0 ≡ k → 0 < k → p < length s
+within s p k e pos = ⊎-elim (λ x. x) (λ x. let z = past-end s p x in absurd (omega arith)) (less p (length s))
 
 -- the tag of the node of a tag
 sameKind : List ℕ → ℕ → ℕ → ℕ → Bool
@@ -41,7 +44,7 @@ tag-of s p v e pos =
     let k : kindOf v ≡ kindOf (nodeOf s p (getD s p 0)) = ap kindOf e in
     let t : getD s p 0 ≡ kindOf v =
     ⊎-elim (λ l. sym (k ∙ kind-small s p (getD s p 0) l)) (λ l. let z = kind-large s p (getD s p 0) l in absurd (omega arith)) (less (getD s p 0) 16) in
-    (t, ⊎-elim (λ l. l) (λ l. let z = past-end s p l in absurd (omega arith)) (less p (length s)))
+    (t, within s p (kindOf v) t pos)
 
 abbrev keep : Bool → ℕ → List ℕ → List ℕ
 keep true x xs = xs
@@ -124,15 +127,6 @@ step s p n (node h ks xs) g e3 e0 =
     let f = only-child s p n h ks xs g t3 in
     (f .0, f .3, sym (ap (λ k. through (node h k xs)) (f .2) ∙ through-noop h (f .0) (f .1) xs t3 a0))
 
--- what the code sees of a Unary
-pub unary : (s : List ℕ) (p : ℕ) {v : Node} {op child : ℕ} → v ≡ nodeAt s p → v ≡ Unary op child
-    → (getD s p 0 ≡ 3) × (op ≡ getD s (p + 7) 0) × (child ≡ p + 8) × (p < length s)
-unfolding nodeOf
-unary s p {op = op} {child = child} e f =
-    let t = tag-of s p (Unary op child) (sym f ∙ e) (omega arith) in
-    let g : Unary op child ≡ nodeOf s p 3 = sym f ∙ e ∙ ap (nodeOf s p) (t .0) in
-    (t .0, cc, cc, t .1)
-
 -- the loop that looks through: what stands at p is, looked through, what stands at the start, and ends where that does
 abbrev pub Looks : List ℕ → ℕ → ℕ → Type 0
 Looks s at p = (e : Expr) (next : ℕ) → Stands e s at next → (f : Expr) × Stands f s p next × (through f ≡ through e)
@@ -140,26 +134,17 @@ Looks s at p = (e : Expr) (next : ℕ) → Stands e s at next → (f : Expr) × 
 abbrev pub Looked : List ℕ → ℕ → ℕ → Type 0
 Looked s at p = (e : Expr) (next : ℕ) → Stands e s at next → Stands (through e) s p next
 
-module _ (s : List ℕ) (at p : ℕ) (inv : Looks s at p) {v : Node} (ev : v ≡ nodeAt s p) where
-  ends-here : (getD s p 0 ≡ 3 → getD s (p + 7) 0 ≡ 0 → ⊥) → Looked s at p
+module _ (s : List ℕ) (at p : ℕ) (inv : Looks s at p) where
+  pub ends-here : (getD s p 0 ≡ 3 → getD s (p + 7) 0 ≡ 0 → ⊥) → Looked s at p
   ends-here never e next g =
       let w = inv e next g in
       subst (λ x. Stands x s p next) (sym (stop s p next (w .0) (w .1) never) ∙ w .2) (w .1)
 
-  pub no-unary : OneOf (others 3) (tagOf the-type v) → Looked s at p
-  unfolding nodeOf
-  no-unary h = ends-here (λ t a. not-kind 3 tt s p ev refl h t)
-
-  module _ {op child : ℕ} (eu : v ≡ Unary op child) where
-    pub with-operator : 0 < op → Looked s at p
-    with-operator lt = let u = unary s p ev eu in ends-here (λ t a. omega arith)
-
-    pub again : op ≤ 0 → Looks s at child
-    again le e next g =
-        let u = unary s p ev eu in
-        let w = inv e next g in
-        let z = step s p next (w .0) (w .1) (u .0) (omega arith) in
-        (z .0, subst (λ x. Stands (z .0) s x next) (sym (u .2)) (z .1), z .2 ∙ w .2)
+  pub again : getD s p 0 ≡ 3 → getD s (p + 7) 0 ≡ 0 → Looks s at (p + 8)
+  again e3 e0 e next g =
+      let w = inv e next g in
+      let z = step s p next (w .0) (w .1) e3 e0 in
+      (z .0, z .1, z .2 ∙ w .2)
 
 first-of : (s : List ℕ) (p n : ℕ) (f : Expr) → Stands f s p n → headOf f .tag ≡ 11 → (c : Expr) × (cs : Exprs) × (childrenOf f ≡ more c cs) × Placed s (p + 7) c
 unfolding argWidth fixedCount
@@ -174,50 +159,40 @@ unfolding genericReceiver
 receiver g e c cs t k = rw (t, k)
 
 -- the receiver question, as the code asks it: p is the callee looked through
-module _ (g s : List ℕ) (at p : ℕ) (looked : Looked s at p) {v : Node} (ev : v ≡ nodeAt s p) where
-  pub no-field : OneOf (others 11) (tagOf the-type v) → (e : Expr) (next : ℕ) → Stands e s at next → false ≡ genericReceiver g e
-  unfolding genericReceiver nodeOf
-  no-field h e next st =
+module _ (g s : List ℕ) (at p : ℕ) (looked : Looked s at p) (e : Expr) (next : ℕ) (st : Stands e s at next) where
+  pub no-field : (getD s p 0 ≡ 11 → ⊥) → false ≡ genericReceiver g e
+  unfolding genericReceiver
+  no-field never =
       let hd = head-at s p next (through e) (looked e next st) in
-      let ne : eqb (headOf (through e) .tag) 11 ≡ false = ne-eqb _ 11 (λ t. not-kind 11 tt s p ev refl h (hd .1 .tag ∙ t)) in
+      let ne : eqb (headOf (through e) .tag) 11 ≡ false = ne-eqb _ 11 (λ t. never (hd .1 .tag ∙ t)) in
       rw ne
 
-  module _ {target : ℕ} (ef : v ≡ FieldAccess target) where
-    pub field : (target ≡ p + 7) × (getD s p 0 ≡ 11) × (p < length s)
-    unfolding nodeOf
-    field =
-        let t = tag-of s p (FieldAccess target) (sym ef ∙ ev) (omega arith) in
-        let k : FieldAccess target ≡ nodeOf s p 11 = sym ef ∙ ev ∙ ap (nodeOf s p) (t .0) in
-        (cc, t .0, t .1)
+  -- the target, and what it is looked through to, at q
+  module _ (e11 : getD s p 0 ≡ 11) (q : ℕ) (inner : Looked s (p + 7) q) where
+    target-of : (c : Expr) × (cs : Exprs) × (headOf (through e) .tag ≡ 11) × (childrenOf (through e) ≡ more c cs) × Placed s (p + 7) c
+    target-of =
+        let l = looked e next st in
+        let hd = head-at s p next (through e) l in
+        let t : headOf (through e) .tag ≡ 11 = sym (hd .1 .tag) ∙ e11 in
+        let f = first-of s p next (through e) l t in
+        (f .0, f .1, t, f .2, f .3)
 
-    -- the target, and what it is looked through to, at q
-    module _ (q : ℕ) (inner : Looked s target q) {w : Node} (ew : w ≡ nodeAt s q) (e : Expr) (next : ℕ) (st : Stands e s at next) where
-      target-of : (c : Expr) × (cs : Exprs) × (headOf (through e) .tag ≡ 11) × (childrenOf (through e) ≡ more c cs) × Placed s target c
-      target-of =
-          let l = looked e next st in
-          let hd = head-at s p next (through e) l in
-          let t : headOf (through e) .tag ≡ 11 = sym (hd .1 .tag) ∙ field .1 in
-          let f = first-of s p next (through e) l t in
-          (f .0, f .1, t, f .2, subst (λ x. Placed s x (f .0)) (sym (field .0)) (f .3))
+    pub no-ident : (getD s q 0 ≡ 1 → ⊥) → false ≡ genericReceiver g e
+    no-ident never =
+        let f = target-of in
+        let l = inner (f .0) (f .4 .next) (f .4 .stands) in
+        let hd = head-at s q (f .4 .next) (through (f .0)) l in
+        let ne : eqb (headOf (through (f .0)) .tag) 1 ≡ false = ne-eqb _ 1 (λ t. never (hd .1 .tag ∙ t)) in
+        sym (receiver g e (f .0) (f .1) (f .2) (f .3) ∙ ap (λ x. x && (eqb (getD g (headOf (f .0) .ty) 0) 1)) ne)
 
-      pub no-ident : OneOf (others 1) (tagOf the-type w) → false ≡ genericReceiver g e
-      unfolding nodeOf
-      no-ident h =
-          let f = target-of in
-          let l = inner (f .0) (f .4 .next) (f .4 .stands) in
-          let hd = head-at s q (f .4 .next) (through (f .0)) l in
-          let ne : eqb (headOf (through (f .0)) .tag) 1 ≡ false = ne-eqb _ 1 (λ t. not-kind 1 tt s q ew refl h (hd .1 .tag ∙ t)) in
-          sym (receiver g e (f .0) (f .1) (f .2) (f .3) ∙ ap (λ x. x && (eqb (getD g (headOf (f .0) .ty) 0) 1)) ne)
-
-      pub ident : {name : ℕ} → w ≡ Ident name → eqb (getD g (two s (target + 5)) 0) 1 ≡ genericReceiver g e
-      ident {name} ei =
-          let f = target-of in
-          let l = inner (f .0) (f .4 .next) (f .4 .stands) in
-          let hd = head-at s q (f .4 .next) (through (f .0)) l in
-          let hc = head-at s target (f .4 .next) (f .0) (f .4 .stands) in
-          let t = tag-of s q (Ident name) (sym ei ∙ ew) (omega arith) in
-          let eq : eqb (headOf (through (f .0)) .tag) 1 ≡ true = eq-eqb _ 1 (sym (hd .1 .tag) ∙ t .0) in
-          sym (receiver g e (f .0) (f .1) (f .2) (f .3) ∙ ap (λ x. x && (eqb (getD g (headOf (f .0) .ty) 0) 1)) eq ∙ ap (λ x. eqb (getD g x 0) 1) (sym (hc .1 .ty)))
+    pub ident : getD s q 0 ≡ 1 → eqb (getD g (two s (p + 7 + 5)) 0) 1 ≡ genericReceiver g e
+    ident e1 =
+        let f = target-of in
+        let l = inner (f .0) (f .4 .next) (f .4 .stands) in
+        let hd = head-at s q (f .4 .next) (through (f .0)) l in
+        let hc = head-at s (p + 7) (f .4 .next) (f .0) (f .4 .stands) in
+        let eq : eqb (headOf (through (f .0)) .tag) 1 ≡ true = eq-eqb _ 1 (sym (hd .1 .tag) ∙ e1) in
+        sym (receiver g e (f .0) (f .1) (f .2) (f .3) ∙ ap (λ x. x && (eqb (getD g (headOf (f .0) .ty) 0) 1)) eq ∙ ap (λ x. eqb (getD g x 0) 1) (sym (hc .1 .ty)))
 
 -- the callee is the first child of a Call
 pub callee : (g s : List ℕ) (ks : Exprs) (first q : ℕ) {r : Bool} → count ks ≡ 1 → StandAll ks s first q

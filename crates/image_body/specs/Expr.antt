@@ -40,6 +40,10 @@ countWidth = 0 ∷ 0 ∷ 0 ∷ 0 ∷ 0 ∷ 0 ∷ 2 ∷ 2 ∷ 0 ∷ 2 ∷ 0 ∷ 0
 unfoldable pub lastWidth : List ℕ
 lastWidth = 0 ∷ 0 ∷ 0 ∷ 0 ∷ 0 ∷ 0 ∷ 0 ∷ 0 ∷ 0 ∷ 0 ∷ 0 ∷ 2 ∷ 0 ∷ 0 ∷ 0 ∷ 0 ∷ []
 
+-- a tag with nothing after the head
+abbrev pub leaf : ℕ → Bool
+leaf tag = ltb 0 tag && (ltb tag 16 && (eqb (getD fixedCount tag 0) 0 && (eqb (getD countWidth tag 0) 0 && eqb (getD lastWidth tag 0) 0)))
+
 -- what a body is read against: the numbers of names and types, for each type 1 if it is generic, perhaps behind pointers, and how
 -- deep an expression may be
 pub record Scope : Type 0 where

@@ -1,4 +1,6 @@
 // Answers what stands at a place of a body that was read: every answer equals what the definitions of specs/ say of the bytes.
+pub mod layout;
+
 ghost use mathlib.Core.Path.{_≡_};
 ghost use Prim.Native.Nat.{ℕ, _+_, _-_, _≤_, _<_};
 ghost use mathlib.Core.Bool.{cond};
@@ -11,16 +13,6 @@ ghost use Rattle.image_body.specs.Stands.{Stands, StandAll, count};
 ghost use Rattle.image_body.specs.Depth.{Walkable, WalkableAll};
 use image_fields::peek;
 use image_fields::peek_two;
-use image_fields::wide;
-
-// Expressions by tag, 0 to 15, as in specs/Expr.antt.
-const ARG_WIDTH: [u8; 16] = [0, 2, 0, 1, 0, 0, 0, 0, 0, 0, 0, 0, 0, 0, 2, 0];
-
-const FIXED_COUNT: [u8; 16] = [0, 0, 0, 1, 1, 2, 1, 0, 1, 0, 1, 1, 2, 0, 0, 0];
-
-const COUNT_WIDTH: [u8; 16] = [0, 0, 0, 0, 0, 0, 2, 2, 0, 2, 0, 0, 0, 0, 2, 0];
-
-const LAST_WIDTH: [u8; 16] = [0, 0, 0, 0, 0, 0, 0, 0, 0, 0, 0, 2, 0, 0, 0, 0];
 
 // How many names and types there are, and how deep an expression may be.
 pub struct Env {
@@ -82,15 +74,14 @@ pub fn strip_noop_unary(s: &[u8], at: usize) -> usize
     ensures { λ r. ⌜ ((e : Expr) (next : ℕ) → Stands e (now (s .entry)) at next → Stands (through e) (now (s .entry)) r next) ⌝ }
 {
     let mut p = at;
-    loop {
-        let Node::Unary(op, child) = node_at(s, p) else {
-            return p;
-        };
-        if 0 < op {
+    // 3: a Unary; its operator stands behind the head, then its child.
+    while peek(s, p) == 3 {
+        if 0 < peek(s, p + 7) {
             return p;
         }
-        p = child;
+        p += 8;
     }
+    p
 }
 
 // Whether the call whose callee stands at `at` has a generic receiver.
@@ -98,13 +89,15 @@ pub fn generic_receiver(s: &[u8], flags: &[u8], at: usize) -> bool
     ensures { λ r. ⌜ ((e : Expr) (next : ℕ) → Stands e (now (s .entry)) at next → r ≡ genericReceiver (now (flags .entry)) e) ⌝ }
 {
     let p = strip_noop_unary(s, at);
-    let Node::FieldAccess(target) = node_at(s, p) else {
+    // 11: a FieldAccess, its target behind the head; 1: an Ident.
+    if peek(s, p) != 11 {
         return false;
-    };
+    }
+    let target = p + 7;
     let q = strip_noop_unary(s, target);
-    let Node::Ident(_) = node_at(s, q) else {
+    if peek(s, q) != 1 {
         return false;
-    };
+    }
     peek(flags, peek_two(s, target + 5)) == 1
 }
 
@@ -125,12 +118,12 @@ pub fn skip(s: &[u8], left: usize, at: usize) -> usize
     let p = skip_many(
         s,
         left - 1,
-        wide(FIXED_COUNT[tag]),
-        at + 7 + wide(ARG_WIDTH[tag]),
+        layout::fixed_count(tag),
+        at + 7 + layout::arg_width(tag),
     );
-    let width = wide(COUNT_WIDTH[tag]);
+    let width = layout::count_width(tag);
     let q = skip_many(s, left - 1, items_at(s, width, p), p + width);
-    q + wide(LAST_WIDTH[tag])
+    q + layout::last_width(tag)
 }
 
 // The position after so many expressions of an image that was read.

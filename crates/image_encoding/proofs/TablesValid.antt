@@ -15,13 +15,13 @@ use Rattle.image_fields.specs.Bytes.{Bytes}
 use Rattle.image_fields.proofs.Inverse.{bound, ensure-ok}
 use Rattle.image_fields.proofs.Numbers.{field-ok}
 use Rattle.image_fields.proofs.Tables.{table-parts}
-use Rattle.image_fields.proofs.Tests.{and-true, false-true}
+use Rattle.image_fields.proofs.Tests.{and-true}
 use Rattle.tables.specs.Limits.{Limits}
-use Rattle.tables.specs.Name.{bytesAt, nameOf, sameBytes, nameAt, namesAt}
+use Rattle.tables.specs.Name.{bytesAt, nameOf, nameAt, namesAt}
 use Rattle.tables.specs.Ty.{Ty, shapeWidth, partsAt, typeAt, typesAt}
 use Rattle.tables.specs.Signature.{Method, Struct, Global, Param, Entry, methodAt, structRestAt, structAt, structsAt, globalAt, globalsAt, paramAt, thisWidth, entryAt}
 use Rattle.image_encoding.specs.Valid.{Each, ValidName, ValidNames, ValidType, ValidTypes, ValidMethod, ValidStruct, ValidStructs, ValidGlobal, ValidGlobals, ValidParam, ValidEntry}
-use Rattle.tables.proofs.Names.{length-bytes}
+use Rattle.tables.proofs.Names.{length-bytes, same-true}
 
 -- a number in no bytes is 0
 pub field-none : (f limit k : ℕ) (s : List ℕ) (p n q : ℕ) → fieldAt f limit k s p ≡ ok n q → k ≡ 0 → n ≡ 0
@@ -45,17 +45,6 @@ module _ {A : Type 0} (f : List A → ℕ → Parsed A) (Good : List A → A →
       let b : g .0 < limit = field-ok (g .2) .small in
       let v = entries-valid (g .0) [] (g .1) xs q (g .4) in
       (omega arith, omega arith, subst (λ ys. Each Good [] ys) (sym (v .1)) (v .2))
-
-same-true : (a b : List ℕ) → sameBytes a b ≡ true → a ≡ b
-unfolding sameBytes
-same-true [] [] e = refl
-same-true [] (y ∷ b) e = false-true e
-same-true (x ∷ a) [] e = false-true e
-same-true (x ∷ a) (y ∷ b) e =
-    let g = and-true (eqb x y) (sameBytes a b) e in
-    let h : x ≡ y = eqb-true x y (g .0) in
-    let i : a ≡ b = same-true a b (g .1) in
-    cc
 
 bytes-small : (s : List ℕ) → Bytes s → (n p : ℕ) → Bytes (bytesAt s p n)
 unfolding bytesAt

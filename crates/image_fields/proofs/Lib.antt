@@ -5,3 +5,4 @@ pub mod Answers
 pub mod Numbers
 pub mod Tables
 pub mod Rules
+pub mod Columns

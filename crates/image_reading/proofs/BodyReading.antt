@@ -1,24 +1,29 @@
 -- The steps of reading statements and blocks, as the code takes them.
 -- Assumes nothing.
-use mathlib.Core.Path.{_≡_, refl}
+use mathlib.Core.Path.{_≡_, refl, sym, _∙_}
 use mathlib.Core.List.{List, [], _∷_}
+use mathlib.Core.Bool.{Bool, not, _||_}
 use Prim.Native.Nat.{ℕ, zero, suc, _+_, _-_, _≤_, _<_}
 use native.Mathlib.Omega.{arith}
 use borrow.Author.Tests.{le-leb, lt-leb, ltb-true}
 use lib.ListN.{length, getD}
+use lib.Dec.{eqb, eqb→eq}
 use Rattle.image_fields.specs.Parsed.{Parsed, ok, fault, bind, ensure}
 use Rattle.image_fields.specs.Number.{two, four, fieldAt}
 use Rattle.image_fields.specs.Table.{manyOf}
 use Rattle.image_fields.specs.Answer.{readOf, numberOf}
-use Rattle.image_fields.specs.declared.Read.the-variants.{Fault}
+use Rattle.image_fields.specs.declared.Read.the-variants.{Next, Fault}
 use Rattle.image_fields.specs.declared.Number.{Number}
 use Rattle.image_fields.specs.declared.Number.the-variants.{Is}
 use Rattle.image_fields.proofs.Inverse.{ensure-ok, bound}
 use Rattle.image_fields.proofs.Answers.{number-ok, mapped}
 use Rattle.image_fields.proofs.Numbers.{field-ok}
+use Rattle.image_fields.proofs.Rules.{at}
+use Rattle.image_fields.proofs.Tables.{of-none}
 use Rattle.image_body.specs.Expr.{Exprs, Scope, exprsAt}
 use Rattle.image_body.specs.Stmt.{StmtHead, Front, Block, valueFlag, valueCount, typeWidth, blockCount, elseFlag, stmtHeadAt, valuesAt, frontAt, backAt, stmtAt, blockAt, stmtsAt}
 use Rattle.image_reading.specs.Answer.{stmtStartOf, frontOf}
+use Rattle.image_reading.proofs.Reading.{empty-field}
 use Rattle.image_reading.specs.declared.Start.{Start}
 use Rattle.image_reading.specs.declared.Start.the-variants.{Tag, Bad}
 
@@ -113,6 +118,18 @@ module _ (f : ℕ → Parsed Block) (s : List ℕ) (h : Front) (p : ℕ) {k : �
     pub back-done : {n r : ℕ} → fieldAt 8 2 m s q ≡ ok n r → readOf (backAt f s h p) ≡ readOf (manyOf [] _∷_ f n r)
     unfolding backAt bind
     back-done {n} {r} e = simp (← ek, e1, ← em, e) (mapped (manyOf [] _∷_ f n r) (λ cs. record { front = h; blocks = bs; others = cs }))
+
+-- a statement without blocks has no flag before an else either
+elseless : ℕ → ℕ → Bool
+elseless k x = not (eqb x 0) || eqb (getD elseFlag k 0) 0
+
+no-else : (k : ℕ) → k < 11 → 0 ≡ getD blockCount k 0 → 0 ≡ getD elseFlag k 0
+unfolding elseless blockCount elseFlag
+no-else k lt e = sym (eqb→eq _ _ (rw (← e) at (at elseless blockCount tt k lt)))
+
+pub no-blocks : (f : ℕ → Parsed Block) (s : List ℕ) (h : Front) (p : ℕ) → h .head .tag < 11 → 0 ≡ getD blockCount (h .head .tag) 0 → Next p ≡ readOf (backAt f s h p)
+unfolding manyOf
+no-blocks f s h p lt e = of-none [] _∷_ f 0 (omega arith) ∙ sym (back-done f s h p e refl (no-else _ lt e) (empty-field 2 s p (omega arith)))
 
 module _ (f : ℕ → Parsed Block) (t : Scope) (s : List ℕ) (at : ℕ) where
   pub stmt-stop : {n : ℕ} → frontAt t s at ≡ fault n → Fault n ≡ readOf (stmtAt f t s at)

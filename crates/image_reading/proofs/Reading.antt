@@ -1,6 +1,6 @@
 -- The steps of reading an expression, as the code takes them.
 -- Assumes nothing.
-use mathlib.Core.Path.{_≡_}
+use mathlib.Core.Path.{_≡_, refl, sym, ap, _∙_, subst}
 use mathlib.Core.List.{List}
 use mathlib.Core.Bool.{true, false}
 use Prim.Native.Nat.{ℕ, zero, suc, _-_, _≤_, _<_}
@@ -11,11 +11,16 @@ use Rattle.image_fields.specs.Parsed.{Parsed, ok, fault, bind, ensure}
 use Rattle.image_fields.specs.Number.{fieldAt}
 use Rattle.image_fields.specs.Answer.{readOf}
 use Rattle.image_fields.specs.declared.Read.the-variants.{Next, Fault}
-use Rattle.image_body.specs.Expr.{Head, Expr, Exprs, Scope, fixedCount, countWidth, lastWidth, exprsBy, genericCallee, headAt, endAt, restAt, exprAt}
+use Rattle.image_fields.specs.Table.{manyOf}
+use Rattle.image_fields.proofs.Inverse.{bind-ok, ensure-ok}
+use Rattle.image_fields.proofs.Numbers.{field-ok, field-good}
+use Rattle.image_fields.proofs.Tests.{false-true}
+use Rattle.image_body.specs.Expr.{Head, Expr, Exprs, Scope, none, argWidth, argLimit, leaf, fixedCount, countWidth, lastWidth, exprsBy, genericCallee, headAt, endAt, restAt, exprAt}
 use Rattle.image_reading.specs.Answer.{startOf}
 use Rattle.image_reading.specs.declared.Start.{Start}
 use Rattle.image_reading.specs.declared.Start.the-variants.{Tag, Bad}
 use Rattle.image_body.proofs.Standing.{head-stands}
+use Rattle.image_body.proofs.Columns.{leaf-columns, leaf-operator}
 
 -- a head was read: it has the tag, and what follows it stands at p
 pub start-ok : {x : Parsed Head} {k p : ℕ} {r : Start} → r ≡ startOf x → r ≡ Tag k p → (h : Head) × (x ≡ ok h p) × (h .tag ≡ k)
@@ -84,3 +89,26 @@ module _ (t : Scope) (s : List ℕ) (h : Head) (ks xs : Exprs) (u : ℕ) {k : �
     pub node-ends : (h .tag ≡ 6 → ⊥) → Next p ≡ readOf (endAt t s h ks xs u)
     unfolding endAt bind readOf ensure
     node-ends n6 = simp (← ek, e, ne-eqb _ _ n6)
+
+-- a field of no bytes
+pub empty-field : (limit : ℕ) (s : List ℕ) (at : ℕ) → 0 < limit → fieldAt 8 limit 0 s at ≡ ok 0 at
+empty-field limit s at lt = field-good 8 limit 0 s at refl (omega arith) refl lt ∙ ap (ok 0) (omega arith)
+
+-- a leaf: nothing follows its head, and there are names, since the argument was below their number
+module _ (t : Scope) (s : List ℕ) (at : ℕ) {h : Head} {p : ℕ} (e : headAt (t .names) (t .types) s at ≡ ok h p) (l : leaf (h .tag) ≡ true) where
+  some-names : 0 < t .names
+  unfolding headAt
+  some-names =
+      let (a, q, e1, e2) = bind-ok (ensure-ok _ (ensure-ok _ (ensure-ok _ (ensure-ok _ e .1) .1) .1) .1) in
+      let w : a < argLimit (t .names) (getD argWidth (getD s at 0) 0) = field-ok e1 .small in
+      let z = subst (λ k. a < argLimit (t .names) (getD argWidth k 0)) (head-stands (t .names) (t .types) s at h p e .0) w in
+      let y : a < t .names = rw (leaf-operator (h .tag) l) at z in
+      omega arith
+
+  pub leaf-ends : (f : ℕ → Parsed Expr) → Next p ≡ readOf (restAt f t s h p)
+  unfolding manyOf fixedCount countWidth lastWidth
+  leaf-ends f =
+      let c = leaf-columns (h .tag) l in
+      let none-left : exprsBy f 0 p ≡ ok none p = refl in
+      node-ends t s h none none p (sym (c .3)) (empty-field _ s p some-names) (λ z. false-true (sym (ap leaf z) ∙ l))
+      ∙ sym (ap readOf (to-end f t s h p (sym (c .1)) none-left (sym (c .2)) (empty-field _ s p (omega arith)) none-left))

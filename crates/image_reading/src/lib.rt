@@ -10,6 +10,7 @@ ghost use Rattle.image_body.specs.Answer.{scopeOf};
 ghost use Rattle.image_reading.specs.Answer.{startOf, stmtStartOf, frontOf};
 use image_body::Env;
 use image_body::generic_receiver;
+use image_body::layout;
 use image_fields::Number;
 use image_fields::Read;
 use image_fields::field;
@@ -18,28 +19,6 @@ use image_fields::peek_two;
 use image_fields::room;
 use image_fields::two_at;
 use image_fields::wide;
-
-// Expressions by tag, 0 to 15, as in image_body/specs/Expr.antt.
-const ARG_WIDTH: [u8; 16] = [0, 2, 0, 1, 0, 0, 0, 0, 0, 0, 0, 0, 0, 0, 2, 0];
-
-const FIXED_COUNT: [u8; 16] = [0, 0, 0, 1, 1, 2, 1, 0, 1, 0, 1, 1, 2, 0, 0, 0];
-
-const COUNT_WIDTH: [u8; 16] = [0, 0, 0, 0, 0, 0, 2, 2, 0, 2, 0, 0, 0, 0, 2, 0];
-
-const LAST_WIDTH: [u8; 16] = [0, 0, 0, 0, 0, 0, 0, 0, 0, 0, 0, 2, 0, 0, 0, 0];
-
-// Statements by tag, 0 to 10, as in image_body/specs/Stmt.antt.
-const HEAD_BYTES: [u8; 11] = [0, 1, 5, 5, 9, 9, 5, 5, 5, 5, 5];
-
-const VALUE_FLAG: [u8; 11] = [0, 0, 1, 0, 0, 0, 0, 0, 0, 0, 0];
-
-const VALUE_COUNT: [u8; 11] = [0, 0, 0, 1, 1, 1, 2, 1, 1, 0, 0];
-
-const TYPE_WIDTH: [u8; 11] = [0, 0, 2, 0, 0, 0, 2, 0, 0, 0, 0];
-
-const BLOCK_COUNT: [u8; 11] = [0, 1, 0, 0, 0, 0, 0, 1, 1, 0, 0];
-
-const ELSE_FLAG: [u8; 11] = [0, 0, 0, 0, 0, 0, 0, 1, 0, 0, 0];
 
 // A node's tag and the position of what follows its head, or the fault's number.
 pub enum Start {
@@ -85,7 +64,7 @@ fn read_head(s: &[u8], env: Env, at: usize) -> Start
     if !type_ok(env, tag, ty) {
         return Start::Bad(8);
     }
-    let width = wide(ARG_WIDTH[tag]);
+    let width = layout::arg_width(tag);
     match field(s, 8, arg_limit(env.names, width), width, at + 7) {
         Number::Is(_, next) => Start::Tag(tag, next),
         Number::Wrong(f) => Start::Bad(f),
@@ -98,7 +77,7 @@ fn read_end(s: &[u8], flags: &[u8], env: Env, tag: usize, first: usize, at: usiz
     ensures { λ r. ⌜ ((h : Head) (ks xs : Exprs) (q : ℕ) → h .tag ≡ tag → count ks ≡ getD fixedCount tag 0 → StandAll ks (now (s .entry)) first q
         → r ≡ readOf (endAt (scopeOf env (now (flags .entry))) (now (s .entry)) h ks xs at)) ⌝ }
 {
-    let width = wide(LAST_WIDTH[tag]);
+    let width = layout::last_width(tag);
     match field(s, 8, env.names, width, at) {
         Number::Wrong(f) => Read::Fault(f),
         Number::Is(_, next) => {
@@ -119,7 +98,12 @@ fn read_expr(s: &[u8], flags: &[u8], env: Env, left: usize, at: usize) -> Read
     if 0 < left {
         match read_head(s, env, at) {
             Start::Bad(f) => Read::Fault(f),
-            Start::Tag(tag, first) => read_children(s, flags, env, left - 1, tag, first),
+            Start::Tag(tag, first) => {
+                if layout::is_leaf(tag) {
+                    return Read::Next(first);
+                }
+                read_children(s, flags, env, left - 1, tag, first)
+            }
         }
     } else {
         Read::Fault(9)
@@ -131,11 +115,11 @@ fn read_children(s: &[u8], flags: &[u8], env: Env, left: usize, tag: usize, firs
     requires { ⌜ tag < 16 ⌝ }
     ensures { λ r. ⌜ ((h : Head) → h .tag ≡ tag → r ≡ readOf (childrenAt (scopeOf env (now (flags .entry))) (now (s .entry)) left h first)) ⌝ }
 {
-    let fixed = wide(FIXED_COUNT[tag]);
+    let fixed = layout::fixed_count(tag);
     match read_exprs(s, flags, env, left, fixed, first) {
         Read::Fault(f) => Read::Fault(f),
         Read::Next(p) => {
-            let width = wide(COUNT_WIDTH[tag]);
+            let width = layout::count_width(tag);
             match field(s, 8, 65536, width, p) {
                 Number::Wrong(f) => Read::Fault(f),
                 Number::Is(n, q) => match read_exprs(s, flags, env, left, n, q) {
@@ -192,7 +176,7 @@ fn read_stmt_head(s: &[u8], env: Env, at: usize) -> Start
     if 10 < tag {
         return Start::Bad(8);
     }
-    let size = wide(HEAD_BYTES[tag]);
+    let size = layout::head_bytes(tag);
     if room(s, at) < size {
         return Start::Bad(8);
     }
@@ -218,15 +202,15 @@ fn read_values(s: &[u8], flags: &[u8], env: Env, tag: usize, p: usize) -> Start
     requires { ⌜ tag < 11 ⌝ }
     ensures { λ r. ⌜ ((h : StmtHead) → h .tag ≡ tag → r ≡ frontOf (valuesAt (scopeOf env (now (flags .entry))) (now (s .entry)) h p)) ⌝ }
 {
-    let flag = wide(VALUE_FLAG[tag]);
+    let flag = layout::value_flag(tag);
     match field(s, 8, 2, flag, p) {
         Number::Wrong(f) => Start::Bad(f),
         Number::Is(n, q) => {
-            let count = wide(VALUE_COUNT[tag]);
+            let count = layout::value_count(tag);
             match read_exprs(s, flags, env, env.depth, count + n, q) {
                 Read::Fault(f) => Start::Bad(f),
                 Read::Next(r) => {
-                    let width = wide(TYPE_WIDTH[tag]);
+                    let width = layout::type_width(tag);
                     match field(s, 8, env.types, width, r) {
                         Number::Wrong(f) => Start::Bad(f),
                         Number::Is(_, u) => Start::Tag(tag, u),
@@ -278,7 +262,12 @@ fn read_stmt(s: &[u8], flags: &[u8], env: Env, left: usize, at: usize) -> Read
 {
     match read_front(s, flags, env, at) {
         Start::Bad(f) => Read::Fault(f),
-        Start::Tag(tag, p) => read_back(s, flags, env, left, tag, p),
+        Start::Tag(tag, p) => {
+            if layout::block_count(tag) == 0 {
+                return Read::Next(p);
+            }
+            read_back(s, flags, env, left, tag, p)
+        }
     }
 }
 
@@ -287,11 +276,11 @@ fn read_back(s: &[u8], flags: &[u8], env: Env, left: usize, tag: usize, p: usize
     requires { ⌜ tag < 11 ⌝ }
     ensures { λ r. ⌜ ((h : Front) → h .head .tag ≡ tag → r ≡ readOf (backIn (scopeOf env (now (flags .entry))) (now (s .entry)) left h p)) ⌝ }
 {
-    let count = wide(BLOCK_COUNT[tag]);
+    let count = layout::block_count(tag);
     match read_blocks(s, flags, env, left, count, p) {
         Read::Fault(f) => Read::Fault(f),
         Read::Next(q) => {
-            let flag = wide(ELSE_FLAG[tag]);
+            let flag = layout::else_flag(tag);
             match field(s, 8, 2, flag, q) {
                 Number::Wrong(f) => Read::Fault(f),
                 Number::Is(n, r) => read_blocks(s, flags, env, left, n, r),

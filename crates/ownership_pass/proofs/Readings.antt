@@ -1,22 +1,15 @@
--- From the reader's layout to the walk, and the room.
+-- From what the reader lends to the walk, and the room.
 -- Assumes nothing.
-use Prim.Native.Nat.{ℕ, _+_, _≤_, _<_}
+use Prim.Native.Nat.{ℕ, _<_}
 use native.Mathlib.Omega.{arith}
 use mathlib.Core.Path.{_≡_, refl, sym, ap, _∙_, subst}
 use mathlib.Core.List.{List, [], _∷_}
 use mathlib.Core.Option.{Option, none, some}
-use lib.ListN.{length, take, length-take, length-map}
 use Rattle.image_fields.specs.Bytes.{Bytes}
-use Rattle.tables.specs.Name.{nameOf}
-use Rattle.tables.specs.Ty.{typeIn}
-use Rattle.tables.specs.Signature.{structIn}
-use Rattle.tables.specs.Answer.{Listed}
 use Rattle.tables.specs.Limits.{version1}
 use Rattle.image.specs.Image.{Image, Decoded, accepted, refused, decode, encode, faultOf}
 use Rattle.image.specs.Layout.{Laid, Reads}
-use Rattle.image.specs.declared.Layout.{Layout}
 use Rattle.image.specs.declared.ImageRead.{ImageRead}
-use Rattle.image.proofs.Asking.{asking}
 use Rattle.image.proofs.Numbered.{zero-accepted}
 use Rattle.rules.specs.Report.{returnedImage}
 use Rattle.rules.specs.Walk.{imageFault}
@@ -27,8 +20,7 @@ use Rattle.statements_steps.specs.Own.{numberOf}
 use Rattle.statements_steps.proofs.Faults.{real-none}
 use Rattle.image_writing.specs.Memory.{Memory}
 use Rattle.blocks_ends.specs.declared.Env.{Env}
-use Rattle.entries_verdict.specs.declared.Parts.{Parts}
-use Rattle.entries_verdict.specs.declared.Seen.{Seen}
+use Rattle.entries_image.specs.declared.Seen.{Seen}
 use Rattle.ownership_pass.specs.declared.Answer.{Answer}
 use Rattle.ownership_pass.specs.declared.Answer.the-variants.{Needed, Denied}
 use Rattle.entries_verdict.specs.declared.Totals.{Totals}
@@ -36,54 +28,29 @@ use Rattle.entries_verdict.specs.declared.Outcome.{Outcome}
 use Rattle.entries_verdict.specs.declared.Outcome.the-variants.{Accepted, Refused}
 use Rattle.entries_verdict.specs.Passes.{Passes}
 use Rattle.ownership_pass.specs.Entries.{PassLeaves, RoomIs, RoomLeaves}
-use Rattle.entries_verdict.specs.Images.{Stands, Measures}
+use Rattle.entries_image.specs.Images.{ImageThere, Measures}
 use Rattle.entries_verdict.proofs.Rooms.{fault-some}
 
-abbrev pub envIn : Layout → Env
-envIn l = record { globals = l .rest .«global_count»; first = l .rest .globals; left = 12; limit = 64; width = 8; cur = 0 }
-
--- as many positions as entries
-listed-few : {A : Type 0} (view : ℕ → A) (s starts : List ℕ) (xs : List A) → Listed view s starts xs → length xs ≤ length starts
-listed-few view s starts xs g =
-    let a = ap length (g .placed) in
-    let b = length-map (take (length xs) starts) view in
-    let c = length-take (length xs) starts in
-    omega arith
-
-module _ (s : List ℕ) (r : ImageRead) (g : Reads s r) (z : 0 < r .fault → ⊥) where
+module _ (s tb : List ℕ) (r : ImageRead) (g : Reads s tb r) (z : 0 < r .fault → ⊥) where
   found : (i : Image) × (decode version1 s ≡ accepted i)
   found = zero-accepted version1 s (sym (g .fault) ∙ omega (arith, z))
 
-  abbrev laid : Laid s (found .0) (r .layout)
-  laid = g .layout (found .0) (found .1)
+  abbrev laid : Laid s (found .0) tb r
+  laid = g .laid (found .0) (found .1)
 
-  pub names-few : r .layout .«name_count» ≤ length (r .layout .names)
-  names-few = omega (arith, laid .nameCount, listed-few (nameOf s) s _ _ (laid .names))
-
-  pub types-few : r .layout .«type_count» ≤ length (r .layout .types)
-  types-few = omega (arith, laid .typeCount, listed-few (typeIn s) s _ _ (laid .types))
-
-  pub structs-few : r .layout .rest .«struct_count» ≤ length (r .layout .structs)
-  structs-few = omega (arith, laid .rest .structCount, listed-few (structIn s) s _ _ (laid .rest .structs))
-
-  pub stands-of : (env : Env) → env ≡ envIn (r .layout) → (parts : Parts) → parts ≡ record { entry = r .layout .rest .entry; body = r .layout .rest .body }
-      → Stands s (take (r .layout .«name_count») (r .layout .names)) (take (r .layout .«type_count») (r .layout .types)) (take (r .layout .rest .«struct_count») (r .layout .structs)) env (parts .entry) (parts .body)
-  stands-of env ee parts ep =
-      let a = asking s (found .0) (r .layout) (found .1) laid in
-      subst (λ (y : Parts). Stands s (take (r .layout .«name_count») (r .layout .names)) (take (r .layout .«type_count») (r .layout .types)) (take (r .layout .rest .«struct_count») (r .layout .structs)) env (y .entry) (y .body)) (sym ep)
-      (subst (λ (x : Env). Stands s (take (r .layout .«name_count») (r .layout .names)) (take (r .layout .«type_count») (r .layout .types)) (take (r .layout .rest .«struct_count») (r .layout .structs)) x (r .layout .rest .entry) (r .layout .rest .body)) (sym ee)
-      (record {
-        i = found .0;
-        read = found .1;
-        lent = record { names = a .namesWithin; types = a .typesWithin; structs = a .structsWithin; lower = a .lower; globals = laid .rest .globalsFit };
-        says = record { names = a .names; types = a .types; structs = a .structs; globals = laid .rest .globals };
-        left = refl;
-        limit = refl;
-        width = refl;
-        cur = refl;
-        entered = laid .rest .entry;
-        walked = laid .rest .body;
-      }))
+  pub image-there : (env : Env) → env ≡ record { left = 12; limit = 64; width = 8; cur = 0 } → ImageThere s tb env (r .entry) (r .body)
+  image-there env e = record {
+    i = found .0;
+    read = found .1;
+    lent = laid .lent;
+    says = laid .says;
+    left = ap (λ (x : Env). x .left) e;
+    limit = ap (λ (x : Env). x .limit) e;
+    width = ap (λ (x : Env). x .width) e;
+    cur = ap (λ (x : Env). x .cur) e;
+    entered = laid .entry;
+    walked = laid .body;
+  }
 
   module _ (w : Seen) (h : Measures s w) where
     walk-fault : w .fault ≡ numberOf (imageFault version1 (found .0))

@@ -5,8 +5,6 @@ ghost use Rattle.entries_verdict.specs.Passes.{Passes};
 ghost use Rattle.ownership_pass.specs.Entries.{PassLeaves, RoomIs, RoomLeaves};
 use blocks_ends::Env;
 use entries_verdict::Outcome;
-use entries_verdict::Parts;
-use image::Rest;
 
 // What the entry that answers the room answers; of a denial, the fault.
 pub enum Answer {
@@ -14,26 +12,15 @@ pub enum Answer {
     Denied(u8),
 }
 
-// What the walk asks of the rest of an image's layout.
-fn env_of(rest: Rest) -> Env
-    ensures { λ r. ⌜ r ≡ record { globals = rest .«global_count»; first = rest .globals; left = 12; limit = 64; width = 8; cur = 0 } ⌝ }
+// The numbers that a walk begins with: 12 blocks deep, 64 locals, 8 places, and rows from the first on.
+fn first_env() -> Env
+    ensures { λ r. ⌜ r ≡ record { left = 12; limit = 64; width = 8; cur = 0 } ⌝ }
 {
     Env {
-        globals: rest.global_count,
-        first: rest.globals,
         left: 12,
         limit: 64,
         width: 8,
         cur: 0,
-    }
-}
-
-fn parts_of(rest: Rest) -> Parts
-    ensures { λ r. ⌜ r ≡ record { entry = rest .entry; body = rest .body } ⌝ }
-{
-    Parts {
-        entry: rest.entry,
-        body: rest.body,
     }
 }
 
@@ -47,43 +34,27 @@ pub fn pass(
 ) -> Outcome
     ensures { λ r. ⌜ Passes (now (s .entry)) (memory (now (out .entry)) (now (errs .entry)) (now (warns .entry)) (now (lefts .entry))) r (memory (now (out .exit)) (now (errs .exit)) (now (warns .exit)) (now (lefts .exit))) ⌝ }
 {
-    let read = image::read_image(s);
+    let mut tb = [0u32; 1096];
+    let read = image::read_image(s, &mut tb);
     let fault = read.fault;
     if 0 < fault {
         return Outcome::Refused(fault);
     }
-    let layout = read.layout;
-    let rest = layout.rest;
-    let names = layout.names;
-    let types = layout.types;
-    let structs = layout.structs;
-    let ns = &names[..layout.name_count];
-    let ts = &types[..layout.type_count];
-    let xs = &structs[..rest.struct_count];
-    let env = env_of(rest);
-    let parts = parts_of(rest);
-    let size = entries_verdict::size_for(s.len());
-    entries_verdict::verdict(size, s, ns, ts, xs, env, parts, out, errs, warns, lefts)
+    let size = entries_sizes::size_for(s.len());
+    entries_sizes::verdict(size, s, &tb, first_env(), read, out, errs, warns, lefts)
 }
 
 // The bytes that the body given back needs.
 pub fn room(s: &[u8]) -> Answer
     ensures { λ r. ⌜ RoomIs (now (s .entry)) r ⌝ }
 {
-    let read = image::read_image(s);
+    let mut tb = [0u32; 1096];
+    let read = image::read_image(s, &mut tb);
     let fault = read.fault;
     if 0 < fault {
         return Answer::Denied(fault);
     }
-    let layout = read.layout;
-    let rest = layout.rest;
-    let names = layout.names;
-    let types = layout.types;
-    let structs = layout.structs;
-    let ns = &names[..layout.name_count];
-    let ts = &types[..layout.type_count];
-    let xs = &structs[..rest.struct_count];
-    let w = entries_verdict::measure(s, ns, ts, xs, env_of(rest), parts_of(rest));
+    let w = entries_image::measure(s, &tb, first_env(), read);
     let found = w.fault;
     if 0 < found {
         return Answer::Denied(found);

@@ -3,7 +3,7 @@
 -- Assumes nothing.
 use Prim.Native.Nat.{ℕ, suc, _<_}
 use native.Mathlib.Omega.{arith}
-use mathlib.Core.Path.{_≡_, refl, sym, _∙_, ap}
+use mathlib.Core.Path.{_≡_, refl}
 use mathlib.Core.Bool.{Bool, true, false, cond, not, _&&_}
 use mathlib.Core.List.{List, []}
 use mathlib.Core.Option.{Option, none, some}
@@ -19,7 +19,7 @@ use Rattle.rules.specs.State.{State}
 use Rattle.rules.specs.Stack.{Stack}
 use Rattle.rules.specs.Rules.{states, sureFrom, merge, joins, evaluate, afterVariable, exit, entered, localsOf}
 use Rattle.rules.specs.Walk.{tooMany, tooWide, crowded, walkFault, imageFault}
-use Rattle.rules.specs.Verdict.{Lent, Answer, answerOf, Verdict, refuses, answers, listsFit, outputFits, fitted, walked, decided, passVerdict, roomFaultOf, roomFault}
+use Rattle.rules.specs.Verdict.{Lent, Answer, answerOf, refuses, answers, listsFit, outputFits, walked, decided, passVerdict, roomFaultOf, roomFault}
 
 -- no fault, or one of the walk
 pub record Real (x : Option ℕ) : Type 0 where

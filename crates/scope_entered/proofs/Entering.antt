@@ -1,7 +1,7 @@
 -- Laws of locals added in the outermost frame.
 -- Assumes nothing.
 use Prim.Native.Nat.{ℕ, zero, suc, _+_, _*_, _≤_, _<_}
-use mathlib.Core.Path.{_≡_, refl, sym, ap, ap₂, subst, _∙_}
+use mathlib.Core.Path.{_≡_, refl, sym, ap, subst, _∙_}
 use mathlib.Core.List.{List, [], _∷_, _++_, map}
 use mathlib.Core.Bool.{Bool, false}
 use native.Mathlib.Omega.{arith}
@@ -14,9 +14,9 @@ use Rattle.image_fields.proofs.Tests.{false-true}
 use Rattle.image_fields.proofs.Tables.{entries-more}
 use Rattle.tables.specs.Limits.{version1}
 use Rattle.tables.specs.Tables.{Tables}
-use Rattle.tables.specs.Ty.{typeIn}
-use Rattle.tables.specs.Signature.{Entry, Param, paramIn, structIn, entryAt}
+use Rattle.tables.specs.Signature.{Entry, Param, paramIn, entryAt}
 use Rattle.tables_lookup.specs.Ty.{shouldAutoDelete}
+use Rattle.tables_lookup.specs.Lent.{Lent, Says}
 use Rattle.rules.specs.Questions.{auto}
 use Rattle.rules.specs.State.{State as Status}
 use Rattle.rules.specs.Stack.{shape, Stack as Scope}
@@ -50,49 +50,50 @@ unfolding entries
 params-length s zero at = refl
 params-length s (suc n) at = ap suc (params-length s n (at + 4))
 
-module _ (s ts xs : List ℕ) where
+module _ (tb : List ℕ) where
   -- nothing added, one local, and more after some
-  pub adds-none : (l : Locals) → Kept l → Adds s ts xs [] l l
-  adds-none l k = record { kept = k; count = omega arith; drops = λ ns count first T says d. d; is = λ T t f rows cur width. refl }
+  pub adds-none : (l : Locals) → Kept l → Adds tb [] l l
+  adds-none l k = record { kept = k; count = omega arith; drops = λ s T lent says d. d; is = λ T t f rows cur width. refl }
 
-  pub adds-one : (l r : Locals) (name ty : ℕ) (dtor : Bool) → l .count < 64 → dtor ≡ shouldAutoDelete (map (typeIn s) ts) (map (structIn s) xs) ty → Grows l name ty 0 dtor r
-      → Adds s ts xs (record { name = name; ty = ty } ∷ []) l r
+  pub adds-one : (l r : Locals) (name ty : ℕ) (dtor : Bool) → l .count < 64 → ((s : List ℕ) (T : Tables) → Lent s tb → Says s tb T → dtor ≡ shouldAutoDelete (T .types) (T .structs) ty) → Grows l name ty 0 dtor r
+      → Adds tb (record { name = name; ty = ty } ∷ []) l r
   unfolding auto
   adds-one l r name ty dtor low e g = record {
     kept = g .kept;
     count = g .count;
-    drops = λ ns count first T says d. g .drops T (e ∙ ap₂ (λ a b. shouldAutoDelete a b ty) (says .types) (says .structs)) d;
+    drops = λ s T lent says d. g .drops T (e s T lent says) d;
     is = λ T t f rows cur width. registers-fresh l r name ty 0 dtor g t rows cur width (rowed-none (l .count) t rows cur width f) (calm t f) (omega arith);
   }
     where
       calm : (t : States) → Fresh t → (i : ℕ) → i < 64 → aliveAt t i ≡ false → Named (r .names) (r .depths) name 0 i → ⊥
       calm t f i h off is = false-true (sym off ∙ ap (λ (k : ℕ). eqb k 0) (f i))
 
-  pub adds-both : (ps qs : List Param) (l m r : Locals) → Adds s ts xs ps l m → Adds s ts xs qs m r → Adds s ts xs (ps ++ qs) l r
+  pub adds-both : (ps qs : List Param) (l m r : Locals) → Adds tb ps l m → Adds tb qs m r → Adds tb (ps ++ qs) l r
   adds-both ps qs l m r a b = record {
     kept = b .kept;
     count = let z = length-append ps qs in omega (arith, a .count, b .count);
-    drops = λ ns count first T says d. b .drops ns count first T says (a .drops ns count first T says d);
+    drops = λ s T lent says d. b .drops s T lent says (a .drops s T lent says d);
     is = λ T t f rows cur width. b .is T t f rows cur width ∙ ap (entered states T qs) (a .is T t f rows cur width) ∙ sym (entered-both T ps qs (view l t rows cur width));
   }
 
+module _ (s tb : List ℕ) where
   -- the parameters after one more
-  pub adds-next : (l m r : Locals) (i at n t : ℕ) → n ≡ two s (at + 4 * i) → t ≡ two s (at + 4 * i + 2) → Adds s ts xs (paramsIn s i at) l m
-      → Adds s ts xs (record { name = n; ty = t } ∷ []) m r → Adds s ts xs (paramsIn s (i + 1) at) l r
-  adds-next l m r i at n t en et a b = subst (λ (ps : List Param). Adds s ts xs ps l r) (params-next s i at n t en et) (adds-both (paramsIn s i at) _ l m r a b)
+  pub adds-next : (l m r : Locals) (i at n t : ℕ) → n ≡ two s (at + 4 * i) → t ≡ two s (at + 4 * i + 2) → Adds tb (paramsIn s i at) l m
+      → Adds tb (record { name = n; ty = t } ∷ []) m r → Adds tb (paramsIn s (i + 1) at) l r
+  adds-next l m r i at n t en et a b = subst (λ (ps : List Param). Adds tb ps l r) (params-next s i at n t en et) (adds-both tb (paramsIn s i at) _ l m r a b)
 
-  pub adds-count : (l r : Locals) (many at : ℕ) → Adds s ts xs (paramsIn s many at) l r → r .count ≡ l .count + many
+  pub adds-count : (l r : Locals) (many at : ℕ) → Adds tb (paramsIn s many at) l r → r .count ≡ l .count + many
   adds-count l r many at a = a .count ∙ ap (λ (k : ℕ). l .count + k) (params-length s many at)
 
   -- the locals of an entry, registered from none on
   pub entering : (at : ℕ) (ps : List Param) → ((names types : ℕ) (x : Entry) (next : ℕ) → entryAt version1 names types s at ≡ ok x next → localsOf x ≡ ps) → (l r : Locals)
-      → l .count ≡ 0 → ((T : Tables) → Drops T l) → r .count ≤ 17 → Adds s ts xs ps l r → Enters s ts xs at r
+      → l .count ≡ 0 → ((T : Tables) → Drops T l) → r .count ≤ 17 → Adds tb ps l r → Enters s tb at r
   entering at ps e l r z d few a = record {
     kept = a .kept;
     few = few;
     nested = λ t rows cur width. nested-view 0 r none t [] rows 0 cur width
         (subst (λ (σ : Scope Status). Nested 0 (shape σ)) (sym (whole T₀ none (λ i. refl) [] 0 width)) (nested-entered T₀ ps [] tt));
-    drops = λ ns count first T says. a .drops ns count first T says (d T);
+    drops = λ T lent says. a .drops s T lent says (d T);
     is = λ names types x next g T t f rows cur width. whole T t f rows cur width ∙ ap (λ (qs : List Param). entered states T qs []) (sym (e names types x next g));
   }
     where

@@ -1,11 +1,11 @@
 -- Whole stacks: registrations, the end of a block, drops and rows elsewhere, as the rules say them.
 -- Assumes nothing.
-use Prim.Native.Nat.{ℕ, zero, suc, _+_, _-_, _*_, _≤_, _<_}
+use Prim.Native.Nat.{ℕ, zero, suc, _+_, _-_, _≤_, _<_}
 use mathlib.Core.Path.{_≡_, refl, sym, ap, ap₂, _∙_, subst}
 use mathlib.Core.Bool.{Bool, true, false, cond, _&&_}
 use mathlib.Core.List.{List, [], _∷_}
-use mathlib.Core.Logic.{_⊎_, inl, inr, ⊎-elim}
-use borrow.Author.Tests.{eqb-true, eqb-false, eq-eqb, ne-eqb}
+use mathlib.Core.Logic.{⊎-elim}
+use borrow.Author.Tests.{eqb-true, eq-eqb}
 use native.Mathlib.Omega.{arith}
 use lib.Bits.{bitAnd}
 use lib.Dec.{eqb}
@@ -14,7 +14,7 @@ use Rattle.image_fields.proofs.Tests.{split, less, and-true}
 use Rattle.tables.specs.Tables.{Tables}
 use Rattle.rules.specs.Questions.{auto}
 use Rattle.rules.specs.State.{State as Status, deleted, moved, consumed, alive, isAlive, handState}
-use Rattle.rules.specs.Stack.{Static, Local, local, shape, inFrame, mark, pop, Stack as Scope}
+use Rattle.rules.specs.Stack.{Static, local, shape, mark, pop, Stack as Scope}
 use Rattle.rules.specs.Rules.{states, register, Drop, dropOf, collect}
 use Rattle.rules.proofs.Bools.{eqb-self}
 use Rattle.scope_state.specs.Kinds.{said, put}
@@ -22,12 +22,12 @@ use Rattle.scope_stack.specs.declared.Locals.{Locals}
 use Rattle.scope_stack.specs.declared.States.{States}
 use Rattle.scope_stack.specs.declared.Entry.{Entry}
 use Rattle.scope_stack.specs.Word.{wordOf, Newest}
-use Rattle.scope_stack.specs.View.{stacked, staticAt, entryAt, aliveAt, rowOf, saidAt, stateAt, view, Known, Kept, Held, Rowed, Sound, Drops, dtorAt, dropAt, Nested, Grows, Marks, Named, Leaves, Extends}
-use Rattle.scope_stack.specs.Rows.{Copied, Copies, JoinsAll}
+use Rattle.scope_stack.specs.View.{stacked, staticAt, entryAt, aliveAt, rowOf, saidAt, stateAt, view, Known, Kept, Held, Rowed, Sound, Drops, dtorAt, dropAt, Nested, Grows, Marks, Named, Leaves}
+use Rattle.scope_stack.specs.Rows.{Copied, Copies}
 use Rattle.scope_stack.proofs.Words.{word-both, word-zero}
 use Rattle.scope_stack.proofs.Stacked.{length-stacked, shape-same, stacked-more, stacked-none, agree, framed}
 use Rattle.scope_stack.proofs.Frames.{pop-keeps, mark-same, hand-put}
-use Rattle.scope_stack.proofs.Marked.{said-one, known-one, lives-at}
+use Rattle.scope_stack.proofs.Marked.{known-one, lives-at}
 use Rattle.scope_stack.proofs.Rowing.{known-same, said-same, row-before}
 
 -- an Alive slot
@@ -110,13 +110,10 @@ marked-alive n p σ = refl
 pub handed : (n p : ℕ) (σ : Scope Status) → mark n (put true (said 2 (p ∷ []))) σ ≡ mark n (handState p) σ
 handed n p σ = mark-same n (put true (said 2 (p ∷ []))) (handState p) (hand-put p) σ
 
--- what keeps a stack sound
+-- a mark keeps a stack sound
 pub sound-mark : (l : Locals) (t r : States) (name : ℕ) (f : Status → Status) (rows : List ℕ) (cur width : ℕ) → Sound l t rows cur width → Held r → Marks l name f t r
     → Sound l r rows cur width
 sound-mark l t r name f rows cur width s h m = record { kept = s .kept; held = h; rowed = m .rowed rows cur width (s .rowed) }
-
-pub sound-join : (l : Locals) (t u r : States) (rows new : List ℕ) (a b width told : ℕ) → Kept l → JoinsAll (l .count) width t u rows a b r new told → told ≡ 0 → Sound l r new a width
-sound-join l t u r rows new a b width told k j e = record { kept = k; held = j .held e; rowed = j .rowed e }
 
 -- fault 12 is decided by the count, whatever is registered
 pub register-length : (l : Locals) (name ty depth : ℕ) (t : States) (rows : List ℕ) (cur width : ℕ)
@@ -168,7 +165,12 @@ module _ (l r : Locals) (name ty depth : ℕ) (dtor : Bool) (g : Grows l name ty
       (λ k lk. frame-alive calm small k lk (eqb (getD (l .names) k 0) name && eqb (getD (l .depths) k 0) depth) refl)
       ∙ sym (framed name depth (λ (a : Status). alive) (staticAt l) (stateAt t rows cur width) (l .count)))
 
--- the locals of a block, one more
+-- the locals of a block of depth d, m, and those that it was entered with
+pub record Extends (d : ℕ) (l m : Locals) : Type 0 where
+  pub most : l .count ≤ m .count
+  pub older : (i : ℕ) → i < l .count → staticAt m i ≡ staticAt l i
+  pub newer : (i : ℕ) → l .count ≤ i → i < m .count → staticAt m i .depth ≡ d
+
 pub extends-none : (d : ℕ) (l : Locals) → Extends d l l
 extends-none d l = record { most = omega arith; older = λ i li. refl; newer = λ i a b. absurd (omega arith) }
 

@@ -1,21 +1,17 @@
 -- What Locals, States and the lent rows stand for together, and what every stack of the pass meets.
 use Prim.Native.Nat.{ℕ, zero, suc, _+_, _*_, _-_, _^_, _≤_, _<_}
 use mathlib.Core.Path.{_≡_}
-use mathlib.Core.Bool.{Bool, true, false, cond, not, _&&_}
+use mathlib.Core.Bool.{Bool, cond, _&&_}
 use mathlib.Core.List.{List, [], _∷_}
-use mathlib.Core.Logic.{_⊎_}
 use mathlib.Core.Option.{Option, none, some}
 use lib.Dec.{eqb, ltb}
 use lib.ListN.{length, getD, take, drop}
-use Rattle.tables.specs.Limits.{version1}
 use Rattle.tables.specs.Tables.{Tables}
 use Rattle.tables_lookup.specs.declared.Found.{Found}
 use Rattle.tables_lookup.specs.declared.Found.the-variants.{At, Nothing}
 use Rattle.rules.specs.Questions.{auto}
-use Rattle.rules.specs.State.{State as Status, joinState}
-use Rattle.rules.specs.Stack.{Static, Local, local, Shape, shape, lookup, mark, Stack as Scope}
-use Rattle.rules.specs.Rules.{states, Drop, dropOf, collect, joins}
-use Rattle.rules.specs.Walk.{placesOf, crowded}
+use Rattle.rules.specs.State.{State as Status}
+use Rattle.rules.specs.Stack.{Static, Local, local, Shape, lookup, mark, Stack as Scope}
 use Rattle.scope_state.specs.Kinds.{said}
 use Rattle.scope_stack.specs.declared.Locals.{Locals}
 use Rattle.scope_stack.specs.declared.States.{States}
@@ -150,9 +146,3 @@ pub record Leaves (n m : ℕ) (t r : States) : Type 0 where
   pub older : (i : ℕ) → i < n → entryAt r i ≡ entryAt t i
   pub newer : (i : ℕ) → n ≤ i → i < m → getD (r .kinds) i 0 ≡ 0
   pub past : (i : ℕ) → m ≤ i → entryAt r i ≡ entryAt t i
-
--- the locals of a block of depth d, m, and those that it was entered with
-pub record Extends (d : ℕ) (l m : Locals) : Type 0 where
-  pub most : l .count ≤ m .count
-  pub older : (i : ℕ) → i < l .count → staticAt m i ≡ staticAt l i
-  pub newer : (i : ℕ) → l .count ≤ i → i < m .count → staticAt m i .depth ≡ d

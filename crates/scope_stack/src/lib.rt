@@ -16,24 +16,29 @@ ghost use Rattle.scope_stack.specs.View.{stacked, staticAt, depthOf, Kep
 ghost use Rattle.scope_state.specs.View.{listed, stateOf, Roomy, Made};
 ghost use Rattle.scope_stack.specs.View.{rowAt, saidAt, Known};
 ghost use Rattle.scope_stack.specs.Rows.{Wrote, Loads, Alike, JoinsAt, Branches, JoinsAll, Copied, Copies};
+use scope_state::Depths;
+use scope_state::Firsts;
+use scope_state::Kinds;
+use scope_state::Names;
 use scope_state::Places;
 use scope_state::State;
+use scope_state::Types;
 use tables_lookup::Found;
 
 // The locals registered, oldest first: the first count of each array. A bit of dtors for each whose type has a destructor.
 pub struct Locals {
     pub count: usize,
-    pub names: [u16; 64],
-    pub types: [u16; 64],
-    pub depths: [u8; 64],
+    pub names: Names,
+    pub types: Types,
+    pub depths: Depths,
     pub dtors: u64,
 }
 
 // Their states: kind 0 Alive, 1 to 6 the error that a use reports, with one place, and 8 more where a row has the places. A bit of words
 // for each that is Alive; what is past the locals is Alive.
 pub struct States {
-    pub kinds: [u8; 64],
-    pub firsts: [u32; 64],
+    pub kinds: Kinds,
+    pub firsts: Firsts,
     pub words: u64,
 }
 
@@ -44,7 +49,7 @@ pub struct Entry {
 }
 
 // find_local: the number of the newest local of a name.
-pub fn find_local(names: &[u16; 64], count: usize, name: u16) -> Found
+pub fn find_local(names: &Names, count: usize, name: u16) -> Found
     requires { ⌜ count ≤ 64 ⌝ }
     ensures { λ r. ⌜ ((l : Locals) (g : ℕ → Status) → l .names ≡ now (names .entry) → l .count ≡ count → Finds name l g r) ⌝ }
 {
@@ -60,7 +65,7 @@ pub fn find_local(names: &[u16; 64], count: usize, name: u16) -> Found
 }
 
 // The depth of the newest local of a name, or 0.
-fn frame_of<'a>(names: &'a [u16; 64], depths: &'a [u8; 64], count: usize, name: u16) -> u8
+fn frame_of<'a>(names: &'a Names, depths: &'a Depths, count: usize, name: u16) -> u8
     requires { ⌜ count ≤ 64 ⌝ }
     ensures { λ r. ⌜ ((l : Locals) (g : ℕ → Status) → l .names ≡ now (names .entry) → l .depths ≡ now (depths .entry) → l .count ≡ count → r ≡ depthOf name (stacked (l .count) (staticAt l) g)) ⌝ }
 {
@@ -185,8 +190,8 @@ impl States {
     // The innermost frame that has the name gives its locals of the name a state; where `only_alive`, those that live.
     pub fn mark<'a>(
         mut self,
-        names: &'a [u16; 64],
-        depths: &'a [u8; 64],
+        names: &'a Names,
+        depths: &'a Depths,
         n: usize,
         name: u16,
         kind: u8,
@@ -274,8 +279,8 @@ impl States {
 
 // Whether some local of the name in the frame of a depth is not Alive: then its registration marks it Alive.
 pub fn needs_revival<'a>(
-    names: &'a [u16; 64],
-    depths: &'a [u8; 64],
+    names: &'a Names,
+    depths: &'a Depths,
     words: u64,
     name: u16,
     depth: u8,
@@ -416,7 +421,7 @@ fn join_at(x: Entry, y: Entry, rows: &mut [u32], row: usize, more: usize, width:
 
 // The rows of n locals, from a place to another; or false, where the rows end before one that is needed.
 pub fn copy_rows(
-    kinds: &[u8; 64],
+    kinds: &Kinds,
     n: usize,
     rows: &mut [u32],
     src: usize,

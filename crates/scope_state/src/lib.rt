@@ -9,6 +9,17 @@ ghost use Rattle.rules.specs.State.{alive, placesEq, combine as combined, joinS
 ghost use Rattle.scope_state.specs.Kinds.{said, baseOf, conditional as conditionalOf, family as familyOf};
 ghost use Rattle.scope_state.specs.View.{listed, stateOf, Roomy, Made, Fits, Joins};
 
+// A number for each local; how many a stack may have stands here alone.
+pub type Names = [u16; 64];
+
+pub type Types = [u16; 64];
+
+pub type Depths = [u8; 64];
+
+pub type Kinds = [u8; 64];
+
+pub type Firsts = [u32; 64];
+
 // Where a name was given up: the first count of the list.
 pub struct Places {
     pub count: u8,

@@ -34,7 +34,7 @@ use Rattle.rules.specs.Effects.{takeOver, assignTakes}
 use Rattle.rules.specs.Rules.{Drop, dropOf, states, applyAll, collect, dropNamed, assignDrops, returnDrops}
 use Rattle.rules.specs.Report.{left as leaves, warnings, lefts, deleteNode, unused, leftBehind}
 use Rattle.rules.specs.Verdict.{entriesOf}
-use Rattle.expressions_effects.proofs.Laws.{within}
+use Rattle.image_body.proofs.Walking.{within}
 use Rattle.image_writing.specs.Stored.{Stored}
 use Rattle.image_writing.proofs.Stores.{both-stored, none-stored}
 use Rattle.statements_steps.specs.Drops.{deleteBytes}

@@ -19,10 +19,6 @@ use Rattle.statements_acts.proofs.Fronts.{front-assign, front-return, f
 use Rattle.statements_steps.specs.Statement.{frontSize}
 use Rattle.statements_acts.specs.Marks.{EndsThere}
 
--- the tables that stand there, but for the globals
-abbrev pub tabled : List ℕ → List ℕ → List ℕ → List ℕ → Tables
-tabled s ns ts xs = record { names = map (nameOf s) ns; types = map (typeIn s) ts; structs = map (structIn s) xs; globals = [] }
-
 abbrev bare : Tables
 bare = record { names = []; types = []; structs = []; globals = [] }
 

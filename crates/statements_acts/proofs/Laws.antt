@@ -20,7 +20,7 @@ use Rattle.rules.specs.Report.{deleteNode, identNode}
 use Rattle.image_writing.specs.Stored.{Stored}
 use Rattle.image_writing.proofs.Stores.{none-stored, both-stored}
 use Rattle.statements_steps.specs.Drops.{deleteBytes}
-use Rattle.statements_acts.specs.Drops.{admitted, Tells}
+use Rattle.statements_acts.specs.Drops.{admitted}
 use Rattle.statements_acts.specs.declared.Which.{Which}
 use Rattle.statements_acts.specs.declared.Which.the-variants.{Frame, But, All}
 
@@ -36,10 +36,9 @@ module _ (w : Which) (l : Static) where
   all-admits e = ap (λ (x : Which). admitted x l) (sym e)
 
 -- the question to the tables
-pub auto-is : (s ts xs : List ℕ) (T : Tables) → Tells s ts xs T → {r : Bool} (k t : ℕ) → k ≡ t
-    → r ≡ shouldAutoDelete (map (typeIn s) ts) (map (structIn s) xs) k → r ≡ auto T t
+pub auto-is : (T : Tables) {r : Bool} (k t : ℕ) → k ≡ t → r ≡ shouldAutoDelete (T .types) (T .structs) k → r ≡ auto T t
 unfolding auto
-auto-is s ts xs T h k t ek e = e ∙ rw (h .types, h .structs, ek)
+auto-is T k t ek e = e ∙ ap (shouldAutoDelete (T .types) (T .structs)) ek
 
 -- nothing is put, or one delete
 module _ (old : List ℕ) (at : ℕ) (x : List Drop) where

@@ -1,16 +1,11 @@
 -- What the code of a statement does, whatever statement was read there.
 use Prim.Native.Nat.{ℕ, _+_, _*_, _≤_}
 use mathlib.Core.Path.{_≡_}
-use mathlib.Core.List.{List, map}
+use mathlib.Core.List.{List}
 use lib.ListN.{length}
 use Rattle.image_fields.specs.Parsed.{Parsed, ok}
 use Rattle.tables.specs.Limits.{version1}
 use Rattle.tables.specs.Tables.{Tables}
-use Rattle.tables.specs.Name.{nameOf}
-use Rattle.tables.specs.Ty.{typeIn}
-use Rattle.tables.specs.Signature.{structIn}
-use Rattle.tables_lookup.specs.First.{AllWithin}
-use Rattle.tables_lookup.specs.Ty.{Lower}
 use Rattle.image_body.specs.Expr.{Scope as Reading, exprsAt}
 use Rattle.image_body.specs.Stmt.{Tree, Block, Stmt, before, stmtAt}
 use Rattle.rules.specs.Expr as rules
@@ -43,18 +38,6 @@ changeIn d (Revive n) σ = mark n (λ a. alive) σ
 abbrev pub takenIn : Named → Scope Status → Scope Status
 takenIn Nobody σ = σ
 takenIn (Called n p) σ = mark n (states .killed deleted p) σ
-
--- what the questions to the tables require of the positions lent, and the tables that stand there
-pub record Positions (s ns ts xs : List ℕ) : Type 0 where
-  pub names : AllWithin s ns
-  pub types : AllWithin s ts
-  pub structs : AllWithin s xs
-  pub lower : Lower (map (typeIn s) ts)
-
-pub record Tabled (s ns ts xs : List ℕ) (T : Tables) : Type 0 where
-  pub names : map (nameOf s) ns ≡ T .names
-  pub types : map (typeIn s) ts ≡ T .types
-  pub structs : map (structIn s) xs ≡ T .structs
 
 -- some statement was read at a position, and its values end there
 pub record FrontThere (s : List ℕ) (at end : ℕ) : Type 0 where

@@ -1,6 +1,5 @@
 // What each kind of statement writes before its blocks, and how it changes the scope stack: the arms of transform_block. Throughout,
-// ns, ts and xs are where the names, types and structs stand in the image s, ln, lt and ld the names, types and depths of the n locals,
-// all lent, and a bit of mark is set for each local that is Alive and of a type with a destructor.
+// tb has the tables of the image s, ns where the names stand, ln, lt and ld the names, types and depths of the n locals, all lent, and a bit of mark is set for each local that is Alive and of a type with a destructor.
 ghost use mathlib.Core.Path.{_≡_};
 ghost use mathlib.Core.Bool.{cond, _&&_, _||_};
 ghost use mathlib.Core.List.{List, map};
@@ -12,6 +11,7 @@ ghost use Rattle.tables.specs.Limits.{version1};
 ghost use Rattle.tables.specs.Tables.{Tables};
 ghost use Rattle.tables.specs.Name.{nameOf};
 ghost use Rattle.tables_lookup.specs.First.{AllWithin};
+ghost use Rattle.tables_lookup.specs.Lent.{Lent, Says};
 ghost use Rattle.image_body.specs.Expr.{Expr};
 ghost use Rattle.image_body.specs.Stands.{Stands};
 ghost use Rattle.image_body.specs.Depth.{Walkable};
@@ -25,15 +25,18 @@ ghost use Rattle.rules.specs.Report.{leftBehind};
 ghost use Rattle.rules.specs.Verdict.{entriesOf};
 ghost use Rattle.image_writing.specs.Stored.{Stored};
 ghost use Rattle.statements_steps.specs.Drops.{deleteBytes};
-ghost use Rattle.statements_acts.specs.Drops.{admitted, Askable, Tells};
+ghost use Rattle.statements_acts.specs.Drops.{admitted};
 ghost use Rattle.statements_acts.specs.declared.Which.the-variants.{All};
-ghost use Rattle.statements_acts.specs.Act.{namedOf, takenIn, Positions, Tabled, FrontThere, Within, Grows, ActsThere};
+ghost use Rattle.statements_acts.specs.Act.{namedOf, takenIn, FrontThere, Within, Grows, ActsThere};
 ghost use Rattle.statements_acts.specs.Parts.{deletedName, deleteOf, reviveOf, takesOver, noPut, sparing, relisted, Copied, WarnsAt, Untouched};
 ghost use Rattle.statements_acts.specs.Marks.{HoldsAll, lent, Marked, EndsThere};
 use expressions_effects::name_at;
 use expressions_effects::span_at;
 use image_body::Node;
 use image_fields::peek;
+use scope_state::Depths;
+use scope_state::Names;
+use scope_state::Types;
 use tables_lookup::Found;
 
 // A name and the span of its node, or none.
@@ -115,16 +118,16 @@ fn deleted_identifier(s: &[u8], at: usize) -> Change
 }
 
 // Where the tag of a call's callee stands, if the expression is a call whose result should be deleted; else 0.
-fn unused_callee(s: &[u8], ts: &[usize], xs: &[usize], at: usize) -> usize
-    requires { ⌜ Askable (now s) (now ts) (now xs) × (at < length (now s)) ⌝ }
-    ensures { λ r. ⌜ (r < length (now (s .entry)) + 8) × ((T : Tables) → Tells (now (s .entry)) (now (ts .entry)) (now (xs .entry)) T
+fn unused_callee(s: &[u8], tb: &[u32], at: usize) -> usize
+    requires { ⌜ Lent (now s) (now tb) × (at < length (now s)) ⌝ }
+    ensures { λ r. ⌜ (r < length (now (s .entry)) + 8) × ((T : Tables) → Says (now (s .entry)) (now (tb .entry)) T
         → (e : Expr) (next : ℕ) → Stands e (now (s .entry)) at next → r ≡ cond (auto T (tyOf e) && isCall (viewed e)) (calleeAt e at) 0) ⌝ }
 {
     let p = image_body::strip_noop_unary(s, at);
     let Node::Call(callee) = image_body::node_at(s, p) else {
         return 0;
     };
-    if tables_lookup::should_auto_delete(s, ts, xs, image_fields::peek_two(s, at + 5)) {
+    if tables_lookup::auto_deleted(tb, image_fields::peek_two(s, at + 5)) {
         return callee;
     }
     0
@@ -133,9 +136,9 @@ fn unused_callee(s: &[u8], ts: &[usize], xs: &[usize], at: usize) -> usize
 // Whether a temporary is taken over by a name of a type: a local of that type, and the name no temporary.
 fn takes<'a>(
     s: &[u8],
-    ns: &[usize],
-    ln: &'a [u16; 64],
-    lt: &'a [u16; 64],
+    ns: &[u32],
+    ln: &'a Names,
+    lt: &'a Types,
     n: usize,
     temp: u16,
     name: u16,
@@ -164,9 +167,9 @@ fn takes<'a>(
 // consumed_compiler_temp_from_value: the value at a position is a temporary that a name of a type takes over.
 fn consumed_compiler_temp_from_value<'a>(
     s: &[u8],
-    ns: &[usize],
-    ln: &'a [u16; 64],
-    lt: &'a [u16; 64],
+    ns: &[u32],
+    ln: &'a Names,
+    lt: &'a Types,
     n: usize,
     value: usize,
     name: u16,
@@ -190,9 +193,9 @@ fn consumed_compiler_temp_from_value<'a>(
 // consumed_compiler_temp_from_assign: the name is a local's, and the value at a position a temporary that it takes over.
 fn consumed_compiler_temp_from_assign<'a>(
     s: &[u8],
-    ns: &[usize],
-    ln: &'a [u16; 64],
-    lt: &'a [u16; 64],
+    ns: &[u32],
+    ln: &'a Names,
+    lt: &'a Types,
     n: usize,
     value: usize,
     name: u16,
@@ -255,20 +258,19 @@ fn plain_statement(s: &[u8], p: Place, to: usize, out: &mut [u8]) -> Act
 // An expression statement: an unused result is deleted, with a warning.
 fn expr_statement(
     s: &[u8],
-    ts: &[usize],
-    xs: &[usize],
+    tb: &[u32],
     p: Place,
     end: usize,
     out: &mut [u8],
     warns: &mut [u32],
 ) -> Act
-    requires { ⌜ Askable (now s) (now ts) (now xs) × Within (now s) p × FrontThere (now s) (p .at) end × (getD (now s) (p .at) 0 ≡ 3) ⌝ }
-    ensures { λ a. ⌜ ((T : Tables) → Tells (now (s .entry)) (now (ts .entry)) (now (xs .entry)) T → (σ : Scope Status) (left : List ℕ)
+    requires { ⌜ Lent (now s) (now tb) × Within (now s) p × FrontThere (now s) (p .at) end × (getD (now s) (p .at) 0 ≡ 3) ⌝ }
+    ensures { λ a. ⌜ ((T : Tables) → Says (now (s .entry)) (now (tb .entry)) T → (σ : Scope Status) (left : List ℕ)
         → ActsThere T (now (s .entry)) σ p (now (out .entry)) (now (warns .entry)) left a (now (out .exit)) (now (warns .exit)) left) ⌝ }
     ensures { λ a. ⌜ Grows (now (s .entry)) p (a .place) ⌝ }
 {
     let value = p.at + 5;
-    let callee = unused_callee(s, ts, xs, value);
+    let callee = unused_callee(s, tb, value);
     let head = image_writing::copy_bytes(s, p.at, value, out, p.written);
     let warned = put_unused(s, callee, p.at, out, head, warns, p.warnings);
     let written = image_writing::copy_bytes(s, value, end, out, warned.written);
@@ -327,9 +329,9 @@ fn put_unused(
 // A Let or Const.
 fn variable_statement<'a>(
     s: &[u8],
-    ns: &[usize],
-    ln: &'a [u16; 64],
-    lt: &'a [u16; 64],
+    ns: &[u32],
+    ln: &'a Names,
+    lt: &'a Types,
     n: usize,
     p: Place,
     end: usize,
@@ -367,9 +369,9 @@ fn revived(s: &[u8], destination: usize) -> Change
 // The temporary that an assignment to the destination at a position takes over.
 fn taken_by<'a>(
     s: &[u8],
-    ns: &[usize],
-    ln: &'a [u16; 64],
-    lt: &'a [u16; 64],
+    ns: &[u32],
+    ln: &'a Names,
+    lt: &'a Types,
     n: usize,
     destination: usize,
 ) -> Named
@@ -404,9 +406,9 @@ fn admits(which: Which, name: u16, depth: u8) -> bool
 
 // collect_scope_drops, and the end of a block: the deletes of the locals that the mark has, newest first, with a span.
 pub fn put_drops<'a>(
-    names: &'a [u16; 64],
-    tys: &'a [u16; 64],
-    depths: &'a [u8; 64],
+    names: &'a Names,
+    tys: &'a Types,
+    depths: &'a Depths,
     mark: u64,
     which: Which,
     span: u32,
@@ -437,7 +439,7 @@ pub fn put_drops<'a>(
 }
 
 // A return without a value: the locals that are left behind, newest first, each as the span and the name.
-pub fn list_left(names: &[u16; 64], mark: u64, span: u32, lefts: &mut [u32], n: usize) -> usize
+pub fn list_left(names: &Names, mark: u64, span: u32, lefts: &mut [u32], n: usize) -> usize
     requires { ⌜ n < 4294900000 ⌝ }
     ensures { λ r. ⌜ (r ≤ n + 128) × ((T : Tables) (tys depths : List ℕ) (g : ℕ → Status) (k : ℕ) → Marked T tys g k mark
         → Stored (now (lefts .entry)) n (entriesOf version1 (leftBehind span (collect states T (admitted All) 0 (lent (now (names .entry)) tys depths g k)))) (now (lefts .exit)) r) ⌝ }
@@ -454,8 +456,8 @@ pub fn list_left(names: &[u16; 64], mark: u64, span: u32, lefts: &mut [u32], n: 
 
 // pre_delete_before_assign: the newest local of a name, if the mark has it.
 pub fn put_assign_drop<'a>(
-    names: &'a [u16; 64],
-    tys: &'a [u16; 64],
+    names: &'a Names,
+    tys: &'a Types,
     count: usize,
     mark: u64,
     name: u16,
@@ -491,9 +493,9 @@ fn returned_identifier_name(s: &[u8], value: usize) -> Which
 // A Return with a value: deletes, with span 0, then the statement.
 fn return_statement<'a>(
     s: &[u8],
-    ln: &'a [u16; 64],
-    lt: &'a [u16; 64],
-    ld: &'a [u8; 64],
+    ln: &'a Names,
+    lt: &'a Types,
+    ld: &'a Depths,
     mark: u64,
     p: Place,
     end: usize,
@@ -531,14 +533,7 @@ fn listed(p: Place, lefts: usize) -> Place
 }
 
 // A Return without a value: what is left behind is listed.
-fn bare_return(
-    s: &[u8],
-    ln: &[u16; 64],
-    mark: u64,
-    p: Place,
-    out: &mut [u8],
-    lefts: &mut [u32],
-) -> Act
+fn bare_return(s: &[u8], ln: &Names, mark: u64, p: Place, out: &mut [u8], lefts: &mut [u32]) -> Act
     requires { ⌜ Within (now s) p × FrontThere (now s) (p .at) (p .at + 6) × (getD (now s) (p .at) 0 ≡ 2) × (getD (now s) (p .at + 5) 0 ≡ 0) ⌝ }
     ensures { λ a. ⌜ ((T : Tables) (lt ld : List ℕ) (g : ℕ → Status) (n : ℕ) → Marked T lt g n mark → (warns : List ℕ)
         → ActsThere T (now (s .entry)) (lent (now (ln .entry)) lt ld g n) p (now (out .entry)) warns (now (lefts .entry)) a (now (out .exit)) warns (now (lefts .exit))) ⌝ }
@@ -557,9 +552,9 @@ fn bare_return(
 // A Return, by its flag.
 fn either_return<'a>(
     s: &[u8],
-    ln: &'a [u16; 64],
-    lt: &'a [u16; 64],
-    ld: &'a [u8; 64],
+    ln: &'a Names,
+    lt: &'a Types,
+    ld: &'a Depths,
     mark: u64,
     p: Place,
     end: usize,
@@ -580,8 +575,8 @@ fn either_return<'a>(
 // pre_delete_before_assign: the destination at a position is an Ident, not a ThisLiteral.
 fn pre_delete_before_assign<'a>(
     s: &[u8],
-    ln: &'a [u16; 64],
-    lt: &'a [u16; 64],
+    ln: &'a Names,
+    lt: &'a Types,
     n: usize,
     mark: u64,
     destination: usize,
@@ -606,9 +601,9 @@ fn pre_delete_before_assign<'a>(
 // An Assign: its delete, then the statement.
 fn assign_statement<'a>(
     s: &[u8],
-    ns: &[usize],
-    ln: &'a [u16; 64],
-    lt: &'a [u16; 64],
+    ns: &[u32],
+    ln: &'a Names,
+    lt: &'a Types,
     n: usize,
     mark: u64,
     p: Place,
@@ -646,12 +641,10 @@ fn is_variable(tag: u8) -> bool
 // A statement up to its blocks: its tag is at the place, its values, evaluated, end at `end`.
 pub fn statement<'a>(
     s: &[u8],
-    ns: &[usize],
-    ts: &[usize],
-    xs: &[usize],
-    ln: &'a [u16; 64],
-    lt: &'a [u16; 64],
-    ld: &'a [u8; 64],
+    tb: &[u32],
+    ln: &'a Names,
+    lt: &'a Types,
+    ld: &'a Depths,
     n: usize,
     mark: u64,
     p: Place,
@@ -660,8 +653,8 @@ pub fn statement<'a>(
     warns: &mut [u32],
     lefts: &mut [u32],
 ) -> Act
-    requires { ⌜ Positions (now s) (now ns) (now ts) (now xs) × (n ≤ 64) × Within (now s) p × FrontThere (now s) (p .at) end ⌝ }
-    ensures { λ a. ⌜ ((T : Tables) → Tabled (now (s .entry)) (now (ns .entry)) (now (ts .entry)) (now (xs .entry)) T
+    requires { ⌜ Lent (now s) (now tb) × (n ≤ 64) × Within (now s) p × FrontThere (now s) (p .at) end ⌝ }
+    ensures { λ a. ⌜ ((T : Tables) → Says (now (s .entry)) (now (tb .entry)) T
         → (g : ℕ → Status) → Marked T (now (lt .entry)) g n mark → (σ : Scope Status) → HoldsAll (now (ln .entry)) (now (lt .entry)) (now (ld .entry)) g n σ
         → ActsThere T (now (s .entry)) σ p (now (out .entry)) (now (warns .entry)) (now (lefts .entry)) a (now (out .exit)) (now (warns .exit)) (now (lefts .exit))) ⌝ }
     ensures { λ a. ⌜ Grows (now (s .entry)) p (a .place) × EndsThere (now (s .entry)) (p .at) (a .place .at) ⌝ }
@@ -672,8 +665,10 @@ pub fn statement<'a>(
         return either_return(s, ln, lt, ld, mark, p, end, out, lefts);
     }
     if tag == 3 {
-        return expr_statement(s, ts, xs, p, end, out, warns);
+        return expr_statement(s, tb, p, end, out, warns);
     }
+    let names = 8 + tb[0] as usize;
+    let ns = &tb[8..names];
     if tag == 6 {
         return assign_statement(s, ns, ln, lt, n, mark, p, end, out);
     }

@@ -13,8 +13,8 @@ use Rattle.tables.specs.Limits.{version1}
 use Rattle.tables.specs.Tables.{Tables}
 use Rattle.image_body.specs.Expr.{Exprs, Scope as Reading}
 use Rattle.image_body.specs.Stmt.{Tree, Stmt, before, blockAt, stmtIn}
-use Rattle.rules.specs.State.{State as Status}
-use Rattle.rules.specs.Stack.{Stack as Scope}
+use Rattle.rules.specs.State.{State as Status, deleted, alive}
+use Rattle.rules.specs.Stack.{Stack as Scope, mark}
 use Rattle.rules.specs.Walk.{tooMany, walkFault}
 use Rattle.rules.specs.Verdict.{entriesOf}
 use Rattle.image_writing.specs.Stored.{Stored}
@@ -22,25 +22,23 @@ use Rattle.statements_returns.specs.Front.{frontAt}
 use Rattle.statements_acts.specs.declared.Place.{Place}
 use Rattle.statements_acts.specs.declared.Act.{Act}
 use Rattle.statements_acts.specs.Act.{changeIn, takenIn, Acts, ActsThere}
-use Rattle.statements_steps.specs.Statement.{valuesOf, frontSize, settle}
-use Rattle.statements_steps.specs.Own.{numberOf, valued, ownFault, ownAfter, restOf, blocksFault}
-use Rattle.statements_steps.proofs.Plain.{blockless-fault}
+use Rattle.statements_steps.specs.Statement.{frontSize, settle}
+use Rattle.statements_steps.proofs.Whole.{valuesOf, valued, ownFault, ownAfter, restOf}
+use Rattle.statements_steps.specs.Own.{numberOf, blocksFault}
+use Rattle.statements_steps.proofs.Plain.{blockless-fault, few-locals, length-shape}
 use Rattle.image_writing.specs.Memory.{Memory, memory}
-use Rattle.blocks_laws.specs.Walks.{Walked, StmtDone, StmtWalks, StmtsWalk, BlocksWalk, TagWalks, LeadsAll, blocked}
+use Rattle.blocks_laws.specs.Walks.{Walked, StmtsWalk, BlocksWalk, TagWalks, LeadsAll, blocked}
+use Rattle.blocks_laws.proofs.Statements.{StmtDone, StmtWalks}
 use Rattle.blocks_laws.proofs.Fronts.{plain-done, blocks-done}
 use Rattle.blocks_laws.proofs.Leads.{next-of, leads-next, leads-fault}
 use Rattle.blocks_laws.proofs.Turns.{else-number, all-fault, all-loud}
 use Rattle.blocks_laws.proofs.Values.{ValuesAt, values-in, values-of}
 use Rattle.blocks_laws.proofs.Tags.{tag-walks, no-blocks}
-use Rattle.expressions_scan.specs.Changes.{afterAll, toldAll}
+use Rattle.expressions_scan.proofs.Values.{afterAll, toldAll, Valued, valued as through}
 use Rattle.expressions_scan.proofs.Entries.{stored-eq}
-use Rattle.expressions_scan.proofs.Values.{Valued, valued as through}
 use Rattle.statements_changes.specs.declared.Cursor.{Cursor}
 use Rattle.rules.specs.Rules.{states, register}
-use Rattle.rules.specs.Stack.{mark}
-use Rattle.rules.specs.State.{deleted, alive}
 use Rattle.rules.proofs.Shapes.{shape-mark}
-use Rattle.statements_steps.proofs.Plain.{few-locals, length-shape}
 use Rattle.statements_acts.specs.declared.Change.{Change}
 use Rattle.statements_acts.specs.declared.Change.the-variants as change
 use Rattle.statements_acts.specs.declared.Named.{Named}

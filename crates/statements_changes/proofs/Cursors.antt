@@ -9,8 +9,6 @@ use lib.ListN.{length, getD}
 use Rattle.tables.specs.Tables.{Tables}
 use Rattle.rules.specs.State.{State as Status}
 use Rattle.rules.specs.Stack.{local, Stack as Scope}
-use Rattle.expressions_effects.specs.Asked.{Lent, Says}
-use Rattle.statements_acts.specs.Act.{Positions, Tabled}
 use Rattle.statements_acts.specs.declared.Named.{Named}
 use Rattle.statements_acts.specs.declared.Named.the-variants.{Nobody}
 use Rattle.statements_acts.specs.declared.Change.{Change}
@@ -48,10 +46,3 @@ module _ (names types depths : List ℕ) (at : ℕ → Status) where
   held-length zero (l ∷ σ) h = absurd h
   held-length (suc n) [] h = absurd h
   held-length (suc n) (local s a ∷ σ) h = ap suc (held-length n σ (h .4))
-
--- what statements are told of the positions and tables lent
-pub positions-of : {s ns ts xs : List ℕ} {count first : ℕ} → Lent s ns ts xs count first → Positions s ns ts xs
-positions-of g = record { names = g .names; types = g .types; structs = g .structs; lower = g .lower }
-
-pub tabled-of : {s ns ts xs : List ℕ} {count first : ℕ} {T : Tables} → Says s ns ts xs count first T → Tabled s ns ts xs T
-tabled-of g = record { names = g .names; types = g .types; structs = g .structs }

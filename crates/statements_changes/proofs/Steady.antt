@@ -12,7 +12,7 @@ use Rattle.image_fields.specs.Bytes.{Bytes}
 use Rattle.tables.specs.Tables.{Tables}
 use Rattle.image_body.specs.Stmt.{Tree, Stmt, done, before, blockAt, stmtIn, stmtsAt}
 use Rattle.image_body.proofs.Statements.{stmts-more}
-use Rattle.expressions_effects.proofs.Asked.{tablesOf}
+use Rattle.tables_lookup.proofs.Lent.{tablesOf}
 use Rattle.rules.specs.State.{State as Status}
 use Rattle.rules.specs.Stack.{Stack as Scope}
 use Rattle.expressions_steps.specs.Scan.{fuel}
@@ -48,7 +48,7 @@ next-there s left n at h lt =
     record { t = h .t; deep = h .deep; x = k .0; next = k .1; read = k .3 }
 
 module _ (s : List ℕ) (left : ℕ) (c : Cursor) (st : SomeSteady s left c) (on : c .begun ≡ true) (over : c .nodes ≡ 0) where
-  abbrev go-on : Begun s left (st .ns) c
+  abbrev go-on : Begun s (st .ns) c
   go-on = st .steady .within on
 
   abbrev read-there : StmtsThere s left (c .left) (c .place .at)
@@ -74,7 +74,7 @@ module _ (s : List ℕ) (left : ℕ) (c : Cursor) (st : SomeSteady s left c) (on
   ended : c .at ≡ vals .end
   ended =
       let z = go-on .ends (here .x .front .values) (vals .end) (record { stand = vals .standing .stand; many = vals .standing .many; shallow = vals .standing .shallow }) in
-      finished (tablesOf s [] [] [] 0 0) s (opens (st .ns)) (c .nodes) (c .at) (vals .end) (z .0) (omega arith) (z .1) .1
+      finished (tablesOf s []) s (opens (st .ns)) (c .nodes) (c .at) (vals .end) (z .0) (omega arith) (z .1) .1
 
   pub front-there : FrontThere s (c .place .at) (c .at)
   front-there = record {

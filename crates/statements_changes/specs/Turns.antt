@@ -96,7 +96,7 @@ module _ (T : Tables) (s : List ℕ) (left d all : ℕ) (σ₀ : Scope Status) (
       → (0 < w .fault → StmtsWalk T s left d all σ₀ p₀ m₀ w m′) × (w .fault ≤ 0 → LeadsAll T s left d all σ₀ p₀ m₀ (c .left) (w .locals) (w .place) m′)
 
 -- what the code is given of the values that are scanned: statements were read at the place; the scan can go on to their end
-pub record Begun (s : List ℕ) (left : ℕ) (ns : List ℕ) (c : Cursor) : Type 0 where
+pub record Begun (s ns : List ℕ) (c : Cursor) : Type 0 where
   pub some : 0 < c .left
   pub ready : Ready s (opens ns) (c .nodes) (c .at)
   pub ends : (es : Exprs) (next : ℕ) → Standing s (frontAt s (c .place .at) .values) (frontAt s (c .place .at) .first) es next
@@ -108,7 +108,7 @@ pub record Steady (s : List ℕ) (left : ℕ) (ns : List ℕ) (c : Cursor) : Typ
   pub inside : Within s (retold (c .place) 0)
   pub there : StmtsThere s left (c .left) (c .place .at)
   pub between : c .begun ≡ false → c .place .errors ≤ 300 * c .place .at
-  pub within : c .begun ≡ true → Begun s left ns c
+  pub within : c .begun ≡ true → Begun s ns c
 
 -- of some array of open nodes
 pub record SomeSteady (s : List ℕ) (left : ℕ) (c : Cursor) : Type 0 where

@@ -1,18 +1,17 @@
 // The statements of a block over lent arrays, up to the next change of the stack.
-// Throughout, ns, ts and xs are where the names, types and structs stand in the image s, and ln, lt, ld, lk and lf the names, types,
-// depths, kinds and first places of the locals, rows the places of joined states, all lent; env has the numbers of the walk.
+// Throughout, tb has the tables of the image s, and ln, lt, ld, lk and lf the names, types, depths, kinds and first places of the locals, rows the places of joined states, all lent; env has the numbers of the walk.
 ghost use mathlib.Core.Path.{_≡_};
 ghost use mathlib.Core.Bool.{true, false};
 ghost use mathlib.Core.List.{List};
 ghost use Prim.Native.Nat.{ℕ, _+_, _-_, _*_, _≤_, _<_};
 ghost use lib.ListN.{length, getD};
 ghost use Rattle.tables.specs.Tables.{Tables};
-ghost use Rattle.expressions_effects.specs.Asked.{Lent, Says};
+ghost use Rattle.tables_lookup.specs.Lent.{Lent, Says};
 ghost use Rattle.rules.specs.State.{State as Status};
 ghost use Rattle.rules.specs.Stack.{Stack as Scope};
 ghost use Rattle.expressions_steps.specs.Scan.{topOf, rootOf};
 ghost use Rattle.statements_returns.specs.Front.{frontAt};
-ghost use Rattle.statements_acts.specs.Act.{Grows, Positions, Tabled};
+ghost use Rattle.statements_acts.specs.Act.{Grows};
 ghost use Rattle.image_writing.specs.Memory.{Memory, memory};
 ghost use Rattle.blocks_laws.specs.Walks.{blocked};
 ghost use Rattle.expressions_scan.specs.States.{stateAt, AllKept, Holds};
@@ -21,6 +20,11 @@ ghost use Rattle.statements_acts.specs.declared.Named.the-variants.{Nobody};
 ghost use Rattle.statements_changes.specs.declared.Turn.the-variants.{Nothing, Over, Mark};
 ghost use Rattle.statements_changes.specs.Turns.{Lends, retold, betweenOf, withinOf, cameOf, Stood, After, Steady, SomeSteady, Fit, ahead};
 use expressions_scan::Env;
+use scope_state::Depths;
+use scope_state::Firsts;
+use scope_state::Kinds;
+use scope_state::Names;
+use scope_state::Types;
 use statements_acts::Act;
 use statements_acts::Change;
 use statements_acts::Named;
@@ -142,21 +146,19 @@ fn turn_of(tag: u8, left: usize, place: Place, change: Change, taken: Named) -> 
 // The statement at the cursor's place, whose values are through.
 fn acted<'a>(
     s: &[u8],
-    ns: &[usize],
-    ts: &[usize],
-    xs: &[usize],
+    tb: &[u32],
     env: Env,
-    ln: &'a [u16; 64],
-    lt: &'a [u16; 64],
-    ld: &'a [u8; 64],
+    ln: &'a Names,
+    lt: &'a Types,
+    ld: &'a Depths,
     c: Cursor,
     out: &mut [u8],
     warns: &mut [u32],
     lefts: &mut [u32],
 ) -> Came
-    requires { ⌜ Positions (now s) (now ns) (now ts) (now xs) × (env .locals ≤ 64) × (env .left ≤ 12)
+    requires { ⌜ Lent (now s) (now tb) × (env .locals ≤ 64) × (env .left ≤ 12)
         × SomeSteady (now s) (env .left) c × (c .begun ≡ true) × (c .nodes ≡ 0) ⌝ }
-    ensures { λ r. ⌜ ((T : Tables) → Tabled (now (s .entry)) (now (ns .entry)) (now (ts .entry)) (now (xs .entry)) T
+    ensures { λ r. ⌜ ((T : Tables) → Says (now (s .entry)) (now (tb .entry)) T
         → (at : ℕ → Status) (σ : Scope Status) → Lends T (env .mark) (now (ln .entry)) (now (lt .entry)) (now (ld .entry)) at (env .locals) σ
         → (all : ℕ) (σ₀ : Scope Status) (p₀ : Place) (m₀ : Memory) (nodes errs : List ℕ)
         → Stood T (now (s .entry)) (env .left) (12 - env .left) all σ₀ p₀ m₀ nodes c σ (memory (now (out .entry)) errs (now (warns .entry)) (now (lefts .entry)))
@@ -171,7 +173,7 @@ fn acted<'a>(
     let n = env.locals;
     let m = env.mark;
     let q = told(p, 0);
-    let a = statements_acts::statement(s, ns, ts, xs, ln, lt, ld, n, m, q, end, out, warns, lefts);
+    let a = statements_acts::statement(s, tb, ln, lt, ld, n, m, q, end, out, warns, lefts);
     let y = a.place;
     let z = told(y, p.errors);
     let change = a.change;
@@ -236,21 +238,19 @@ fn begun(s: &[u8], left: usize, nodes: &mut [u64; 26], c: Cursor) -> Cursor
 // The values of the statement that is begun, scanned on up to a change of the stack; nothing where they are through.
 fn scanned<'a>(
     s: &[u8],
-    ns: &[usize],
-    ts: &[usize],
-    xs: &[usize],
+    tb: &[u32],
     env: Env,
-    ln: &'a [u16; 64],
-    lk: &'a [u8; 64],
-    lf: &'a [u32; 64],
+    ln: &'a Names,
+    lk: &'a Kinds,
+    lf: &'a Firsts,
     rows: &[u32],
     nodes: &mut [u64; 26],
     c: Cursor,
     errs: &mut [u32],
 ) -> Came
-    requires { ⌜ Lent (now s) (now ns) (now ts) (now xs) (env .globals) (env .first) × AllKept (now lk) (now lf) (now rows) (env .cur) (env .width) (env .locals)
+    requires { ⌜ Lent (now s) (now tb) × AllKept (now lk) (now lf) (now rows) (env .cur) (env .width) (env .locals)
         × Steady (now s) (env .left) (now nodes) c × (c .begun ≡ true) ⌝ }
-    ensures { λ r. ⌜ ((T : Tables) → Says (now (s .entry)) (now (ns .entry)) (now (ts .entry)) (now (xs .entry)) (env .globals) (env .first) T
+    ensures { λ r. ⌜ ((T : Tables) → Says (now (s .entry)) (now (tb .entry)) T
         → (σ : Scope Status) → Holds (now (ln .entry)) (stateAt (now (lk .entry)) (now (lf .entry)) (now (rows .entry)) (env .cur) (env .width)) (env .locals) σ
         → (all : ℕ) (σ₀ : Scope Status) (p₀ : Place) (m₀ : Memory) (out warns lefts : List ℕ)
         → Stood T (now (s .entry)) (env .left) (12 - env .left) all σ₀ p₀ m₀ (now (nodes .entry)) c σ (memory out (now (errs .entry)) warns lefts)
@@ -264,7 +264,7 @@ fn scanned<'a>(
     let k = c.nodes;
     let at = c.at;
     let n = p.errors;
-    let v = expressions_scan::scan_on(s, ns, ts, xs, env, ln, lk, lf, rows, nodes, k, at, errs, n);
+    let v = expressions_scan::scan_on(s, tb, env, ln, lk, lf, rows, nodes, k, at, errs, n);
     let q = told(p, v.told);
     let w = within(c.left, v.nodes, v.at, q);
     let change = v.change;
@@ -297,15 +297,13 @@ fn is_nothing(came: Came) -> bool
 // The statements up to the next change of the stack.
 pub fn next_change<'a>(
     s: &[u8],
-    ns: &[usize],
-    ts: &[usize],
-    xs: &[usize],
+    tb: &[u32],
     env: Env,
-    ln: &'a [u16; 64],
-    lt: &'a [u16; 64],
-    ld: &'a [u8; 64],
-    lk: &'a [u8; 64],
-    lf: &'a [u32; 64],
+    ln: &'a Names,
+    lt: &'a Types,
+    ld: &'a Depths,
+    lk: &'a Kinds,
+    lf: &'a Firsts,
     rows: &[u32],
     nodes: &mut [u64; 26],
     cursor: Cursor,
@@ -314,9 +312,9 @@ pub fn next_change<'a>(
     warns: &mut [u32],
     lefts: &mut [u32],
 ) -> Came
-    requires { ⌜ Lent (now s) (now ns) (now ts) (now xs) (env .globals) (env .first) × AllKept (now lk) (now lf) (now rows) (env .cur) (env .width) (env .locals)
+    requires { ⌜ Lent (now s) (now tb) × AllKept (now lk) (now lf) (now rows) (env .cur) (env .width) (env .locals)
         × (env .left ≤ 12) × Steady (now s) (env .left) (now nodes) cursor × (length (now nodes) ≡ 26) ⌝ }
-    ensures { λ r. ⌜ ((T : Tables) → Says (now (s .entry)) (now (ns .entry)) (now (ts .entry)) (now (xs .entry)) (env .globals) (env .first) T
+    ensures { λ r. ⌜ ((T : Tables) → Says (now (s .entry)) (now (tb .entry)) T
         → (σ : Scope Status)
         → Lends T (env .mark) (now (ln .entry)) (now (lt .entry)) (now (ld .entry)) (stateAt (now (lk .entry)) (now (lf .entry)) (now (rows .entry)) (env .cur) (env .width)) (env .locals) σ
         → (all : ℕ) (σ₀ : Scope Status) (p₀ : Place) (m₀ : Memory)
@@ -333,11 +331,11 @@ pub fn next_change<'a>(
             return o;
         }
         let b = begun(s, env.left, nodes, c);
-        let w = scanned(s, ns, ts, xs, env, ln, lk, lf, rows, nodes, b, errs);
+        let w = scanned(s, tb, env, ln, lk, lf, rows, nodes, b, errs);
         if !is_nothing(w) {
             return w;
         }
-        let r = acted(s, ns, ts, xs, env, ln, lt, ld, w.cursor, out, warns, lefts);
+        let r = acted(s, tb, env, ln, lt, ld, w.cursor, out, warns, lefts);
         if !is_nothing(r) {
             return r;
         }

@@ -7,18 +7,10 @@ ghost use lib.ListN.{length, getD};
 ghost use lib.Dec.{eqb};
 ghost use Rattle.statements_returns.specs.Front.{frontAt};
 ghost use Rattle.statements_returns.specs.Returns.{StmtThere, BlockThere, BranchesThere, StmtSure, BlockSure, BranchesSure};
+use image_body::layout;
 use image_fields::peek;
 use image_fields::wide;
-
-// By tag, 0 to 10, as in image_body/specs/Stmt.antt: bytes of the head, of the flag that says if there is a value, values, bytes of the type
-// after them.
-const HEAD_BYTES: [u8; 11] = [0, 1, 5, 5, 9, 9, 5, 5, 5, 5, 5];
-
-const VALUE_FLAG: [u8; 11] = [0, 0, 1, 0, 0, 0, 0, 0, 0, 0, 0];
-
-const VALUE_COUNT: [u8; 11] = [0, 0, 0, 1, 1, 1, 2, 1, 1, 0, 0];
-
-const TYPE_WIDTH: [u8; 11] = [0, 0, 2, 0, 0, 0, 2, 0, 0, 0, 0];
+use image_fields::wide16;
 
 // A statement's tag, how many values it has, where the first begins, and the bytes of the type after them.
 pub struct Front {
@@ -48,21 +40,15 @@ pub fn front_at(s: &[u8], at: usize) -> Front
 {
     let tag = s[at];
     let k = wide(tag);
-    let flag = wide(VALUE_FLAG[k]);
-    let head = at + wide(HEAD_BYTES[k]);
+    let flag = layout::value_flag(k);
+    let head = at + layout::head_bytes(k);
     let more = flag_at(s, flag, head);
     Front {
         tag: tag,
-        values: (wide(VALUE_COUNT[k]) + more) as u16,
+        values: (layout::value_count(k) + more) as u16,
         first: head + flag,
-        last: wide(TYPE_WIDTH[k]),
+        last: layout::type_width(k),
     }
-}
-
-fn wide16(x: u16) -> usize
-    ensures { λ r. ⌜ r ≡ x ⌝ }
-{
-    x as usize
 }
 
 // Whether both are true.

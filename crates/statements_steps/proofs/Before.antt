@@ -19,7 +19,7 @@ use Rattle.rules.specs.Rules.{isDone, sureFrom}
 use Rattle.rules.specs.Report.{exprBytes, codeBytes}
 use Rattle.rules.proofs.Longer.{exprStmt-bytes, variable-bytes, assign-bytes, return-bytes, bareReturn-bytes, block-bytes, ifElse-bytes, ifThen-bytes, while-bytes, jump-bytes}
 use Rattle.statements_steps.specs.Statement.{frontSize}
-use Rattle.statements_steps.specs.Own.{restOf, blocksSize, sureOf}
+use Rattle.statements_steps.proofs.Whole.{restOf, blocksSize, sureOf}
 use Rattle.statements_steps.proofs.Steps.{sure-step}
 
 -- what holds of every kind of statement holds of a statement of any tag

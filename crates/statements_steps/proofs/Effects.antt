@@ -1,27 +1,17 @@
--- Effects one after another; those of one expression, and of the two of an assignment, as the rules name them.
+-- The effects of one expression, and of the two of an assignment, as the rules name them.
 -- Assumes nothing.
-use mathlib.Core.Path.{_≡_, refl, sym, ap, _∙_}
+use mathlib.Core.Path.{_≡_, ap, _∙_}
 use mathlib.Core.Bool.{false}
-use mathlib.Core.List.{List, [], _∷_, _++_, append-assoc, append-nil}
+use mathlib.Core.List.{[], _++_, append-nil}
 use Rattle.tables.specs.Tables.{Tables}
 use Rattle.image_body.specs.Expr.{Expr, none, more}
 use Rattle.rules.specs.State.{State as Status}
 use Rattle.rules.specs.Stack.{Shape, shape, Stack as Scope}
-use Rattle.rules.specs.Effects.{Effect, raws, group, resolveAll, effects, assignEffects}
-use Rattle.rules.specs.Rules.{states, apply, applyAll, evaluate, beforeAssign}
-use Rattle.rules.specs.Report.{reportOf, reportAll}
+use Rattle.rules.specs.Effects.{raws, group, resolveAll, effects, assignEffects}
+use Rattle.rules.specs.Rules.{states, applyAll, evaluate, beforeAssign}
+use Rattle.rules.specs.Report.{reportAll}
 use Rattle.rules.proofs.ByTag.{resolve-append}
-use Rattle.expressions_scan.specs.Changes.{afterAll, toldAll}
-
-pub apply-append : (xs ys : List Effect) (σ : Scope Status) → applyAll states (xs ++ ys) σ ≡ applyAll states ys (applyAll states xs σ)
-apply-append [] ys σ = refl
-apply-append (x ∷ xs) ys σ = apply-append xs ys (apply states x σ)
-
-pub report-append : (xs ys : List Effect) (σ : Scope Status) → reportAll (xs ++ ys) σ ≡ reportAll xs σ ++ reportAll ys (applyAll states xs σ)
-report-append [] ys σ = refl
-report-append (x ∷ xs) ys σ =
-    ap (λ l. reportOf x σ ++ l) (report-append xs ys (apply states x σ))
-    ∙ sym (append-assoc (reportOf x σ) (reportAll xs (apply states x σ)) (reportAll ys (applyAll states xs (apply states x σ))))
+use Rattle.expressions_scan.proofs.Values.{afterAll, toldAll}
 
 module _ (T : Tables) where
   group-one : (Γ : Shape) (e : Expr) → resolveAll Γ (group T false (more e none)) ≡ effects T Γ e

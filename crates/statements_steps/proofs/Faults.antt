@@ -15,7 +15,8 @@ use Rattle.rules.specs.Rules.{states, sureFrom, merge, joins, evaluate, afterEx
 use Rattle.rules.specs.Walk.{tooWide, walkFault}
 use Rattle.rules.proofs.Numbers.{Real, real-no, real-else, real-many, real-wide, real-walk}
 use Rattle.statements_steps.specs.Statement.{settle}
-use Rattle.statements_steps.specs.Own.{numberOf, blocksFault, ownFault, valued}
+use Rattle.statements_steps.specs.Own.{numberOf, blocksFault}
+use Rattle.statements_steps.proofs.Whole.{ownFault, valued}
 
 pub real-none : (x : Option ℕ) → Real x → numberOf x ≡ 0 → x ≡ none
 real-none none r e = refl

@@ -1,7 +1,7 @@
+pub mod Whole
 pub mod Effects
 pub mod Steps
 pub mod Before
 pub mod Lists
-pub mod Shaped
 pub mod Faults
 pub mod Plain

@@ -23,8 +23,9 @@ use Rattle.rules.specs.Effects.{deletedIn}
 use Rattle.rules.specs.Rules.{states}
 use Rattle.rules.specs.Walk.{tooMany}
 use Rattle.rules.proofs.Shapes.{shape-all, shape-assign}
-use Rattle.statements_steps.specs.Statement.{valuesOf, settle}
-use Rattle.statements_steps.specs.Own.{nothing, blocksSize, blocksOwn, blocksFault, blocksAfter, blockless}
+use Rattle.statements_steps.specs.Statement.{settle}
+use Rattle.statements_steps.proofs.Whole.{valuesOf, blocksSize, blockless}
+use Rattle.statements_steps.specs.Own.{nothing, blocksOwn, blocksFault, blocksAfter}
 
 pub length-shape : (σ : Scope Status) → length (shape σ) ≡ length σ
 length-shape [] = refl

@@ -24,11 +24,13 @@ use Rattle.rules.specs.Report.{Report, reportOf, reportAll, deleteNode, identNo
 use Rattle.rules.specs.Walk.{walkFault, tooMany, tooWide}
 use Rattle.rules.specs.Verdict.{countsFit}
 use Rattle.rules.proofs.Shapes.{shape-all, shape-doing}
-use Rattle.expressions_scan.specs.Changes.{afterAll, toldAll}
+use Rattle.expressions_scan.proofs.Runs.{apply-append, report-append}
+use Rattle.expressions_scan.proofs.Values.{afterAll, toldAll}
 use Rattle.statements_steps.specs.Drops.{deleteBytes}
-use Rattle.statements_steps.specs.Statement.{wrapped, valuesOf, frontSize, frontDrops, ownBytes, frontBytes, frontReports, settle}
-use Rattle.statements_steps.specs.Own.{Own, restOf, blocksSize, returned, blockOwn, blocksOwn, blocksFault, blocksAfter, valued, frontOwn, own, ownFault, ownAfter, sureOf}
-use Rattle.statements_steps.proofs.Effects.{apply-append, report-append, after-one, told-one, after-two, told-two}
+use Rattle.statements_steps.specs.Statement.{wrapped, frontSize, frontDrops, ownBytes, frontBytes, frontReports, settle}
+use Rattle.statements_steps.proofs.Whole.{valuesOf, restOf, blocksSize, valued, frontOwn, own, ownFault, ownAfter, sureOf}
+use Rattle.statements_steps.specs.Own.{Own, returned, blockOwn, blocksOwn, blocksFault, blocksAfter}
+use Rattle.statements_steps.proofs.Effects.{after-one, told-one, after-two, told-two}
 
 -- deletes put in
 pub inserts-bytes : (x : List Drop) (c : Tree) → encodeCode (inserts x c) ≡ deleteBytes x ++ encodeCode c

@@ -1,4 +1,4 @@
--- A statement by itself, at the head of a list: what its walk gives back and reports, its fault, and the locals after it.
+-- The blocks of a statement at the head of a list: what their walk gives back and reports, its fault, and the locals after it.
 use Prim.Native.Nat.{ℕ, suc, _+_}
 use mathlib.Core.Bool.{Bool, true, false, not, _&&_}
 use mathlib.Core.List.{List, [], _∷_, _++_}
@@ -12,11 +12,10 @@ use Rattle.image_encoding.specs.Body.{size, encodeCode, withCount}
 use Rattle.rules.specs.State.{State as Status}
 use Rattle.rules.specs.Stack.{Stack as Scope}
 use Rattle.rules.specs.Rules.{states, sureFrom, joins, merge, exit, decide}
-use Rattle.rules.specs.Report.{Report, flatten, report, exprBytes, codeBytes}
+use Rattle.rules.specs.Report.{Report, flatten, report, codeBytes}
 use Rattle.rules.specs.Walk.{tooMany, tooWide, walkFault}
 use Rattle.rules.specs.Verdict.{countsFit}
-use Rattle.expressions_scan.specs.Changes.{afterAll, toldAll}
-use Rattle.statements_steps.specs.Statement.{valuesOf, frontSize, frontBytes, frontReports, settle}
+use Rattle.statements_steps.specs.Statement.{settle}
 
 -- the number of a fault, or 0
 abbrev pub numberOf : Option ℕ → ℕ
@@ -39,34 +38,6 @@ byte b = record { bytes = b ∷ []; reports = []; fits = true }
 -- one after another
 abbrev pub both : Own → Own → Own
 both a b = record { bytes = a .bytes ++ b .bytes; reports = a .reports ++ b .reports; fits = a .fits && b .fits }
-
--- the statements behind a statement
-abbrev pub restOf : Tree → Tree
-restOf (done x) = done x
-restOf (exprStmt s e y r) = r
-restOf (variable k s n t e r) = r
-restOf (assign s e v t x r) = r
-restOf (return s e t x r) = r
-restOf (bareReturn s t r) = r
-restOf (block s c r) = r
-restOf (ifElse s e ts t us u r) = r
-restOf (ifThen s e ts t r) = r
-restOf (while s e ts t r) = r
-restOf (jump k s r) = r
-
--- the bytes of its blocks in the submitted image
-abbrev pub blocksSize : Tree → ℕ
-blocksSize (done x) = 0
-blocksSize (exprStmt s e y r) = 0
-blocksSize (variable k s n t e r) = 0
-blocksSize (assign s e v t x r) = 0
-blocksSize (return s e t x r) = 0
-blocksSize (bareReturn s t r) = 0
-blocksSize (block s c r) = 6 + codeBytes c
-blocksSize (ifElse s e ts t us u r) = 13 + codeBytes t + codeBytes u
-blocksSize (ifThen s e ts t r) = 7 + codeBytes t
-blocksSize (while s e ts t r) = 6 + codeBytes t
-blocksSize (jump k s r) = 0
 
 module _ (T : Tables) where
   -- the statements of a block of span p and depth d, as given back
@@ -128,47 +99,3 @@ module _ (T : Tables) where
   blocksAfter (ifThen s e ts t r) d σ = merge states (sureFrom t false) false σ (exit states T t (suc d) σ) σ
   blocksAfter (while s e ts t r) d σ = joins states (exit states T t (suc d) σ) σ
   blocksAfter (jump k s r) d σ = σ
-
-  -- the whole statement: its values, its front, its blocks
-  abbrev pub valued : Tree → Scope Status → Scope Status
-  valued c σ = afterAll T (valuesOf c) σ
-
-  abbrev pub frontOwn : Tree → ℕ → Scope Status → Own
-  frontOwn c at σ = record { bytes = frontBytes T c (valued c σ); reports = toldAll T (valuesOf c) σ ++ frontReports T c at (valued c σ); fits = true }
-
-  abbrev pub own : Tree → ℕ → ℕ → Scope Status → Own
-  own c d at σ = both (frontOwn c at σ) (blocksOwn c d (at + frontSize c) (valued c σ))
-
-  abbrev pub ownFault : Tree → ℕ → Scope Status → Option ℕ
-  ownFault c d σ = blocksFault c d (valued c σ)
-
-  abbrev pub ownAfter : Tree → ℕ → Scope Status → Scope Status
-  ownAfter c d σ = blocksAfter c d (valued c σ)
-
--- whether it surely returns
-abbrev pub sureOf : Tree → Bool
-sureOf (done x) = false
-sureOf (exprStmt s e y r) = false
-sureOf (variable k s n t e r) = false
-sureOf (assign s e v t x r) = false
-sureOf (return s e t x r) = true
-sureOf (bareReturn s t r) = true
-sureOf (block s c r) = sureFrom c false
-sureOf (ifElse s e ts t us u r) = sureFrom t false && sureFrom u false
-sureOf (ifThen s e ts t r) = false
-sureOf (while s e ts t r) = false
-sureOf (jump k s r) = false
-
--- whether it has no blocks
-abbrev pub blockless : Tree → Bool
-blockless (done x) = false
-blockless (exprStmt s e y r) = true
-blockless (variable k s n t e r) = true
-blockless (assign s e v t x r) = true
-blockless (return s e t x r) = true
-blockless (bareReturn s t r) = true
-blockless (block s c r) = false
-blockless (ifElse s e ts t us u r) = false
-blockless (ifThen s e ts t r) = false
-blockless (while s e ts t r) = false
-blockless (jump k s r) = true

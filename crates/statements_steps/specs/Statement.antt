@@ -5,7 +5,6 @@ use mathlib.Core.Bool.{Bool, cond, _&&_}
 use mathlib.Core.List.{List, [], _∷_, _++_}
 use Rattle.image_fields.specs.Bytes.{twoBytes, fourBytes}
 use Rattle.tables.specs.Tables.{Tables}
-use Rattle.image_body.specs.Expr.{Exprs, none, more}
 use Rattle.image_body.specs.Stmt.{Tree, done, exprStmt, variable, assign, return, bareReturn, block, ifElse, ifThen, while, jump}
 use Rattle.image_encoding.specs.Body.{encodeExpr}
 use Rattle.rules.specs.Questions.{auto}
@@ -16,20 +15,6 @@ use Rattle.rules.specs.Effects.{deletedIn, takeOver}
 use Rattle.rules.specs.Rules.{Drop, states, applyAll, register, assignDrops, returnDrops, afterAssign}
 use Rattle.rules.specs.Report.{Report, deleteNode, unused, leftBehind, exprBytes}
 use Rattle.statements_steps.specs.Drops.{deleteBytes}
-
--- its values, in order
-abbrev pub valuesOf : Tree → Exprs
-valuesOf (done x) = none
-valuesOf (exprStmt s e y r) = more e none
-valuesOf (variable k s n t e r) = more e none
-valuesOf (assign s e v t x r) = more e (more v none)
-valuesOf (return s e t x r) = more e none
-valuesOf (bareReturn s t r) = none
-valuesOf (block s c r) = none
-valuesOf (ifElse s e ts t us u r) = more e none
-valuesOf (ifThen s e ts t r) = more e none
-valuesOf (while s e ts t r) = more e none
-valuesOf (jump k s r) = none
 
 -- the bytes it takes in the submitted image up to its blocks
 abbrev pub frontSize : Tree → ℕ

@@ -2,12 +2,12 @@
 -- Assumes nothing.
 use mathlib.Core.Path.{_≡_, refl, sym, ap, _∙_, subst}
 use mathlib.Core.List.{List, [], _∷_, _++_, map}
-use mathlib.Core.Bool.{Bool, true, false, not, cond, _&&_, _||_}
+use mathlib.Core.Bool.{Bool, true, false, not, cond, _&&_, _||_, or-false}
 use mathlib.Core.Logic.{_⊎_, inl, inr, ⊎-elim}
 use Prim.Native.Nat.{ℕ, zero, suc, _+_, _-_, _≤_, _<_}
 use native.Mathlib.Omega.{arith}
 use native.Mathlib.Nat.{pos-of-ne-zero}
-use borrow.Author.Tests.{leb-true, lt-ltb, le-ltb, eq-eqb, ne-eqb}
+use borrow.Author.Tests.{leb-true, lt-ltb, le-ltb, eq-eqb, ne-eqb, eqb-true}
 use lib.ListN.{length, getD, take}
 use lib.Dec.{eqb, ltb, leb}
 use Rattle.image_fields.specs.Parsed.{Parsed, ok, fault, bind, ensure}
@@ -37,6 +37,18 @@ same-length [] (y ∷ ys) e = false-true e
 same-length (x ∷ xs) [] e = false-true e
 same-length (x ∷ xs) (y ∷ ys) e = ap suc (same-length xs ys (and-true (eqb x y) (sameBytes xs ys) e .1))
 
+-- names that are the same are equal
+pub same-true : (a b : List ℕ) → sameBytes a b ≡ true → a ≡ b
+unfolding sameBytes
+same-true [] [] e = refl
+same-true [] (y ∷ b) e = false-true e
+same-true (x ∷ a) [] e = false-true e
+same-true (x ∷ a) (y ∷ b) e =
+    let g = and-true (eqb x y) (sameBytes a b) e in
+    let h : x ≡ y = eqb-true x y (g .0) in
+    let i : a ≡ b = same-true a b (g .1) in
+    cc
+
 below-none : (xs : List ℕ) → belowBytes xs [] ≡ false
 unfolding belowBytes
 below-none [] = refl
@@ -53,10 +65,6 @@ unfolding bytesAt belowBytes
 below-bytes s a b zero j l m = absurd (omega arith)
 below-bytes s a b (suc i) zero l m = absurd (omega arith)
 below-bytes s a b (suc i) (suc j) l m = let e : suc i - 1 ≡ i = omega arith in let f : suc j - 1 ≡ j = omega arith in rw (e, f) refl
-
-or-false : (b : Bool) → (b || false) ≡ b
-or-false true = refl
-or-false false = refl
 
 -- two names compared byte by byte, by a test on bytes that has a law for one more byte
 module _ (s : List ℕ) where

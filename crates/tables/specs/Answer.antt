@@ -4,6 +4,7 @@ use mathlib.Core.Path.{_≡_}
 use mathlib.Core.List.{List, map}
 use lib.ListN.{length, getD, take}
 use Rattle.image_fields.specs.Parsed.{Parsed, ok, fault}
+use Rattle.tables.specs.Name.{nameOf, keyOf}
 use Rattle.tables.specs.Ty.{Ty}
 use Rattle.tables.specs.declared.ty.TypeRead.{TypeRead}
 use Rattle.tables.specs.declared.ty.TypeRead.the-variants.{OneType, NoType}
@@ -16,6 +17,10 @@ typeOf (fault n) = NoType n
 -- the first i positions lie within the bytes
 abbrev pub Within : List ℕ → List ℕ → ℕ → Type 0
 Within s starts i = (k : ℕ) → k < i → getD starts k 0 < length s
+
+-- the first i keys are those of the names at the first i positions
+pub record Keyed (s starts keys : List ℕ) (i : ℕ) : Type 0 where
+  pub are : (k : ℕ) → k < i → getD keys k 0 ≡ keyOf (nameOf s (getD starts k 0))
 
 -- the entries of a table stand at the first of these positions
 pub record Listed {A : Type 0} (view : ℕ → A) (s starts : List ℕ) (xs : List A) : Type 0 where

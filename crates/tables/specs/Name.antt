@@ -1,5 +1,5 @@
 -- Names: count 1 to 512; each a length byte 1 to 64 and its bytes. All differ. Name 0 is `this`. Fault 3.
-use Prim.Native.Nat.{ℕ, zero, suc, _+_, _-_}
+use Prim.Native.Nat.{ℕ, zero, suc, _+_, _-_, _*_, _%_}
 use mathlib.Core.List.{List, [], _∷_}
 use mathlib.Core.Bool.{Bool, true, false, not, _&&_, _||_}
 use lib.ListN.{length, getD}
@@ -34,6 +34,14 @@ unfoldable pub startsWith : List ℕ → List ℕ → Bool
 startsWith [] ys = true
 startsWith (x ∷ xs) [] = false
 startsWith (x ∷ xs) (y ∷ ys) = eqb x y && startsWith xs ys
+
+-- the key of a name: names whose keys differ differ. k is that of the bytes before
+unfoldable pub keyFrom : ℕ → List ℕ → ℕ
+keyFrom k [] = k
+keyFrom k (x ∷ xs) = keyFrom ((k * 31 + x) % 4294967296) xs
+
+abbrev pub keyOf : List ℕ → ℕ
+keyOf xs = keyFrom 0 xs
 
 -- the bytes of `this`, of `__tmp` and of `std::move`
 abbrev pub thisName : List ℕ

@@ -9,18 +9,36 @@ ghost use Rattle.image_fields.specs.Parsed.{ok};
 ghost use Rattle.image_fields.specs.Table.{tableFrom};
 ghost use Rattle.image_fields.specs.Answer.{tableOf};
 ghost use Rattle.tables.specs.Limits.{version1};
-ghost use Rattle.tables.specs.Ty.{Ty, ofLimit, partsAt, typeAt, typesAt, typeIn, genericFlags};
+ghost use Rattle.tables.specs.Ty.{Ty, ofWidth, shapeWidth, ofLimit, partsAt, typeAt, typesAt, typeIn, genericFlags};
 ghost use Rattle.tables.specs.Answer.{typeOf, Listed};
-
-// By kind, as in specs/Ty.antt.
-const OF_WIDTH: [u8; 5] = [0, 2, 2, 2, 2];
-
-const SHAPE_WIDTH: [u8; 5] = [0, 0, 2, 0, 0];
 
 // A type's kind, its name or lower type, and the position after it, or the fault's number.
 pub enum TypeRead {
     OneType(usize, usize, usize),
     NoType(u8),
+}
+
+// Bytes of the name or lower type of a kind.
+fn of_width(kind: usize) -> usize
+    ensures { λ r. ⌜ r ≡ getD ofWidth kind 0 ⌝ }
+{
+    match kind {
+        1 => 2,
+        2 => 2,
+        3 => 2,
+        4 => 2,
+        _ => 0,
+    }
+}
+
+// Bytes of its shape.
+fn shape_width(kind: usize) -> usize
+    ensures { λ r. ⌜ r ≡ getD shapeWidth kind 0 ⌝ }
+{
+    match kind {
+        2 => 2,
+        _ => 0,
+    }
 }
 
 fn of_limit(names: usize, i: usize, kind: usize) -> usize
@@ -65,12 +83,11 @@ fn read_parts(s: &[u8], names: usize, i: usize, kind: usize, at: usize) -> TypeR
     requires { ⌜ kind < 5 ⌝ }
     ensures { λ r. ⌜ ((ts : List Ty) → length ts ≡ i → r ≡ typeOf (partsAt names (now (s .entry)) ts kind at)) ⌝ }
 {
-    let of_width = image_fields::wide(OF_WIDTH[kind]);
-    match image_fields::field(s, 4, of_limit(names, i, kind), of_width, at) {
+    match image_fields::field(s, 4, of_limit(names, i, kind), of_width(kind), at) {
         image_fields::Number::Wrong(f) => TypeRead::NoType(f),
         image_fields::Number::Is(of, p) => {
-            let shape_width = image_fields::wide(SHAPE_WIDTH[kind]);
-            match image_fields::field(s, 4, 65536, shape_width, p) {
+            let width = shape_width(kind);
+            match image_fields::field(s, 4, 65536, width, p) {
                 image_fields::Number::Wrong(f) => TypeRead::NoType(f),
                 image_fields::Number::Is(_, q) => TypeRead::OneType(kind, of, q),
             }
@@ -97,13 +114,13 @@ fn read_type(s: &[u8], names: usize, i: usize, at: usize) -> TypeRead
 // So many types, their positions and their flags.
 fn fill_types(
     s: &[u8],
-    starts: &mut [usize],
+    starts: &mut [u32],
     flags: &mut [u8],
     names: usize,
     n: usize,
     at: usize,
 ) -> image_fields::Number
-    requires { ⌜ (n ≤ length (now starts)) × (n ≤ length (now flags)) ⌝ }
+    requires { ⌜ (n ≤ length (now starts)) × (n ≤ length (now flags)) × (length (now s) ≤ 65536) ⌝ }
     ensures { λ r. ⌜ r ≡ tableOf (tableFrom (typeAt names (now (s .entry))) [] n at) ⌝ }
     ensures filled { λ r. ⌜ ((ts : List Ty) (next : ℕ) → tableFrom (typeAt names (now (s .entry))) [] n at ≡ ok ts next
         → Listed (typeIn (now (s .entry))) (now (s .entry)) (now (starts .exit)) ts × (take (length ts) (now (flags .exit)) ≡ genericFlags [] ts)) ⌝ }
@@ -118,7 +135,7 @@ fn fill_types(
             TypeRead::OneType(kind, of, next) => {
                 let f = generic_flag(&flags[..], kind, of);
                 flags[i] = f;
-                starts[i] = p;
+                starts[i] = p as u32;
                 p = next;
                 i += 1;
             }
@@ -131,12 +148,12 @@ fn fill_types(
 // if it is generic, perhaps behind pointers.
 pub fn read_types(
     s: &[u8],
-    starts: &mut [usize],
+    starts: &mut [u32],
     flags: &mut [u8],
     names: usize,
     at: usize,
 ) -> image_fields::Number
-    requires { ⌜ (256 ≤ length (now starts)) × (256 ≤ length (now flags)) ⌝ }
+    requires { ⌜ (256 ≤ length (now starts)) × (256 ≤ length (now flags)) × (length (now s) ≤ 65536) ⌝ }
     ensures { λ r. ⌜ r ≡ tableOf (typesAt version1 names (now (s .entry)) at) ⌝ }
     ensures filled { λ r. ⌜ ((ts : List Ty) (next : ℕ) → typesAt version1 names (now (s .entry)) at ≡ ok ts next
         → Listed (typeIn (now (s .entry))) (now (s .entry)) (now (starts .exit)) ts × (take (length ts) (now (flags .exit)) ≡ genericFlags [] ts)) ⌝ }

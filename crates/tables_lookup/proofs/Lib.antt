@@ -3,3 +3,4 @@ pub mod First
 pub mod Ty
 pub mod Lower
 pub mod Example
+pub mod Lent

@@ -3,3 +3,4 @@ pub mod Ty
 pub mod Signature
 pub mod Name
 pub mod Answer
+pub mod Lent

@@ -18,14 +18,14 @@ use tables_lookup::first_spaced;
 use tables_lookup::struct_named;
 
 // The name of a receiver's class: that of a named type, behind pointers.
-fn class_name_from_receiver_ty(s: &[u8], types: &[usize], ty: usize) -> Found
+fn class_name_from_receiver_ty(s: &[u8], types: &[u32], ty: usize) -> Found
     requires { ⌜ AllWithin (now s) (now types) × Lower (map (typeIn (now s)) (now types)) ⌝ }
     ensures { λ r. ⌜ r ≡ foundOf (classOf (map (typeIn (now (s .entry))) (now (types .entry))) ty) ⌝ }
 {
     if types.len() <= ty {
         return Found::Nothing;
     }
-    let at = types[ty];
+    let at = types[ty] as usize;
     let kind = image_fields::peek(s, at);
     let of = image_fields::peek_two(s, at + 1);
     if kind == 4 {
@@ -49,13 +49,7 @@ fn modifier_in(s: &[u8], at: usize, name: usize) -> Found
 }
 
 // The modifier of a method that is called on a receiver of the type.
-pub fn method_modifier(
-    s: &[u8],
-    types: &[usize],
-    structs: &[usize],
-    ty: usize,
-    name: usize,
-) -> Found
+pub fn method_modifier(s: &[u8], types: &[u32], structs: &[u32], ty: usize, name: usize) -> Found
     requires { ⌜ AllWithin (now s) (now types) × AllWithin (now s) (now structs) × Lower (map (typeIn (now s)) (now types)) ⌝ }
     ensures { λ r. ⌜ r ≡ foundOf (modifierOf (map (typeIn (now (s .entry))) (now (types .entry))) (map (structIn (now (s .entry))) (now (structs .entry))) ty name) ⌝ }
 {
@@ -65,7 +59,7 @@ pub fn method_modifier(
     let Found::At(i) = struct_named(s, structs, class) else {
         return Found::Nothing;
     };
-    modifier_in(s, structs[i], name)
+    modifier_in(s, structs[i] as usize, name)
 }
 
 // The span of the global of a name; the globals stand one after the other, 6 bytes each.
@@ -98,14 +92,18 @@ fn begins_with(s: &[u8], at: usize, word: &[u8]) -> bool
 }
 
 // The position of an entry, 0 past the table.
-fn start_of(starts: &[usize], i: usize) -> usize
+fn start_of(starts: &[u32], i: usize) -> usize
     ensures { λ r. ⌜ r ≡ getD (now (starts .entry)) i 0 ⌝ }
 {
-    if i < starts.len() { starts[i] } else { 0 }
+    if i < starts.len() {
+        starts[i] as usize
+    } else {
+        0
+    }
 }
 
 // Whether the name of a number, one of the table, begins with `__tmp`.
-pub fn is_compiler_temp_name(s: &[u8], names: &[usize], n: usize) -> bool
+pub fn is_compiler_temp_name(s: &[u8], names: &[u32], n: usize) -> bool
     requires { ⌜ AllWithin (now s) (now names) ⌝ }
     ensures { λ r. ⌜ r ≡ isTemp (nameOf (now (s .entry)) (getD (now (names .entry)) n 0)) ⌝ }
 {
@@ -113,7 +111,7 @@ pub fn is_compiler_temp_name(s: &[u8], names: &[usize], n: usize) -> bool
 }
 
 // Whether the name of a number, one of the table, is `std::move`.
-pub fn is_move(s: &[u8], names: &[usize], n: usize) -> bool
+pub fn is_move(s: &[u8], names: &[u32], n: usize) -> bool
     requires { ⌜ AllWithin (now s) (now names) ⌝ }
     ensures { λ r. ⌜ r ≡ isMove (nameOf (now (s .entry)) (getD (now (names .entry)) n 0)) ⌝ }
 {

@@ -96,15 +96,15 @@ fn read_named_table(s: &[u8], t: NamedFormat, limit: usize, at: usize) -> image_
 }
 
 // Whether a name is above the last struct's, where there is one.
-fn rises(s: &[u8], names: &[usize], i: usize, last: usize, name: usize) -> bool
+fn rises(s: &[u8], names: &[u32], i: usize, last: usize, name: usize) -> bool
     requires { ⌜ (last < length (now names)) × (name < length (now names)) × Within (now s) (now names) (length (now names)) ⌝ }
     ensures { λ r. ⌜ r ≡ cond (eqb i 0) true (belowBytes (nameOf (now (s .entry)) (getD (now (names .entry)) last 0)) (nameOf (now (s .entry)) (getD (now (names .entry)) name 0))) ⌝ }
 {
     if i == 0 {
         return true;
     }
-    let a = names[last];
-    let b = names[name];
+    let a = names[last] as usize;
+    let b = names[name] as usize;
     tables::name::below_name(s, a, b)
 }
 
@@ -134,7 +134,7 @@ fn read_struct_rest(s: &[u8], names: usize, name: usize, at: usize) -> image_fie
 }
 
 // The struct after i others, the last of them of the name `last`: its name and the position after it.
-fn read_struct(s: &[u8], names: &[usize], i: usize, last: usize, at: usize) -> image_fields::Number
+fn read_struct(s: &[u8], names: &[u32], i: usize, last: usize, at: usize) -> image_fields::Number
     requires { ⌜ (last < length (now names)) × Within (now s) (now names) (length (now names)) ⌝ }
     ensures { λ r. ⌜ ((ss : List Struct) → Ends (map (nameOf (now (s .entry))) (now (names .entry))) ss i last
         → r ≡ structNameOf (structAt version1 (map (nameOf (now (s .entry))) (now (names .entry))) (now (s .entry)) ss at)) ⌝ }
@@ -154,12 +154,12 @@ fn read_struct(s: &[u8], names: &[usize], i: usize, last: usize, at: usize) -> i
 // So many structs, and their positions.
 fn fill_structs(
     s: &[u8],
-    names: &[usize],
-    structs: &mut [usize],
+    names: &[u32],
+    structs: &mut [u32],
     n: usize,
     at: usize,
 ) -> image_fields::Number
-    requires { ⌜ (n ≤ length (now structs)) × (0 < length (now names)) × Within (now s) (now names) (length (now names)) ⌝ }
+    requires { ⌜ (n ≤ length (now structs)) × (0 < length (now names)) × Within (now s) (now names) (length (now names)) × (length (now s) ≤ 65536) ⌝ }
     ensures { λ r. ⌜ r ≡ tableOf (tableFrom (structAt version1 (map (nameOf (now (s .entry))) (now (names .entry))) (now (s .entry))) [] n at) ⌝ }
     ensures structs { λ r. ⌜ ((ss : List Struct) (next : ℕ)
         → tableFrom (structAt version1 (map (nameOf (now (s .entry))) (now (names .entry))) (now (s .entry))) [] n at ≡ ok ss next
@@ -174,7 +174,7 @@ fn fill_structs(
                 return image_fields::Number::Wrong(f);
             }
             image_fields::Number::Is(name, next) => {
-                structs[i] = p;
+                structs[i] = p as u32;
                 last = name;
                 p = next;
                 i += 1;
@@ -185,13 +185,8 @@ fn fill_structs(
 }
 
 // The table of structs: its count and the position after it. The structs' positions go to `structs`.
-pub fn read_structs(
-    s: &[u8],
-    names: &[usize],
-    structs: &mut [usize],
-    at: usize,
-) -> image_fields::Number
-    requires { ⌜ (64 ≤ length (now structs)) × (0 < length (now names)) × Within (now s) (now names) (length (now names)) ⌝ }
+pub fn read_structs(s: &[u8], names: &[u32], structs: &mut [u32], at: usize) -> image_fields::Number
+    requires { ⌜ (64 ≤ length (now structs)) × (0 < length (now names)) × Within (now s) (now names) (length (now names)) × (length (now s) ≤ 65536) ⌝ }
     ensures { λ r. ⌜ r ≡ tableOf (structsAt version1 (map (nameOf (now (s .entry))) (now (names .entry))) (now (s .entry)) at) ⌝ }
     ensures structs { λ r. ⌜ ((ss : List Struct) (next : ℕ)
         → structsAt version1 (map (nameOf (now (s .entry))) (now (names .entry))) (now (s .entry)) at ≡ ok ss next

@@ -6,7 +6,7 @@ use mathlib.Core.Logic.{⊎-elim}
 use borrow.Author.Tests.{not-true, not-false}
 use borrow.Author.Needs.{needs}
 use native.Mathlib.Omega.{arith}
-use Rattle.expressions_effects.proofs.Asked.{tablesOf, said}
+use Rattle.tables_lookup.proofs.Lent.{tablesOf, said}
 use Rattle.rules.specs.Stack.{shape}
 use Rattle.statements_returns.specs.Returns.{BlockThere}
 use Rattle.statements_returns.proofs.Surely.{block-there}
@@ -18,7 +18,8 @@ use Rattle.blocks_ends.specs.declared.Env.{Env}
 use Rattle.blocks_ends.specs.Ends.{walkedIn}
 use Rattle.blocks.specs.Blocks.{Enters, blockRows}
 use Rattle.blocks_ends.proofs.Numbers.{fault-told, no-fault, reaches}
-use Rattle.blocks.proofs.Standing.{Standing, standing-start, ask-next, turned, standing-mark, standing-revived, standing-fresh, full, enters-blocks, there-blocks, less-behind, standing-behind, mark-goes, register-goes, blocks-go, auto-said}
+use Rattle.statements_acts.proofs.Laws.{auto-is}
+use Rattle.blocks.proofs.Standing.{Standing, standing-start, ask-next, turned, standing-mark, standing-revived, standing-fresh, full, enters-blocks, there-blocks, less-behind, standing-behind, mark-goes, register-goes, blocks-go}
 use Rattle.blocks.proofs.Ending.{enters-inner, done-as, fault-done, blocks-done, end-there, end-done, marked-view, leaves-still}
 use Rattle.blocks.proofs.Branching.{moved-once, moved-twice, copied-at, copies-at, comes-at, walks-at, branches-at, merges-at, block-asked, left-same, behind-asked, to-branch, branch-below, branch-enters, branch-short, below-less, comes-faulty, else-low, else-short, else-below, else-least, else-branches, else-fault, else-merges, else-comes}
 use Rattle.blocks.proofs.Thens.{tag-of, seven-of, told-either, flag-seven, flag-none, block-of, then-low, then-short, plain-comes, then-below, then-least, then-fault, flag-there, else-enters, else-block-there, else-first, else-comes-to, else-walks-to, without-branches, without-comes, without-if, without-loop, flag-further, loop-further}
@@ -42,7 +43,7 @@ use Rattle.blocks_ends.proofs.place_in.Reads as place-in-reads
 use Rattle.blocks_ends.proofs.put_place.Reads as put-place-reads
 use Rattle.blocks_ends.proofs.scanning.Reads as scanning-reads
 use Rattle.blocks_ends.proofs.then_over.Reads as then-over-reads
-use Rattle.tables_lookup.proofs.should_auto_delete.Reads as should-auto-delete-reads
+use Rattle.tables_lookup.proofs.auto_deleted.Reads as auto-deleted-reads
 use Rattle.scope_stack.proofs.Locals.register_local.Reads as register-local-reads
 use Rattle.scope_stack.proofs.States.leave.Reads as leave-reads
 use Rattle.scope_stack.proofs.States.mark.Reads as mark-reads
@@ -54,73 +55,73 @@ use Rattle.statements_changes.proofs.next_change.Reads as next-change-reads
 use Rattle.blocks.proofs.+transform_block+transform_blocks+transform_else.{statement}
 use Rattle.blocks.proofs.+transform_block+transform_blocks+transform_else.Tie.{close}
 
-abbrev μ-transform-block : Measures 11 transform-block-kinds.ps ℕ
-μ-transform-block κs a = 4 * a .1 .1 .1 .1 .0 .left
+abbrev μ-transform-block : Measures 9 transform-block-kinds.ps ℕ
+μ-transform-block κs a = 4 * a .1 .1 .0 .left
 
-abbrev μ-transform-blocks : Measures 11 transform-blocks-kinds.ps ℕ
-μ-transform-blocks κs a = 4 * a .1 .1 .1 .1 .0 .left + 3
+abbrev μ-transform-blocks : Measures 9 transform-blocks-kinds.ps ℕ
+μ-transform-blocks κs a = 4 * a .1 .1 .0 .left + 3
 
-abbrev μ-transform-else : Measures 11 transform-else-kinds.ps ℕ
-μ-transform-else κs a = 4 * a .1 .1 .1 .1 .0 .left + 2
+abbrev μ-transform-else : Measures 9 transform-else-kinds.ps ℕ
+μ-transform-else κs a = 4 * a .1 .1 .0 .left + 2
 
-abbrev transform-block-at : ℕ → In 11 transform-block-kinds.ps
+abbrev transform-block-at : ℕ → In 9 transform-block-kinds.ps
 transform-block-at t =
     and
-    11
+    9
     transform-block-kinds.ps
-    (is 11 transform-block-kinds.ps μ-transform-block t)
+    (is 9 transform-block-kinds.ps μ-transform-block t)
     transform-block.Pre
 
-abbrev transform-block-below : ℕ → In 11 transform-block-kinds.ps
+abbrev transform-block-below : ℕ → In 9 transform-block-kinds.ps
 transform-block-below t =
     and
-    11
+    9
     transform-block-kinds.ps
-    (falls 11 transform-block-kinds.ps _<_ μ-transform-block t)
+    (falls 9 transform-block-kinds.ps _<_ μ-transform-block t)
     transform-block.Pre
 
-abbrev transform-blocks-at : ℕ → In 11 transform-blocks-kinds.ps
+abbrev transform-blocks-at : ℕ → In 9 transform-blocks-kinds.ps
 transform-blocks-at t =
     and
-    11
+    9
     transform-blocks-kinds.ps
-    (is 11 transform-blocks-kinds.ps μ-transform-blocks t)
+    (is 9 transform-blocks-kinds.ps μ-transform-blocks t)
     transform-blocks.Pre
 
-abbrev transform-blocks-below : ℕ → In 11 transform-blocks-kinds.ps
+abbrev transform-blocks-below : ℕ → In 9 transform-blocks-kinds.ps
 transform-blocks-below t =
     and
-    11
+    9
     transform-blocks-kinds.ps
-    (falls 11 transform-blocks-kinds.ps _<_ μ-transform-blocks t)
+    (falls 9 transform-blocks-kinds.ps _<_ μ-transform-blocks t)
     transform-blocks.Pre
 
-abbrev transform-else-at : ℕ → In 11 transform-else-kinds.ps
+abbrev transform-else-at : ℕ → In 9 transform-else-kinds.ps
 transform-else-at t =
     and
-    11
+    9
     transform-else-kinds.ps
-    (is 11 transform-else-kinds.ps μ-transform-else t)
+    (is 9 transform-else-kinds.ps μ-transform-else t)
     transform-else.Pre
 
-abbrev transform-else-below : ℕ → In 11 transform-else-kinds.ps
+abbrev transform-else-below : ℕ → In 9 transform-else-kinds.ps
 transform-else-below t =
     and
-    11
+    9
     transform-else-kinds.ps
-    (falls 11 transform-else-kinds.ps _<_ μ-transform-else t)
+    (falls 9 transform-else-kinds.ps _<_ μ-transform-else t)
     transform-else.Pre
 
 abbrev transform-block-Inv-loop : transform-block-lts.InvT-loop
-transform-block-Inv-loop s ns ts xs env outer rows₀ nodes₀ out₀ errs₀ warns₀ lefts₀ pl₀ start e depth l₀ st₀ c₀ rows nodes out errs warns lefts pl l st c =
-    Standing s ns ts xs e start outer st₀ rows₀ out₀ errs₀ warns₀ lefts₀ rows nodes out errs warns lefts pl l st c
+transform-block-Inv-loop s tb env outer rows₀ nodes₀ out₀ errs₀ warns₀ lefts₀ pl₀ start e depth l₀ st₀ c₀ rows nodes out errs warns lefts pl l st c =
+    Standing s tb e start outer st₀ rows₀ out₀ errs₀ warns₀ lefts₀ rows nodes out errs warns lefts pl l st c
 
 abbrev transform-block-μ-loop : transform-block-lts.MeasureT-loop
-transform-block-μ-loop s ns ts xs env outer rows₀ nodes₀ out₀ errs₀ warns₀ lefts₀ pl₀ start e depth l₀ st₀ c₀ rows nodes out errs warns lefts pl l st c =
+transform-block-μ-loop s tb env outer rows₀ nodes₀ out₀ errs₀ warns₀ lefts₀ pl₀ start e depth l₀ st₀ c₀ rows nodes out errs warns lefts pl l st c =
     ahead s c
 
 abbrev transform-block-claims : ℕ → transform-block-lts.Claims
-transform-block-claims t = (place-in-reads.Asked, place-in-reads.Learnt, inner-reads.Asked, inner-reads.Learnt, head-reads.Asked, head-reads.Learnt, drop-word-reads.Asked, drop-word-reads.Learnt, scanning-reads.Asked, scanning-reads.Learnt, next-change-reads.Asked, next-change-reads.Learnt, end-block-reads.Asked, end-block-reads.Learnt, leave-reads.Asked, leave-reads.Learnt, mark-reads.Asked, mark-reads.Learnt, should-auto-delete-reads.Asked, should-auto-delete-reads.Learnt, register-local-reads.Asked, register-local-reads.Learnt, needs-revival-reads.Asked, needs-revival-reads.Learnt, put-place-reads.Asked, put-place-reads.Learnt, transform-blocks-below t, transform-blocks.Post, between-reads.Asked, between-reads.Learnt)
+transform-block-claims t = (place-in-reads.Asked, place-in-reads.Learnt, inner-reads.Asked, inner-reads.Learnt, head-reads.Asked, head-reads.Learnt, drop-word-reads.Asked, drop-word-reads.Learnt, scanning-reads.Asked, scanning-reads.Learnt, next-change-reads.Asked, next-change-reads.Learnt, end-block-reads.Asked, end-block-reads.Learnt, leave-reads.Asked, leave-reads.Learnt, mark-reads.Asked, mark-reads.Learnt, auto-deleted-reads.Asked, auto-deleted-reads.Learnt, register-local-reads.Asked, register-local-reads.Learnt, needs-revival-reads.Asked, needs-revival-reads.Learnt, put-place-reads.Asked, put-place-reads.Learnt, transform-blocks-below t, transform-blocks.Post, between-reads.Asked, between-reads.Learnt)
 
 abbrev transform-blocks-claims : ℕ → transform-blocks-lts.Claims
 transform-blocks-claims t = (transform-block-below t, transform-block.Post, behind-reads.Asked, behind-reads.Learnt, copy-rows-reads.Asked, copy-rows-reads.Learnt, then-over-reads.Asked, then-over-reads.Learnt, transform-else-below t, transform-else.Post, merge-control-flow-states-reads.Asked, merge-control-flow-states-reads.Learnt)
@@ -128,65 +129,65 @@ transform-blocks-claims t = (transform-block-below t, transform-block.Post, behi
 abbrev transform-else-claims : ℕ → transform-else-lts.Claims
 transform-else-claims t = (behind-reads.Asked, behind-reads.Learnt, copy-rows-reads.Asked, copy-rows-reads.Learnt, transform-block-below t, transform-block.Post, merge-control-flow-states-reads.Asked, merge-control-flow-states-reads.Learnt)
 
--- src/lib.rt:206:9
+-- src/lib.rt:153:9
 transform-block-place-in-requires : (t : ℕ) → transform-block-lts.Need-place-in-requires (transform-block-claims t) (transform-block-at t) transform-block.Post transform-block-Inv-loop transform-block-μ-loop
 transform-block-place-in-requires t c κs = tt
 
--- src/lib.rt:207:9
+-- src/lib.rt:154:9
 transform-block-inner-requires : (t : ℕ) → transform-block-lts.Need-inner-requires (transform-block-claims t) (transform-block-at t) transform-block.Post transform-block-Inv-loop transform-block-μ-loop
 transform-block-inner-requires t c κs =
-    let start = c .before .before .before .before .before .before .before .before .before .before .before in
+    let start = c .before .before .before .before .before .before .before .before .before in
     block-there _ _ _ (start .pre .1 .1) .0
 
--- src/lib.rt:208:18
+-- src/lib.rt:155:18
 transform-block-sub-depth : (t : ℕ) → transform-block-lts.Need-sub-depth (transform-block-claims t) (transform-block-at t) transform-block.Post transform-block-Inv-loop transform-block-μ-loop
 transform-block-sub-depth t c =
     let at-inner = c .before in
-    let start = at-inner .before .before .before .before .before .before .before .before .before .before .before .before in
+    let start = at-inner .before .before .before .before .before .before .before .before .before .before in
     let el = ap (λ (x : Env). x .left) (at-inner .inner .ensures) in
     omega (arith, el, start .pre .1 .0 .depth)
 
--- src/lib.rt:208:17
+-- src/lib.rt:155:17
 transform-block-cast-depth : (t : ℕ) → transform-block-lts.Need-cast-depth (transform-block-claims t) (transform-block-at t) transform-block.Post transform-block-Inv-loop transform-block-μ-loop
 transform-block-cast-depth t c = omega arith
 
--- src/lib.rt:211:9
+-- src/lib.rt:158:9
 transform-block-head-requires : (t : ℕ) → transform-block-lts.Need-head-requires (transform-block-claims t) (transform-block-at t) transform-block.Post transform-block-Inv-loop transform-block-μ-loop
 transform-block-head-requires t c κs =
     let at-place-in = c .before .before .before in
-    let start = at-place-in .before .before .before .before .before .before .before .before .before .before .before in (
+    let start = at-place-in .before .before .before .before .before .before .before .before .before in (
       subst (Within _) (sym (at-place-in .place-in .ensures)) (start .pre .1 .0 .within),
       subst (λ (p : Place). p .at + 6 ≤ length (start .args .s .now))
           (sym (at-place-in .place-in .ensures)) (block-there _ _ _ (start .pre .1 .1) .1),
     )
 
--- src/lib.rt:212:5
+-- src/lib.rt:159:5
 transform-block-loop-holds : (t : ℕ) → transform-block-lts.Need-loop-holds (transform-block-claims t) (transform-block-at t) transform-block.Post transform-block-Inv-loop transform-block-μ-loop
 transform-block-loop-holds t c =
     let at-head = c .before .before in
     let at-inner = at-head .before .before .before in
     let at-place-in = at-inner .before in
-    let at-shared-slice-known = at-place-in .before .before .before .before .before .before .before .before .before .before in
+    let at-shared-slice-known = at-place-in .before .before .before .before .before .before .before .before in
     let start = at-shared-slice-known .before in
-    let en = enters-inner _ _ _ _ (start .args .env) (at-inner .inner .result) _ _ _ _ (at-inner .inner .ensures)
-    (subst (Enters (start .args .s .now) (start .args .ns .now) (start .args .ts .now) (start .args .xs .now) (start .args .env) (start .args .outer)
+    let en = enters-inner _ _ (start .args .env) (at-inner .inner .result) _ _ _ _ (at-inner .inner .ensures)
+    (subst (Enters (start .args .s .now) (start .args .tb .now) (start .args .env) (start .args .outer)
     (start .args .states) (start .args .rows .now)) (sym (at-place-in .place-in .ensures)) (start .pre .1 .0)) in
     let there = subst (λ (p : Place). BlockThere (start .args .s .now) (start .args .env .left) (p .at)) (sym (at-place-in .place-in .ensures)) (start .pre .1 .1) in
     let el = ap (λ (x : Env). x .left) (at-inner .inner .ensures) in
-    standing-start (start .args .s .now) (start .args .ns .now) (start .args .ts .now) (start .args .xs .now) (at-inner .inner .result) (at-place-in .place-in .result)
+    standing-start (start .args .s .now) (start .args .tb .now) (at-inner .inner .result) (at-place-in .place-in .result)
     (start .args .outer) (start .args .states) (start .args .rows .now) _ (start .args .errs .now) (start .args .warns .now) (start .args .lefts .now) en
     (start .args .env .left) el there (λ k. omega (arith, at-shared-slice-known .shared-slice-known .given k)) _ _ (start .pre .1 .3) (start .pre .1 .4) _
     (at-head .head .ensures .is)
 
--- src/lib.rt:213:13
+-- src/lib.rt:160:13
 transform-block-drop-word-requires : (t : ℕ) → transform-block-lts.Need-drop-word-requires (transform-block-claims t) (transform-block-at t) transform-block.Post transform-block-Inv-loop transform-block-μ-loop
 transform-block-drop-word-requires t c κs = search needs
 
--- src/lib.rt:214:13
+-- src/lib.rt:161:13
 transform-block-scanning-requires : (t : ℕ) → transform-block-lts.Need-scanning-requires (transform-block-claims t) (transform-block-at t) transform-block.Post transform-block-Inv-loop transform-block-μ-loop
 transform-block-scanning-requires t c κs = search needs
 
--- src/lib.rt:215:13
+-- src/lib.rt:162:13
 transform-block-next-change-requires : (t : ℕ) → transform-block-lts.Need-next-change-requires (transform-block-claims t) (transform-block-at t) transform-block.Post transform-block-Inv-loop transform-block-μ-loop
 transform-block-next-change-requires t c κs =
     let at-scanning = c .before .before .before .before .before .before .before .before .before .before .before .before .before in
@@ -194,12 +195,12 @@ transform-block-next-change-requires t c κs =
     let at-loop = at-drop-word .before in
     let at-inner = at-loop .before .before .before .before .before .before in
     let at-place-in = at-inner .before in
-    let start = at-place-in .before .before .before .before .before .before .before .before .before .before .before in
-    let en = enters-inner _ _ _ _ (start .args .env) (at-inner .inner .result) _ _ _ _ (at-inner .inner .ensures)
-    (subst (Enters (start .args .s .now) (start .args .ns .now) (start .args .ts .now) (start .args .xs .now) (start .args .env) (start .args .outer)
+    let start = at-place-in .before .before .before .before .before .before .before .before .before in
+    let en = enters-inner _ _ (start .args .env) (at-inner .inner .result) _ _ _ _ (at-inner .inner .ensures)
+    (subst (Enters (start .args .s .now) (start .args .tb .now) (start .args .env) (start .args .outer)
     (start .args .states) (start .args .rows .now)) (sym (at-place-in .place-in .ensures)) (start .pre .1 .0)) in
     let ec = ap (λ (x : Env). x .cur) (at-inner .inner .ensures) in
-    ask-next (start .args .s .now) (start .args .ns .now) (start .args .ts .now) (start .args .xs .now) (at-inner .inner .result) (at-place-in .place-in .result)
+    ask-next (start .args .s .now) (start .args .tb .now) (at-inner .inner .result) (at-place-in .place-in .result)
     (start .args .outer) (start .args .states) (start .args .rows .now) _ (start .args .errs .now) (start .args .warns .now) (start .args .lefts .now) (en .lent)
     (en .depth) (en .width) (omega (arith, ec, start .pre .1 .2)) (at-loop .loop .inv) (at-drop-word .drop-word .result) (at-scanning .scanning .result)
     (at-scanning .scanning .ensures)
@@ -207,23 +208,23 @@ transform-block-next-change-requires t c κs =
 transform-block-enum-told : (t : ℕ) → transform-block-lts.Need-enum-told (transform-block-claims t) (transform-block-at t) transform-block.Post transform-block-Inv-loop transform-block-μ-loop
 transform-block-enum-told t c = search needs
 
--- src/lib.rt:212:5
+-- src/lib.rt:159:5
 transform-block-loop-less : (t : ℕ) → transform-block-lts.Need-loop-less (transform-block-claims t) (transform-block-at t) transform-block.Post transform-block-Inv-loop transform-block-μ-loop
 transform-block-loop-less t c =
     let at-next-change = c .before .before .before .before .before .before .before .before .before .before .before .before in
     absurd (at-next-change .next-change .ensures .1 .2 (c .enum-told .given .1))
 
--- src/lib.rt:212:5
+-- src/lib.rt:159:5
 transform-block-loop-again : (t : ℕ) → transform-block-lts.Need-loop-again (transform-block-claims t) (transform-block-at t) transform-block.Post transform-block-Inv-loop transform-block-μ-loop
 transform-block-loop-again t c =
     let at-next-change = c .before .before .before .before .before .before .before .before .before .before .before .before in
     absurd (at-next-change .next-change .ensures .1 .2 (c .enum-told .given .1))
 
--- src/lib.rt:245:21
+-- src/lib.rt:190:21
 transform-block-enum-told-2 : (t : ℕ) → transform-block-lts.Need-enum-told-2 (transform-block-claims t) (transform-block-at t) transform-block.Post transform-block-Inv-loop transform-block-μ-loop
 transform-block-enum-told-2 t c = search needs
 
--- src/lib.rt:240:17
+-- src/lib.rt:185:17
 transform-block-end-block-requires : (t : ℕ) → transform-block-lts.Need-end-block-requires (transform-block-claims t) (transform-block-at t) transform-block.Post transform-block-Inv-loop transform-block-μ-loop
 transform-block-end-block-requires t c κs =
     let at-enum-told2 = c .before .before .before .before .before .before in
@@ -234,71 +235,71 @@ transform-block-end-block-requires t c κs =
     let at-head = at-loop .before .before .before in
     let at-inner = at-head .before .before .before in
     let at-place-in = at-inner .before in
-    let at-shared-slice-known = at-place-in .before .before .before .before .before .before .before .before .before .before in
+    let at-shared-slice-known = at-place-in .before .before .before .before .before .before .before .before in
     let start = at-shared-slice-known .before in
     let there = subst (λ (p : Place). BlockThere (start .args .s .now) (start .args .env .left) (p .at)) (sym (at-place-in .place-in .ensures)) (start .pre .1 .1) in
     let el = ap (λ (x : Env). x .left) (at-inner .inner .ensures) in
     let low = block-there _ _ _ (start .pre .1 .1) .0 in
     let within = subst (Within _) (sym (at-place-in .place-in .ensures)) (start .pre .1 .0 .within) in
-    let h = turned (start .args .s .now) (start .args .ns .now) (start .args .ts .now) (start .args .xs .now) (at-inner .inner .result) (at-place-in .place-in .result)
+    let h = turned (start .args .s .now) (start .args .tb .now) (at-inner .inner .result) (at-place-in .place-in .result)
     (start .args .outer) (start .args .states) (start .args .rows .now) _ (start .args .errs .now) (start .args .warns .now) (start .args .lefts .now)
     (at-loop .loop .inv) (at-drop-word .drop-word .result)
     (λ T d. at-drop-word .drop-word .ensures T (at-loop .loop .l) (at-loop .loop .st) refl refl (at-loop .loop .inv .owned .sound .kept)
     (at-loop .loop .inv .owned .sound .held) d) (at-scanning .scanning .result) (at-scanning .scanning .ensures) (at-next-change .next-change .ensures)
-    (at-enum-told2 .enum-told2 .given .1) (at-next-change .next-change .kept .1 .1 .1 .1 .1 .1 .1 .1 .1 .1 .1 .1 .1 .0)
-    (at-next-change .next-change .kept .1 .1 .1 .1 .1 .1 .1 .1 .1 .1 .1 .1 .1 .1 .0)
-    (at-next-change .next-change .kept .1 .1 .1 .1 .1 .1 .1 .1 .1 .1 .1 .1 .1 .1 .1 .0)
-    (at-next-change .next-change .kept .1 .1 .1 .1 .1 .1 .1 .1 .1 .1 .1 .1 .1 .1 .1 .1 .0) in (
-      end-there (start .args .s .now) (start .args .ns .now) (start .args .ts .now) (start .args .xs .now)
+    (at-enum-told2 .enum-told2 .given .1) (at-next-change .next-change .kept .1 .1 .1 .1 .1 .1 .1 .1 .1 .1 .1 .0)
+    (at-next-change .next-change .kept .1 .1 .1 .1 .1 .1 .1 .1 .1 .1 .1 .1 .0)
+    (at-next-change .next-change .kept .1 .1 .1 .1 .1 .1 .1 .1 .1 .1 .1 .1 .1 .0)
+    (at-next-change .next-change .kept .1 .1 .1 .1 .1 .1 .1 .1 .1 .1 .1 .1 .1 .1 .0) in (
+      end-there (start .args .s .now) (start .args .tb .now)
           (λ k. omega (arith, at-shared-slice-known .shared-slice-known .given k)) (at-inner .inner .result) (start .args .env .left) low (start .pre .1 .0 .depth) el
           (at-place-in .place-in .result) (start .args .outer) (start .args .states) (start .args .rows .now) _ (start .args .errs .now) (start .args .warns .now)
           (start .args .lefts .now) within there (start .args .out .now) (at-head .head .ensures .stored) h,
       at-loop .loop .inv .long .pl,
     )
 
--- src/lib.rt:253:26
+-- src/lib.rt:198:26
 transform-block-leave-requires : (t : ℕ) → transform-block-lts.Need-leave-requires (transform-block-claims t) (transform-block-at t) transform-block.Post transform-block-Inv-loop transform-block-μ-loop
 transform-block-leave-requires t c κs =
     let at-loop = c .before .before .before .before .before .before .before .before .before .before .before .before .before .before .before .before .before .before .before .before .before .before .before .before .before .before .before .before .before .before .before .before .before .before .before .before .before .before .before in
     (at-loop .loop .inv .owned .sound .held, at-loop .loop .inv .owned .extends .most, at-loop .loop .inv .owned .sound .kept .small)
 
--- src/lib.rt:255:17
+-- src/lib.rt:200:17
 transform-block-same-length : (t : ℕ) → transform-block-lts.Need-same-length (transform-block-claims t) (transform-block-at t) transform-block.Post transform-block-Inv-loop transform-block-μ-loop
 transform-block-same-length t c =
     let at-loop = c .before .before .before .before .before .before .before .before .before .before .before .before .before .before .before .before .before .before .before .before .before .before .before .before .before .before .before .before .before .before .before .before .before .before .before .before .before .before .before .before in
     at-loop .loop .inv .owned .below .room
 
--- src/lib.rt:255:17
+-- src/lib.rt:200:17
 transform-block-same-length-2 : (t : ℕ) → transform-block-lts.Need-same-length-2 (transform-block-claims t) (transform-block-at t) transform-block.Post transform-block-Inv-loop transform-block-μ-loop
 transform-block-same-length-2 t c =
     let at-end-block = c .before .before .before .before .before in
     let at-next-change = at-end-block .before .before .before .before .before .before .before .before .before .before .before .before .before .before .before .before .before .before .before in
     let at-loop = at-next-change .before .before .before .before .before .before .before .before .before .before .before .before .before .before .before .before in
     let at-head = at-loop .before .before .before in
-    at-end-block .end-block .kept .1 .1 .1 .1 .1 .1 .1 .1 .0 ∙ at-next-change .next-change .kept .1 .1 .1 .1 .1 .1 .1 .1 .1 .1 .1 .1 .1 .0 ∙ at-loop .loop .inv .long .out ∙ at-head .head .kept .1 .1 .0
+    omega (arith, at-end-block .end-block .kept .1 .1 .1 .1 .1 .1 .1 .1 .0, at-next-change .next-change .kept .1 .1 .1 .1 .1 .1 .1 .1 .1 .1 .1 .0, at-loop .loop .inv .long .out, at-head .head .kept .1 .1 .0)
 
--- src/lib.rt:255:17
+-- src/lib.rt:200:17
 transform-block-same-length-3 : (t : ℕ) → transform-block-lts.Need-same-length-3 (transform-block-claims t) (transform-block-at t) transform-block.Post transform-block-Inv-loop transform-block-μ-loop
 transform-block-same-length-3 t c =
     let at-next-change = c .before .before .before .before .before .before .before .before .before .before .before .before .before .before .before .before .before .before .before .before .before .before .before .before in
     let at-loop = at-next-change .before .before .before .before .before .before .before .before .before .before .before .before .before .before .before .before in
-    at-next-change .next-change .kept .1 .1 .1 .1 .1 .1 .1 .1 .1 .1 .1 .1 .1 .1 .0 ∙ at-loop .loop .inv .long .errs
+    omega (arith, at-next-change .next-change .kept .1 .1 .1 .1 .1 .1 .1 .1 .1 .1 .1 .1 .0, at-loop .loop .inv .long .errs)
 
--- src/lib.rt:255:17
+-- src/lib.rt:200:17
 transform-block-same-length-4 : (t : ℕ) → transform-block-lts.Need-same-length-4 (transform-block-claims t) (transform-block-at t) transform-block.Post transform-block-Inv-loop transform-block-μ-loop
 transform-block-same-length-4 t c =
     let at-next-change = c .before .before .before .before .before .before .before .before .before .before .before .before .before .before .before .before .before .before .before .before .before .before .before .before in
     let at-loop = at-next-change .before .before .before .before .before .before .before .before .before .before .before .before .before .before .before .before in
-    at-next-change .next-change .kept .1 .1 .1 .1 .1 .1 .1 .1 .1 .1 .1 .1 .1 .1 .1 .0 ∙ at-loop .loop .inv .long .warns
+    omega (arith, at-next-change .next-change .kept .1 .1 .1 .1 .1 .1 .1 .1 .1 .1 .1 .1 .1 .0, at-loop .loop .inv .long .warns)
 
--- src/lib.rt:255:17
+-- src/lib.rt:200:17
 transform-block-same-length-5 : (t : ℕ) → transform-block-lts.Need-same-length-5 (transform-block-claims t) (transform-block-at t) transform-block.Post transform-block-Inv-loop transform-block-μ-loop
 transform-block-same-length-5 t c =
     let at-next-change = c .before .before .before .before .before .before .before .before .before .before .before .before .before .before .before .before .before .before .before .before .before .before .before .before in
     let at-loop = at-next-change .before .before .before .before .before .before .before .before .before .before .before .before .before .before .before .before in
-    at-next-change .next-change .kept .1 .1 .1 .1 .1 .1 .1 .1 .1 .1 .1 .1 .1 .1 .1 .1 .0 ∙ at-loop .loop .inv .long .lefts
+    omega (arith, at-next-change .next-change .kept .1 .1 .1 .1 .1 .1 .1 .1 .1 .1 .1 .1 .1 .1 .0, at-loop .loop .inv .long .lefts)
 
--- src/lib.rt:255:17
+-- src/lib.rt:200:17
 transform-block-returns : (t : ℕ) → transform-block-lts.Need-returns (transform-block-claims t) (transform-block-at t) transform-block.Post transform-block-Inv-loop transform-block-μ-loop
 transform-block-returns t c =
     let at-end-block = c .before .before .before .before .before in
@@ -310,25 +311,25 @@ transform-block-returns t c =
     let at-head = at-loop .before .before .before in
     let at-inner = at-head .before .before .before in
     let at-place-in = at-inner .before in
-    let at-shared-slice-known = at-place-in .before .before .before .before .before .before .before .before .before .before in
+    let at-shared-slice-known = at-place-in .before .before .before .before .before .before .before .before in
     let start = at-shared-slice-known .before in
     let there = subst (λ (p : Place). BlockThere (start .args .s .now) (start .args .env .left) (p .at)) (sym (at-place-in .place-in .ensures)) (start .pre .1 .1) in
     let el = ap (λ (x : Env). x .left) (at-inner .inner .ensures) in
     let low = block-there _ _ _ (start .pre .1 .1) .0 in
     let within = subst (Within _) (sym (at-place-in .place-in .ensures)) (start .pre .1 .0 .within) in
-    let h = turned (start .args .s .now) (start .args .ns .now) (start .args .ts .now) (start .args .xs .now) (at-inner .inner .result) (at-place-in .place-in .result)
+    let h = turned (start .args .s .now) (start .args .tb .now) (at-inner .inner .result) (at-place-in .place-in .result)
     (start .args .outer) (start .args .states) (start .args .rows .now) _ (start .args .errs .now) (start .args .warns .now) (start .args .lefts .now)
     (at-loop .loop .inv) (at-drop-word .drop-word .result)
     (λ T d. at-drop-word .drop-word .ensures T (at-loop .loop .l) (at-loop .loop .st) refl refl (at-loop .loop .inv .owned .sound .kept)
     (at-loop .loop .inv .owned .sound .held) d) (at-scanning .scanning .result) (at-scanning .scanning .ensures) (at-next-change .next-change .ensures)
-    (at-enum-told2 .enum-told2 .given .1) (at-next-change .next-change .kept .1 .1 .1 .1 .1 .1 .1 .1 .1 .1 .1 .1 .1 .0)
-    (at-next-change .next-change .kept .1 .1 .1 .1 .1 .1 .1 .1 .1 .1 .1 .1 .1 .1 .0)
-    (at-next-change .next-change .kept .1 .1 .1 .1 .1 .1 .1 .1 .1 .1 .1 .1 .1 .1 .1 .0)
-    (at-next-change .next-change .kept .1 .1 .1 .1 .1 .1 .1 .1 .1 .1 .1 .1 .1 .1 .1 .1 .0) in
+    (at-enum-told2 .enum-told2 .given .1) (at-next-change .next-change .kept .1 .1 .1 .1 .1 .1 .1 .1 .1 .1 .1 .0)
+    (at-next-change .next-change .kept .1 .1 .1 .1 .1 .1 .1 .1 .1 .1 .1 .1 .0)
+    (at-next-change .next-change .kept .1 .1 .1 .1 .1 .1 .1 .1 .1 .1 .1 .1 .1 .0)
+    (at-next-change .next-change .kept .1 .1 .1 .1 .1 .1 .1 .1 .1 .1 .1 .1 .1 .1 .0) in
     let nested = subst (λ (x : Env). Nested (12 - start .args .env .left)
     (shape (view (start .args .outer) (start .args .states) (start .args .rows .now) (x .cur) (x .width)))) (sym (at-inner .inner .ensures))
     (start .pre .1 .0 .nested) in
-    let d = end-done (start .args .s .now) (start .args .ns .now) (start .args .ts .now) (start .args .xs .now)
+    let d = end-done (start .args .s .now) (start .args .tb .now)
     (λ k. omega (arith, at-shared-slice-known .shared-slice-known .given k)) (at-inner .inner .result) (start .args .env .left) low (start .pre .1 .0 .depth) el
     (at-place-in .place-in .result) (start .args .outer) (start .args .states) (start .args .rows .now) _ (start .args .errs .now) (start .args .warns .now)
     (start .args .lefts .now) within there (start .args .out .now) (at-head .head .ensures .stored) h _ _ (at-end-block .end-block .ensures .1) (c .leave .result)
@@ -336,46 +337,46 @@ transform-block-returns t c =
     (λ T sy. at-end-block .end-block .ensures .0 T _ _ (marked-view T (at-loop .loop .l) (at-loop .loop .st) _ _ _ _ (at-loop .loop .inv .owned .sound .rowed)
     (at-drop-word .drop-word .ensures T (at-loop .loop .l) (at-loop .loop .st) refl refl (at-loop .loop .inv .owned .sound .kept)
     (at-loop .loop .inv .owned .sound .held) (at-loop .loop .inv .owned .drops T sy)))) in
-    let q = done-as _ _ _ _ (start .args .env) (at-inner .inner .result) _ _ _ _ _ _ _ _ _ _ _ _ _ (at-inner .inner .ensures) (at-place-in .place-in .ensures) d in
+    let q = done-as _ _ (start .args .env) (at-inner .inner .result) _ _ _ _ _ _ _ _ _ _ _ _ _ (at-inner .inner .ensures) (at-place-in .place-in .ensures) d in
     ((q .comes, q .nodes), q .walks)
 
--- src/lib.rt:255:17
+-- src/lib.rt:200:17
 transform-block-same-length-6 : (t : ℕ) → transform-block-lts.Need-same-length-6 (transform-block-claims t) (transform-block-at t) transform-block.Post transform-block-Inv-loop transform-block-μ-loop
 transform-block-same-length-6 t c =
     let at-loop = c .before .before .before .before .before .before .before .before .before .before .before .before .before .before .before .before .before .before .before .before .before .before .before .before .before .before .before .before .before .before .before .before .before .before .before .before .before .before .before in
     at-loop .loop .inv .owned .below .room
 
--- src/lib.rt:255:17
+-- src/lib.rt:200:17
 transform-block-same-length-7 : (t : ℕ) → transform-block-lts.Need-same-length-7 (transform-block-claims t) (transform-block-at t) transform-block.Post transform-block-Inv-loop transform-block-μ-loop
 transform-block-same-length-7 t c =
     let at-end-block = c .before .before .before .before in
     let at-next-change = at-end-block .before .before .before .before .before .before .before .before .before .before .before .before .before .before .before .before .before .before .before in
     let at-loop = at-next-change .before .before .before .before .before .before .before .before .before .before .before .before .before .before .before .before in
     let at-head = at-loop .before .before .before in
-    at-end-block .end-block .kept .1 .1 .1 .1 .1 .1 .1 .1 .0 ∙ at-next-change .next-change .kept .1 .1 .1 .1 .1 .1 .1 .1 .1 .1 .1 .1 .1 .0 ∙ at-loop .loop .inv .long .out ∙ at-head .head .kept .1 .1 .0
+    omega (arith, at-end-block .end-block .kept .1 .1 .1 .1 .1 .1 .1 .1 .0, at-next-change .next-change .kept .1 .1 .1 .1 .1 .1 .1 .1 .1 .1 .1 .0, at-loop .loop .inv .long .out, at-head .head .kept .1 .1 .0)
 
--- src/lib.rt:255:17
+-- src/lib.rt:200:17
 transform-block-same-length-8 : (t : ℕ) → transform-block-lts.Need-same-length-8 (transform-block-claims t) (transform-block-at t) transform-block.Post transform-block-Inv-loop transform-block-μ-loop
 transform-block-same-length-8 t c =
     let at-next-change = c .before .before .before .before .before .before .before .before .before .before .before .before .before .before .before .before .before .before .before .before .before .before .before in
     let at-loop = at-next-change .before .before .before .before .before .before .before .before .before .before .before .before .before .before .before .before in
-    at-next-change .next-change .kept .1 .1 .1 .1 .1 .1 .1 .1 .1 .1 .1 .1 .1 .1 .0 ∙ at-loop .loop .inv .long .errs
+    omega (arith, at-next-change .next-change .kept .1 .1 .1 .1 .1 .1 .1 .1 .1 .1 .1 .1 .0, at-loop .loop .inv .long .errs)
 
--- src/lib.rt:255:17
+-- src/lib.rt:200:17
 transform-block-same-length-9 : (t : ℕ) → transform-block-lts.Need-same-length-9 (transform-block-claims t) (transform-block-at t) transform-block.Post transform-block-Inv-loop transform-block-μ-loop
 transform-block-same-length-9 t c =
     let at-next-change = c .before .before .before .before .before .before .before .before .before .before .before .before .before .before .before .before .before .before .before .before .before .before .before in
     let at-loop = at-next-change .before .before .before .before .before .before .before .before .before .before .before .before .before .before .before .before in
-    at-next-change .next-change .kept .1 .1 .1 .1 .1 .1 .1 .1 .1 .1 .1 .1 .1 .1 .1 .0 ∙ at-loop .loop .inv .long .warns
+    omega (arith, at-next-change .next-change .kept .1 .1 .1 .1 .1 .1 .1 .1 .1 .1 .1 .1 .1 .0, at-loop .loop .inv .long .warns)
 
--- src/lib.rt:255:17
+-- src/lib.rt:200:17
 transform-block-same-length-10 : (t : ℕ) → transform-block-lts.Need-same-length-10 (transform-block-claims t) (transform-block-at t) transform-block.Post transform-block-Inv-loop transform-block-μ-loop
 transform-block-same-length-10 t c =
     let at-next-change = c .before .before .before .before .before .before .before .before .before .before .before .before .before .before .before .before .before .before .before .before .before .before .before in
     let at-loop = at-next-change .before .before .before .before .before .before .before .before .before .before .before .before .before .before .before .before in
-    at-next-change .next-change .kept .1 .1 .1 .1 .1 .1 .1 .1 .1 .1 .1 .1 .1 .1 .1 .1 .0 ∙ at-loop .loop .inv .long .lefts
+    omega (arith, at-next-change .next-change .kept .1 .1 .1 .1 .1 .1 .1 .1 .1 .1 .1 .1 .1 .1 .0, at-loop .loop .inv .long .lefts)
 
--- src/lib.rt:255:17
+-- src/lib.rt:200:17
 transform-block-returns-2 : (t : ℕ) → transform-block-lts.Need-returns-2 (transform-block-claims t) (transform-block-at t) transform-block.Post transform-block-Inv-loop transform-block-μ-loop
 transform-block-returns-2 t c =
     let at-end-block = c .before .before .before .before in
@@ -387,25 +388,25 @@ transform-block-returns-2 t c =
     let at-head = at-loop .before .before .before in
     let at-inner = at-head .before .before .before in
     let at-place-in = at-inner .before in
-    let at-shared-slice-known = at-place-in .before .before .before .before .before .before .before .before .before .before in
+    let at-shared-slice-known = at-place-in .before .before .before .before .before .before .before .before in
     let start = at-shared-slice-known .before in
     let there = subst (λ (p : Place). BlockThere (start .args .s .now) (start .args .env .left) (p .at)) (sym (at-place-in .place-in .ensures)) (start .pre .1 .1) in
     let el = ap (λ (x : Env). x .left) (at-inner .inner .ensures) in
     let low = block-there _ _ _ (start .pre .1 .1) .0 in
     let within = subst (Within _) (sym (at-place-in .place-in .ensures)) (start .pre .1 .0 .within) in
-    let h = turned (start .args .s .now) (start .args .ns .now) (start .args .ts .now) (start .args .xs .now) (at-inner .inner .result) (at-place-in .place-in .result)
+    let h = turned (start .args .s .now) (start .args .tb .now) (at-inner .inner .result) (at-place-in .place-in .result)
     (start .args .outer) (start .args .states) (start .args .rows .now) _ (start .args .errs .now) (start .args .warns .now) (start .args .lefts .now)
     (at-loop .loop .inv) (at-drop-word .drop-word .result)
     (λ T d. at-drop-word .drop-word .ensures T (at-loop .loop .l) (at-loop .loop .st) refl refl (at-loop .loop .inv .owned .sound .kept)
     (at-loop .loop .inv .owned .sound .held) d) (at-scanning .scanning .result) (at-scanning .scanning .ensures) (at-next-change .next-change .ensures)
-    (at-enum-told2 .enum-told2 .given .1) (at-next-change .next-change .kept .1 .1 .1 .1 .1 .1 .1 .1 .1 .1 .1 .1 .1 .0)
-    (at-next-change .next-change .kept .1 .1 .1 .1 .1 .1 .1 .1 .1 .1 .1 .1 .1 .1 .0)
-    (at-next-change .next-change .kept .1 .1 .1 .1 .1 .1 .1 .1 .1 .1 .1 .1 .1 .1 .1 .0)
-    (at-next-change .next-change .kept .1 .1 .1 .1 .1 .1 .1 .1 .1 .1 .1 .1 .1 .1 .1 .1 .0) in
+    (at-enum-told2 .enum-told2 .given .1) (at-next-change .next-change .kept .1 .1 .1 .1 .1 .1 .1 .1 .1 .1 .1 .0)
+    (at-next-change .next-change .kept .1 .1 .1 .1 .1 .1 .1 .1 .1 .1 .1 .1 .0)
+    (at-next-change .next-change .kept .1 .1 .1 .1 .1 .1 .1 .1 .1 .1 .1 .1 .1 .0)
+    (at-next-change .next-change .kept .1 .1 .1 .1 .1 .1 .1 .1 .1 .1 .1 .1 .1 .1 .0) in
     let nested = subst (λ (x : Env). Nested (12 - start .args .env .left)
     (shape (view (start .args .outer) (start .args .states) (start .args .rows .now) (x .cur) (x .width)))) (sym (at-inner .inner .ensures))
     (start .pre .1 .0 .nested) in
-    let d = end-done (start .args .s .now) (start .args .ns .now) (start .args .ts .now) (start .args .xs .now)
+    let d = end-done (start .args .s .now) (start .args .tb .now)
     (λ k. omega (arith, at-shared-slice-known .shared-slice-known .given k)) (at-inner .inner .result) (start .args .env .left) low (start .pre .1 .0 .depth) el
     (at-place-in .place-in .result) (start .args .outer) (start .args .states) (start .args .rows .now) _ (start .args .errs .now) (start .args .warns .now)
     (start .args .lefts .now) within there (start .args .out .now) (at-head .head .ensures .stored) h _ _ (at-end-block .end-block .ensures .1)
@@ -414,14 +415,14 @@ transform-block-returns-2 t c =
     (λ T sy. at-end-block .end-block .ensures .0 T _ _ (marked-view T (at-loop .loop .l) (at-loop .loop .st) _ _ _ _ (at-loop .loop .inv .owned .sound .rowed)
     (at-drop-word .drop-word .ensures T (at-loop .loop .l) (at-loop .loop .st) refl refl (at-loop .loop .inv .owned .sound .kept)
     (at-loop .loop .inv .owned .sound .held) (at-loop .loop .inv .owned .drops T sy)))) in
-    let q = done-as _ _ _ _ (start .args .env) (at-inner .inner .result) _ _ _ _ _ _ _ _ _ _ _ _ _ (at-inner .inner .ensures) (at-place-in .place-in .ensures) d in
+    let q = done-as _ _ (start .args .env) (at-inner .inner .result) _ _ _ _ _ _ _ _ _ _ _ _ _ (at-inner .inner .ensures) (at-place-in .place-in .ensures) d in
     ((q .comes, q .nodes), q .walks)
 
--- src/lib.rt:257:24
+-- src/lib.rt:202:24
 transform-block-enum-known-turn : (t : ℕ) → transform-block-lts.Need-enum-known-turn (transform-block-claims t) (transform-block-at t) transform-block.Post transform-block-Inv-loop transform-block-μ-loop
 transform-block-enum-known-turn t c = search needs
 
--- src/lib.rt:258:22
+-- src/lib.rt:203:22
 transform-block-mark-requires : (t : ℕ) → transform-block-lts.Need-mark-requires (transform-block-claims t) (transform-block-at t) transform-block.Post transform-block-Inv-loop transform-block-μ-loop
 transform-block-mark-requires t c κs =
     let at-turn = c .before .before .before .before in
@@ -431,26 +432,26 @@ transform-block-mark-requires t c κs =
     let at-loop = at-drop-word .before in
     let at-inner = at-loop .before .before .before .before .before .before in
     let at-place-in = at-inner .before in
-    let start = at-place-in .before .before .before .before .before .before .before .before .before .before .before in
-    let h = turned (start .args .s .now) (start .args .ns .now) (start .args .ts .now) (start .args .xs .now) (at-inner .inner .result) (at-place-in .place-in .result)
+    let start = at-place-in .before .before .before .before .before .before .before .before .before in
+    let h = turned (start .args .s .now) (start .args .tb .now) (at-inner .inner .result) (at-place-in .place-in .result)
     (start .args .outer) (start .args .states) (start .args .rows .now) _ (start .args .errs .now) (start .args .warns .now) (start .args .lefts .now)
     (at-loop .loop .inv) (at-drop-word .drop-word .result)
     (λ T d. at-drop-word .drop-word .ensures T (at-loop .loop .l) (at-loop .loop .st) refl refl (at-loop .loop .inv .owned .sound .kept)
     (at-loop .loop .inv .owned .sound .held) d) (at-scanning .scanning .result) (at-scanning .scanning .ensures) (at-next-change .next-change .ensures)
-    (at-turn .turn .given .1) (at-next-change .next-change .kept .1 .1 .1 .1 .1 .1 .1 .1 .1 .1 .1 .1 .1 .0)
-    (at-next-change .next-change .kept .1 .1 .1 .1 .1 .1 .1 .1 .1 .1 .1 .1 .1 .1 .0)
-    (at-next-change .next-change .kept .1 .1 .1 .1 .1 .1 .1 .1 .1 .1 .1 .1 .1 .1 .1 .0)
-    (at-next-change .next-change .kept .1 .1 .1 .1 .1 .1 .1 .1 .1 .1 .1 .1 .1 .1 .1 .1 .0) in
+    (at-turn .turn .given .1) (at-next-change .next-change .kept .1 .1 .1 .1 .1 .1 .1 .1 .1 .1 .1 .0)
+    (at-next-change .next-change .kept .1 .1 .1 .1 .1 .1 .1 .1 .1 .1 .1 .1 .0)
+    (at-next-change .next-change .kept .1 .1 .1 .1 .1 .1 .1 .1 .1 .1 .1 .1 .1 .0)
+    (at-next-change .next-change .kept .1 .1 .1 .1 .1 .1 .1 .1 .1 .1 .1 .1 .1 .1 .0) in
     (at-loop .loop .inv .owned .sound .held, at-loop .loop .inv .owned .sound .kept .small, h .fit .1)
 
--- src/lib.rt:212:5
+-- src/lib.rt:159:5
 transform-block-loop-less-2 : (t : ℕ) → transform-block-lts.Need-loop-less-2 (transform-block-claims t) (transform-block-at t) transform-block.Post transform-block-Inv-loop transform-block-μ-loop
 transform-block-loop-less-2 t c =
     let at-turn = c .before .before .before .before .before in
     let at-next-change = at-turn .before .before .before .before .before .before .before .before .before .before .before .before in
     at-next-change .next-change .ensures .1 .3 (λ z. mark-goes _ _ _ _ (sym (at-turn .turn .given .1) ∙ z))
 
--- src/lib.rt:212:5
+-- src/lib.rt:159:5
 transform-block-loop-again-2 : (t : ℕ) → transform-block-lts.Need-loop-again-2 (transform-block-claims t) (transform-block-at t) transform-block.Post transform-block-Inv-loop transform-block-μ-loop
 transform-block-loop-again-2 t c =
     let at-turn = c .before .before .before .before .before in
@@ -460,64 +461,64 @@ transform-block-loop-again-2 t c =
     let at-loop = at-drop-word .before in
     let at-inner = at-loop .before .before .before .before .before .before in
     let at-place-in = at-inner .before in
-    let start = at-place-in .before .before .before .before .before .before .before .before .before .before .before in
-    let h = turned (start .args .s .now) (start .args .ns .now) (start .args .ts .now) (start .args .xs .now) (at-inner .inner .result) (at-place-in .place-in .result)
+    let start = at-place-in .before .before .before .before .before .before .before .before .before in
+    let h = turned (start .args .s .now) (start .args .tb .now) (at-inner .inner .result) (at-place-in .place-in .result)
     (start .args .outer) (start .args .states) (start .args .rows .now) _ (start .args .errs .now) (start .args .warns .now) (start .args .lefts .now)
     (at-loop .loop .inv) (at-drop-word .drop-word .result)
     (λ T d. at-drop-word .drop-word .ensures T (at-loop .loop .l) (at-loop .loop .st) refl refl (at-loop .loop .inv .owned .sound .kept)
     (at-loop .loop .inv .owned .sound .held) d) (at-scanning .scanning .result) (at-scanning .scanning .ensures) (at-next-change .next-change .ensures)
-    (at-turn .turn .given .1) (at-next-change .next-change .kept .1 .1 .1 .1 .1 .1 .1 .1 .1 .1 .1 .1 .1 .0)
-    (at-next-change .next-change .kept .1 .1 .1 .1 .1 .1 .1 .1 .1 .1 .1 .1 .1 .1 .0)
-    (at-next-change .next-change .kept .1 .1 .1 .1 .1 .1 .1 .1 .1 .1 .1 .1 .1 .1 .1 .0)
-    (at-next-change .next-change .kept .1 .1 .1 .1 .1 .1 .1 .1 .1 .1 .1 .1 .1 .1 .1 .1 .0) in
-    standing-mark (start .args .s .now) (start .args .ns .now) (start .args .ts .now) (start .args .xs .now) (at-inner .inner .result) (at-place-in .place-in .result)
+    (at-turn .turn .given .1) (at-next-change .next-change .kept .1 .1 .1 .1 .1 .1 .1 .1 .1 .1 .1 .0)
+    (at-next-change .next-change .kept .1 .1 .1 .1 .1 .1 .1 .1 .1 .1 .1 .1 .0)
+    (at-next-change .next-change .kept .1 .1 .1 .1 .1 .1 .1 .1 .1 .1 .1 .1 .1 .0)
+    (at-next-change .next-change .kept .1 .1 .1 .1 .1 .1 .1 .1 .1 .1 .1 .1 .1 .1 .0) in
+    standing-mark (start .args .s .now) (start .args .tb .now) (at-inner .inner .result) (at-place-in .place-in .result)
     (start .args .outer) (start .args .states) (start .args .rows .now) _ (start .args .errs .now) (start .args .warns .now) (start .args .lefts .now) _ _ _ _ h
     (c .mark .result) (c .mark .ensures .0) (c .mark .ensures .1 (at-loop .loop .l) refl refl refl)
 
--- src/lib.rt:260:28
+-- src/lib.rt:205:28
 transform-block-enum-known-turn-2 : (t : ℕ) → transform-block-lts.Need-enum-known-turn-2 (transform-block-claims t) (transform-block-at t) transform-block.Post transform-block-Inv-loop transform-block-μ-loop
 transform-block-enum-known-turn-2 t c = search needs
 
--- src/lib.rt:262:21
+-- src/lib.rt:207:21
 transform-block-element-write-pl : (t : ℕ) → transform-block-lts.Need-element-write-pl (transform-block-claims t) (transform-block-at t) transform-block.Post transform-block-Inv-loop transform-block-μ-loop
 transform-block-element-write-pl t c = search needs
 
--- src/lib.rt:263:21
+-- src/lib.rt:208:21
 transform-block-same-length-11 : (t : ℕ) → transform-block-lts.Need-same-length-11 (transform-block-claims t) (transform-block-at t) transform-block.Post transform-block-Inv-loop transform-block-μ-loop
 transform-block-same-length-11 t c =
     let at-loop = c .before .before .before .before .before .before .before .before .before .before .before .before .before .before .before .before .before .before .before .before .before .before .before .before .before .before .before .before .before .before .before in
     at-loop .loop .inv .owned .below .room
 
--- src/lib.rt:263:21
+-- src/lib.rt:208:21
 transform-block-same-length-12 : (t : ℕ) → transform-block-lts.Need-same-length-12 (transform-block-claims t) (transform-block-at t) transform-block.Post transform-block-Inv-loop transform-block-μ-loop
 transform-block-same-length-12 t c =
     let at-next-change = c .before .before .before .before .before .before .before .before .before .before .before .before .before .before .before in
     let at-loop = at-next-change .before .before .before .before .before .before .before .before .before .before .before .before .before .before .before .before in
     let at-head = at-loop .before .before .before in
-    at-next-change .next-change .kept .1 .1 .1 .1 .1 .1 .1 .1 .1 .1 .1 .1 .1 .0 ∙ at-loop .loop .inv .long .out ∙ at-head .head .kept .1 .1 .0
+    omega (arith, at-next-change .next-change .kept .1 .1 .1 .1 .1 .1 .1 .1 .1 .1 .1 .0, at-loop .loop .inv .long .out, at-head .head .kept .1 .1 .0)
 
--- src/lib.rt:263:21
+-- src/lib.rt:208:21
 transform-block-same-length-13 : (t : ℕ) → transform-block-lts.Need-same-length-13 (transform-block-claims t) (transform-block-at t) transform-block.Post transform-block-Inv-loop transform-block-μ-loop
 transform-block-same-length-13 t c =
     let at-next-change = c .before .before .before .before .before .before .before .before .before .before .before .before .before .before .before in
     let at-loop = at-next-change .before .before .before .before .before .before .before .before .before .before .before .before .before .before .before .before in
-    at-next-change .next-change .kept .1 .1 .1 .1 .1 .1 .1 .1 .1 .1 .1 .1 .1 .1 .0 ∙ at-loop .loop .inv .long .errs
+    omega (arith, at-next-change .next-change .kept .1 .1 .1 .1 .1 .1 .1 .1 .1 .1 .1 .1 .0, at-loop .loop .inv .long .errs)
 
--- src/lib.rt:263:21
+-- src/lib.rt:208:21
 transform-block-same-length-14 : (t : ℕ) → transform-block-lts.Need-same-length-14 (transform-block-claims t) (transform-block-at t) transform-block.Post transform-block-Inv-loop transform-block-μ-loop
 transform-block-same-length-14 t c =
     let at-next-change = c .before .before .before .before .before .before .before .before .before .before .before .before .before .before .before in
     let at-loop = at-next-change .before .before .before .before .before .before .before .before .before .before .before .before .before .before .before .before in
-    at-next-change .next-change .kept .1 .1 .1 .1 .1 .1 .1 .1 .1 .1 .1 .1 .1 .1 .1 .0 ∙ at-loop .loop .inv .long .warns
+    omega (arith, at-next-change .next-change .kept .1 .1 .1 .1 .1 .1 .1 .1 .1 .1 .1 .1 .1 .0, at-loop .loop .inv .long .warns)
 
--- src/lib.rt:263:21
+-- src/lib.rt:208:21
 transform-block-same-length-15 : (t : ℕ) → transform-block-lts.Need-same-length-15 (transform-block-claims t) (transform-block-at t) transform-block.Post transform-block-Inv-loop transform-block-μ-loop
 transform-block-same-length-15 t c =
     let at-next-change = c .before .before .before .before .before .before .before .before .before .before .before .before .before .before .before in
     let at-loop = at-next-change .before .before .before .before .before .before .before .before .before .before .before .before .before .before .before .before in
-    at-next-change .next-change .kept .1 .1 .1 .1 .1 .1 .1 .1 .1 .1 .1 .1 .1 .1 .1 .1 .0 ∙ at-loop .loop .inv .long .lefts
+    omega (arith, at-next-change .next-change .kept .1 .1 .1 .1 .1 .1 .1 .1 .1 .1 .1 .1 .1 .1 .0, at-loop .loop .inv .long .lefts)
 
--- src/lib.rt:263:21
+-- src/lib.rt:208:21
 transform-block-returns-3 : (t : ℕ) → transform-block-lts.Need-returns-3 (transform-block-claims t) (transform-block-at t) transform-block.Post transform-block-Inv-loop transform-block-μ-loop
 transform-block-returns-3 t c =
     let at-turn2 = c .before .before .before in
@@ -528,77 +529,77 @@ transform-block-returns-3 t c =
     let at-head = at-loop .before .before .before in
     let at-inner = at-head .before .before .before in
     let at-place-in = at-inner .before in
-    let at-shared-slice-known = at-place-in .before .before .before .before .before .before .before .before .before .before in
+    let at-shared-slice-known = at-place-in .before .before .before .before .before .before .before .before in
     let start = at-shared-slice-known .before in
     let there = subst (λ (p : Place). BlockThere (start .args .s .now) (start .args .env .left) (p .at)) (sym (at-place-in .place-in .ensures)) (start .pre .1 .1) in
     let el = ap (λ (x : Env). x .left) (at-inner .inner .ensures) in
     let low = block-there _ _ _ (start .pre .1 .1) .0 in
     let within = subst (Within _) (sym (at-place-in .place-in .ensures)) (start .pre .1 .0 .within) in
-    let h = turned (start .args .s .now) (start .args .ns .now) (start .args .ts .now) (start .args .xs .now) (at-inner .inner .result) (at-place-in .place-in .result)
+    let h = turned (start .args .s .now) (start .args .tb .now) (at-inner .inner .result) (at-place-in .place-in .result)
     (start .args .outer) (start .args .states) (start .args .rows .now) _ (start .args .errs .now) (start .args .warns .now) (start .args .lefts .now)
     (at-loop .loop .inv) (at-drop-word .drop-word .result)
     (λ T d. at-drop-word .drop-word .ensures T (at-loop .loop .l) (at-loop .loop .st) refl refl (at-loop .loop .inv .owned .sound .kept)
     (at-loop .loop .inv .owned .sound .held) d) (at-scanning .scanning .result) (at-scanning .scanning .ensures) (at-next-change .next-change .ensures)
-    (at-turn2 .turn2 .given .1) (at-next-change .next-change .kept .1 .1 .1 .1 .1 .1 .1 .1 .1 .1 .1 .1 .1 .0)
-    (at-next-change .next-change .kept .1 .1 .1 .1 .1 .1 .1 .1 .1 .1 .1 .1 .1 .1 .0)
-    (at-next-change .next-change .kept .1 .1 .1 .1 .1 .1 .1 .1 .1 .1 .1 .1 .1 .1 .1 .0)
-    (at-next-change .next-change .kept .1 .1 .1 .1 .1 .1 .1 .1 .1 .1 .1 .1 .1 .1 .1 .1 .0) in
+    (at-turn2 .turn2 .given .1) (at-next-change .next-change .kept .1 .1 .1 .1 .1 .1 .1 .1 .1 .1 .1 .0)
+    (at-next-change .next-change .kept .1 .1 .1 .1 .1 .1 .1 .1 .1 .1 .1 .1 .0)
+    (at-next-change .next-change .kept .1 .1 .1 .1 .1 .1 .1 .1 .1 .1 .1 .1 .1 .0)
+    (at-next-change .next-change .kept .1 .1 .1 .1 .1 .1 .1 .1 .1 .1 .1 .1 .1 .1 .0) in
     let told = fault-told (at-loop .loop .pl) (at-loop .loop .inv .long .pl) 12 in
     let f = told .fault in
-    let d = fault-done (start .args .s .now) (start .args .ns .now) (start .args .ts .now) (start .args .xs .now)
+    let d = fault-done (start .args .s .now) (start .args .tb .now)
     (λ k. omega (arith, at-shared-slice-known .shared-slice-known .given k)) (at-inner .inner .result) (start .args .env .left) low (start .pre .1 .0 .depth) el
     (at-place-in .place-in .result) (start .args .outer) (start .args .states) (start .args .rows .now) _ (start .args .errs .now) (start .args .warns .now)
     (start .args .lefts .now) within there (start .args .out .now) (at-head .head .ensures .stored) _ (at-loop .loop .st) _
-    (at-next-change .next-change .last .1 .1 .1 .1 .1 .1 .1 .1 .1 .1 .1 .0) (set (at-loop .loop .pl) 8 12) _ (omega arith) (h .long .nodes) (told .room)
+    (at-next-change .next-change .last .1 .1 .1 .1 .1 .1 .1 .1 .1 .0) (set (at-loop .loop .pl) 8 12) _ (omega arith) (h .long .nodes) (told .room)
     (at-loop .loop .inv .owned .below) (λ z. absurd (omega arith)) (walkedIn (set (at-loop .loop .pl) 8 12) []) refl
-    (λ T sy reach. full (start .args .s .now) (start .args .ns .now) (start .args .ts .now) (start .args .xs .now) (at-inner .inner .result)
+    (λ T sy reach. full (start .args .s .now) (start .args .tb .now) (at-inner .inner .result)
     (at-place-in .place-in .result) (start .args .outer) (start .args .states) (start .args .rows .now) _ (start .args .errs .now) (start .args .warns .now)
     (start .args .lefts .now) _ _ h (omega (arith, c .if2 .taken, start .pre .1 .0 .limit)) (walkedIn (set (at-loop .loop .pl) 8 12) []) f T sy) in
-    let q = done-as _ _ _ _ (start .args .env) (at-inner .inner .result) _ _ _ _ _ _ _ _ _ _ _ _ _ (at-inner .inner .ensures) (at-place-in .place-in .ensures) d in
+    let q = done-as _ _ (start .args .env) (at-inner .inner .result) _ _ _ _ _ _ _ _ _ _ _ _ _ (at-inner .inner .ensures) (at-place-in .place-in .ensures) d in
     ((q .comes, q .nodes), q .walks)
 
--- src/lib.rt:269:66
-transform-block-cast-should-auto-delete : (t : ℕ) → transform-block-lts.Need-cast-should-auto-delete (transform-block-claims t) (transform-block-at t) transform-block.Post transform-block-Inv-loop transform-block-μ-loop
-transform-block-cast-should-auto-delete t c = search needs
+-- src/lib.rt:214:53
+transform-block-cast-auto-deleted : (t : ℕ) → transform-block-lts.Need-cast-auto-deleted (transform-block-claims t) (transform-block-at t) transform-block.Post transform-block-Inv-loop transform-block-μ-loop
+transform-block-cast-auto-deleted t c = search needs
 
--- src/lib.rt:269:21
-transform-block-should-auto-delete-requires : (t : ℕ) → transform-block-lts.Need-should-auto-delete-requires (transform-block-claims t) (transform-block-at t) transform-block.Post transform-block-Inv-loop transform-block-μ-loop
-transform-block-should-auto-delete-requires t c κs =
-    let start = c .before .before .before .before .before .before .before .before .before .before .before .before .before .before .before .before .before .before .before .before .before .before .before .before .before .before .before .before .before .before .before .before .before .before .before .before .before .before .before .before .before .before .before .before .before .before .before .before .before in
-    (start .pre .1 .0 .lent .types, start .pre .1 .0 .lent .structs, start .pre .1 .0 .lent .lower)
+-- src/lib.rt:214:21
+transform-block-auto-deleted-requires : (t : ℕ) → transform-block-lts.Need-auto-deleted-requires (transform-block-claims t) (transform-block-at t) transform-block.Post transform-block-Inv-loop transform-block-μ-loop
+transform-block-auto-deleted-requires t c κs =
+    let start = c .before .before .before .before .before .before .before .before .before .before .before .before .before .before .before .before .before .before .before .before .before .before .before .before .before .before .before .before .before .before .before .before .before .before .before .before .before .before .before .before .before .before .before .before .before .before .before in
+    (start .pre .1 .0 .lent .filled .size, start .pre .1 .0 .lent .filled .fewTypes)
 
--- src/lib.rt:265:21
+-- src/lib.rt:210:21
 transform-block-register-local-requires : (t : ℕ) → transform-block-lts.Need-register-local-requires (transform-block-claims t) (transform-block-at t) transform-block.Post transform-block-Inv-loop transform-block-μ-loop
 transform-block-register-local-requires t c κs =
     let at-if2 = c .before in
     let at-loop = at-if2 .before .before .before .before .before .before .before .before .before .before .before .before .before .before .before .before .before .before .before .before .before .before .before .before .before .before .before .before .before .before .before in
-    let start = at-loop .before .before .before .before .before .before .before .before .before .before .before .before .before .before .before .before .before .before in
+    let start = at-loop .before .before .before .before .before .before .before .before .before .before .before .before .before .before .before .before in
     (at-loop .loop .inv .owned .sound .kept, omega (arith, at-if2 .if2 .left, start .pre .1 .0 .limit))
 
--- src/lib.rt:271:20
+-- src/lib.rt:216:20
 transform-block-needs-revival-requires : (t : ℕ) → transform-block-lts.Need-needs-revival-requires (transform-block-claims t) (transform-block-at t) transform-block.Post transform-block-Inv-loop transform-block-μ-loop
 transform-block-needs-revival-requires t c κs = search needs
 
--- src/lib.rt:272:26
+-- src/lib.rt:217:26
 transform-block-mark-requires-2 : (t : ℕ) → transform-block-lts.Need-mark-requires-2 (transform-block-claims t) (transform-block-at t) transform-block.Post transform-block-Inv-loop transform-block-μ-loop
 transform-block-mark-requires-2 t c κs =
     let at-register-local = c .before .before .before .before .before .before .before .before in
     let at-loop = at-register-local .before .before .before .before .before .before .before .before .before .before .before .before .before .before .before .before .before .before .before .before .before .before .before .before .before .before .before .before .before .before .before .before .before in
     (at-loop .loop .inv .owned .sound .held, at-register-local .register-local .ensures .kept .small, omega arith)
 
--- src/lib.rt:212:5
+-- src/lib.rt:159:5
 transform-block-loop-less-3 : (t : ℕ) → transform-block-lts.Need-loop-less-3 (transform-block-claims t) (transform-block-at t) transform-block.Post transform-block-Inv-loop transform-block-μ-loop
 transform-block-loop-less-3 t c =
     let at-turn2 = c .before .before .before .before .before .before .before .before .before .before .before .before .before .before in
     let at-next-change = at-turn2 .before .before .before .before .before .before .before .before .before .before .before .before in
     at-next-change .next-change .ensures .1 .3 (λ z. register-goes _ _ (sym (at-turn2 .turn2 .given .1) ∙ z))
 
--- src/lib.rt:212:5
+-- src/lib.rt:159:5
 transform-block-loop-again-3 : (t : ℕ) → transform-block-lts.Need-loop-again-3 (transform-block-claims t) (transform-block-at t) transform-block.Post transform-block-Inv-loop transform-block-μ-loop
 transform-block-loop-again-3 t c =
     let at-register-local = c .before .before .before .before .before .before .before .before .before in
-    let at-should-auto-delete = at-register-local .before in
-    let at-if2 = at-should-auto-delete .before in
+    let at-auto-deleted = at-register-local .before in
+    let at-if2 = at-auto-deleted .before in
     let at-turn2 = at-if2 .before .before .before in
     let at-next-change = at-turn2 .before .before .before .before .before .before .before .before .before .before .before .before in
     let at-scanning = at-next-change .before .before .before .before .before .before .before .before .before .before .before .before .before .before in
@@ -606,36 +607,36 @@ transform-block-loop-again-3 t c =
     let at-loop = at-drop-word .before in
     let at-inner = at-loop .before .before .before .before .before .before in
     let at-place-in = at-inner .before in
-    let start = at-place-in .before .before .before .before .before .before .before .before .before .before .before in
-    let h = turned (start .args .s .now) (start .args .ns .now) (start .args .ts .now) (start .args .xs .now) (at-inner .inner .result) (at-place-in .place-in .result)
+    let start = at-place-in .before .before .before .before .before .before .before .before .before in
+    let h = turned (start .args .s .now) (start .args .tb .now) (at-inner .inner .result) (at-place-in .place-in .result)
     (start .args .outer) (start .args .states) (start .args .rows .now) _ (start .args .errs .now) (start .args .warns .now) (start .args .lefts .now)
     (at-loop .loop .inv) (at-drop-word .drop-word .result)
     (λ T d. at-drop-word .drop-word .ensures T (at-loop .loop .l) (at-loop .loop .st) refl refl (at-loop .loop .inv .owned .sound .kept)
     (at-loop .loop .inv .owned .sound .held) d) (at-scanning .scanning .result) (at-scanning .scanning .ensures) (at-next-change .next-change .ensures)
-    (at-turn2 .turn2 .given .1) (at-next-change .next-change .kept .1 .1 .1 .1 .1 .1 .1 .1 .1 .1 .1 .1 .1 .0)
-    (at-next-change .next-change .kept .1 .1 .1 .1 .1 .1 .1 .1 .1 .1 .1 .1 .1 .1 .0)
-    (at-next-change .next-change .kept .1 .1 .1 .1 .1 .1 .1 .1 .1 .1 .1 .1 .1 .1 .1 .0)
-    (at-next-change .next-change .kept .1 .1 .1 .1 .1 .1 .1 .1 .1 .1 .1 .1 .1 .1 .1 .1 .0) in
-    standing-revived (start .args .s .now) (start .args .ns .now) (start .args .ts .now) (start .args .xs .now) (at-inner .inner .result) (at-place-in .place-in .result)
+    (at-turn2 .turn2 .given .1) (at-next-change .next-change .kept .1 .1 .1 .1 .1 .1 .1 .1 .1 .1 .1 .0)
+    (at-next-change .next-change .kept .1 .1 .1 .1 .1 .1 .1 .1 .1 .1 .1 .1 .0)
+    (at-next-change .next-change .kept .1 .1 .1 .1 .1 .1 .1 .1 .1 .1 .1 .1 .1 .0)
+    (at-next-change .next-change .kept .1 .1 .1 .1 .1 .1 .1 .1 .1 .1 .1 .1 .1 .1 .0) in
+    standing-revived (start .args .s .now) (start .args .tb .now) (at-inner .inner .result) (at-place-in .place-in .result)
     (start .args .outer) (start .args .states) (start .args .rows .now) _ (start .args .errs .now) (start .args .warns .now) (start .args .lefts .now) _ _ h _
-    (λ T sy. auto-said _ _ _ _ _ _ T sy _ _ (at-should-auto-delete .should-auto-delete .ensures)) (at-register-local .register-local .result)
+    (λ T sy. auto-is T _ _ refl (at-auto-deleted .auto-deleted .ensures _ T (start .pre .1 .0 .lent) sy)) (at-register-local .register-local .result)
     (at-register-local .register-local .ensures) (omega (arith, at-if2 .if2 .left, start .pre .1 .0 .limit)) 0 (c .mark2 .result) (c .mark2 .ensures .0)
     (c .mark2 .ensures .1 (at-register-local .register-local .result) refl refl refl)
 
--- src/lib.rt:212:5
+-- src/lib.rt:159:5
 transform-block-loop-less-4 : (t : ℕ) → transform-block-lts.Need-loop-less-4 (transform-block-claims t) (transform-block-at t) transform-block.Post transform-block-Inv-loop transform-block-μ-loop
 transform-block-loop-less-4 t c =
     let at-turn2 = c .before .before .before .before .before .before .before .before .before .before in
     let at-next-change = at-turn2 .before .before .before .before .before .before .before .before .before .before .before .before in
     at-next-change .next-change .ensures .1 .3 (λ z. register-goes _ _ (sym (at-turn2 .turn2 .given .1) ∙ z))
 
--- src/lib.rt:212:5
+-- src/lib.rt:159:5
 transform-block-loop-again-4 : (t : ℕ) → transform-block-lts.Need-loop-again-4 (transform-block-claims t) (transform-block-at t) transform-block.Post transform-block-Inv-loop transform-block-μ-loop
 transform-block-loop-again-4 t c =
     let at-needs-revival = c .before in
     let at-register-local = at-needs-revival .before .before .before .before in
-    let at-should-auto-delete = at-register-local .before in
-    let at-if2 = at-should-auto-delete .before in
+    let at-auto-deleted = at-register-local .before in
+    let at-if2 = at-auto-deleted .before in
     let at-turn2 = at-if2 .before .before .before in
     let at-next-change = at-turn2 .before .before .before .before .before .before .before .before .before .before .before .before in
     let at-scanning = at-next-change .before .before .before .before .before .before .before .before .before .before .before .before .before .before in
@@ -643,33 +644,33 @@ transform-block-loop-again-4 t c =
     let at-loop = at-drop-word .before in
     let at-inner = at-loop .before .before .before .before .before .before in
     let at-place-in = at-inner .before in
-    let start = at-place-in .before .before .before .before .before .before .before .before .before .before .before in
-    let h = turned (start .args .s .now) (start .args .ns .now) (start .args .ts .now) (start .args .xs .now) (at-inner .inner .result) (at-place-in .place-in .result)
+    let start = at-place-in .before .before .before .before .before .before .before .before .before in
+    let h = turned (start .args .s .now) (start .args .tb .now) (at-inner .inner .result) (at-place-in .place-in .result)
     (start .args .outer) (start .args .states) (start .args .rows .now) _ (start .args .errs .now) (start .args .warns .now) (start .args .lefts .now)
     (at-loop .loop .inv) (at-drop-word .drop-word .result)
     (λ T d. at-drop-word .drop-word .ensures T (at-loop .loop .l) (at-loop .loop .st) refl refl (at-loop .loop .inv .owned .sound .kept)
     (at-loop .loop .inv .owned .sound .held) d) (at-scanning .scanning .result) (at-scanning .scanning .ensures) (at-next-change .next-change .ensures)
-    (at-turn2 .turn2 .given .1) (at-next-change .next-change .kept .1 .1 .1 .1 .1 .1 .1 .1 .1 .1 .1 .1 .1 .0)
-    (at-next-change .next-change .kept .1 .1 .1 .1 .1 .1 .1 .1 .1 .1 .1 .1 .1 .1 .0)
-    (at-next-change .next-change .kept .1 .1 .1 .1 .1 .1 .1 .1 .1 .1 .1 .1 .1 .1 .1 .0)
-    (at-next-change .next-change .kept .1 .1 .1 .1 .1 .1 .1 .1 .1 .1 .1 .1 .1 .1 .1 .1 .0) in
-    standing-fresh (start .args .s .now) (start .args .ns .now) (start .args .ts .now) (start .args .xs .now) (at-inner .inner .result) (at-place-in .place-in .result)
+    (at-turn2 .turn2 .given .1) (at-next-change .next-change .kept .1 .1 .1 .1 .1 .1 .1 .1 .1 .1 .1 .0)
+    (at-next-change .next-change .kept .1 .1 .1 .1 .1 .1 .1 .1 .1 .1 .1 .1 .0)
+    (at-next-change .next-change .kept .1 .1 .1 .1 .1 .1 .1 .1 .1 .1 .1 .1 .1 .0)
+    (at-next-change .next-change .kept .1 .1 .1 .1 .1 .1 .1 .1 .1 .1 .1 .1 .1 .1 .0) in
+    standing-fresh (start .args .s .now) (start .args .tb .now) (at-inner .inner .result) (at-place-in .place-in .result)
     (start .args .outer) (start .args .states) (start .args .rows .now) _ (start .args .errs .now) (start .args .warns .now) (start .args .lefts .now) _ _ h _
-    (λ T sy. auto-said _ _ _ _ _ _ T sy _ _ (at-should-auto-delete .should-auto-delete .ensures)) (at-register-local .register-local .result)
+    (λ T sy. auto-is T _ _ refl (at-auto-deleted .auto-deleted .ensures _ T (start .pre .1 .0 .lent) sy)) (at-register-local .register-local .result)
     (at-register-local .register-local .ensures) (omega (arith, at-if2 .if2 .left, start .pre .1 .0 .limit))
     (at-needs-revival .needs-revival .ensures (aliveAt (at-loop .loop .st)) (at-loop .loop .inv .owned .sound .held .word) (c .if3 .left))
 
--- src/lib.rt:275:26
+-- src/lib.rt:220:26
 transform-block-enum-known-turn-3 : (t : ℕ) → transform-block-lts.Need-enum-known-turn-3 (transform-block-claims t) (transform-block-at t) transform-block.Post transform-block-Inv-loop transform-block-μ-loop
 transform-block-enum-known-turn-3 t c = search needs
 
--- src/lib.rt:276:17
+-- src/lib.rt:221:17
 transform-block-put-place-requires : (t : ℕ) → transform-block-lts.Need-put-place-requires (transform-block-claims t) (transform-block-at t) transform-block.Post transform-block-Inv-loop transform-block-μ-loop
 transform-block-put-place-requires t c κs =
     let at-loop = c .before .before .before .before .before .before .before .before .before .before .before .before .before .before .before .before .before .before .before .before .before .before .before .before .before .before .before .before .before .before in
     at-loop .loop .inv .long .pl
 
--- src/lib.rt:277:22
+-- src/lib.rt:222:22
 transform-block-transform-blocks-requires : (t : ℕ) → transform-block-lts.Need-transform-blocks-requires (transform-block-claims t) (transform-block-at t) transform-block.Post transform-block-Inv-loop transform-block-μ-loop
 transform-block-transform-blocks-requires t c κs =
     let at-put-place = c .before .before .before .before .before .before .before in
@@ -680,29 +681,29 @@ transform-block-transform-blocks-requires t c κs =
     let at-loop = at-drop-word .before in
     let at-inner = at-loop .before .before .before .before .before .before in
     let at-place-in = at-inner .before in
-    let start = at-place-in .before .before .before .before .before .before .before .before .before .before .before in
-    let en = enters-inner _ _ _ _ (start .args .env) (at-inner .inner .result) _ _ _ _ (at-inner .inner .ensures)
-    (subst (Enters (start .args .s .now) (start .args .ns .now) (start .args .ts .now) (start .args .xs .now) (start .args .env) (start .args .outer)
+    let start = at-place-in .before .before .before .before .before .before .before .before .before in
+    let en = enters-inner _ _ (start .args .env) (at-inner .inner .result) _ _ _ _ (at-inner .inner .ensures)
+    (subst (Enters (start .args .s .now) (start .args .tb .now) (start .args .env) (start .args .outer)
     (start .args .states) (start .args .rows .now)) (sym (at-place-in .place-in .ensures)) (start .pre .1 .0)) in
     let el = ap (λ (x : Env). x .left) (at-inner .inner .ensures) in
     let ec = ap (λ (x : Env). x .cur) (at-inner .inner .ensures) in
     let low = block-there _ _ _ (start .pre .1 .1) .0 in
-    let h = turned (start .args .s .now) (start .args .ns .now) (start .args .ts .now) (start .args .xs .now) (at-inner .inner .result) (at-place-in .place-in .result)
+    let h = turned (start .args .s .now) (start .args .tb .now) (at-inner .inner .result) (at-place-in .place-in .result)
     (start .args .outer) (start .args .states) (start .args .rows .now) _ (start .args .errs .now) (start .args .warns .now) (start .args .lefts .now)
     (at-loop .loop .inv) (at-drop-word .drop-word .result)
     (λ T d. at-drop-word .drop-word .ensures T (at-loop .loop .l) (at-loop .loop .st) refl refl (at-loop .loop .inv .owned .sound .kept)
     (at-loop .loop .inv .owned .sound .held) d) (at-scanning .scanning .result) (at-scanning .scanning .ensures) (at-next-change .next-change .ensures)
-    (at-turn3 .turn3 .given .1) (at-next-change .next-change .kept .1 .1 .1 .1 .1 .1 .1 .1 .1 .1 .1 .1 .1 .0)
-    (at-next-change .next-change .kept .1 .1 .1 .1 .1 .1 .1 .1 .1 .1 .1 .1 .1 .1 .0)
-    (at-next-change .next-change .kept .1 .1 .1 .1 .1 .1 .1 .1 .1 .1 .1 .1 .1 .1 .1 .0)
-    (at-next-change .next-change .kept .1 .1 .1 .1 .1 .1 .1 .1 .1 .1 .1 .1 .1 .1 .1 .1 .0) in
+    (at-turn3 .turn3 .given .1) (at-next-change .next-change .kept .1 .1 .1 .1 .1 .1 .1 .1 .1 .1 .1 .0)
+    (at-next-change .next-change .kept .1 .1 .1 .1 .1 .1 .1 .1 .1 .1 .1 .1 .0)
+    (at-next-change .next-change .kept .1 .1 .1 .1 .1 .1 .1 .1 .1 .1 .1 .1 .1 .0)
+    (at-next-change .next-change .kept .1 .1 .1 .1 .1 .1 .1 .1 .1 .1 .1 .1 .1 .1 .0) in
     let is = at-put-place .put-place .ensures .place in (
       omega (arith, start .pre .0, el, low),
       (
-        enters-blocks (start .args .s .now) (start .args .ns .now) (start .args .ts .now) (start .args .xs .now) (at-inner .inner .result) (at-place-in .place-in .result)
+        enters-blocks (start .args .s .now) (start .args .tb .now) (at-inner .inner .result) (at-place-in .place-in .result)
             (start .args .outer) (start .args .states) (start .args .rows .now) _ (start .args .errs .now) (start .args .warns .now) (start .args .lefts .now) _ h en _
             is,
-        there-blocks (start .args .s .now) (start .args .ns .now) (start .args .ts .now) (start .args .xs .now) (at-inner .inner .result)
+        there-blocks (start .args .s .now) (start .args .tb .now) (at-inner .inner .result)
             (at-place-in .place-in .result) (start .args .outer) (start .args .states) (start .args .rows .now) _ (start .args .errs .now) (start .args .warns .now)
             (start .args .lefts .now) _ h _ is,
         h .fit .2,
@@ -712,51 +713,51 @@ transform-block-transform-blocks-requires t c κs =
       ),
     )
 
--- src/lib.rt:294:24
+-- src/lib.rt:237:24
 transform-block-element-copy-out-if4 : (t : ℕ) → transform-block-lts.Need-element-copy-out-if4 (transform-block-claims t) (transform-block-at t) transform-block.Post transform-block-Inv-loop transform-block-μ-loop
 transform-block-element-copy-out-if4 t c = search needs
 
--- src/lib.rt:295:21
+-- src/lib.rt:238:21
 transform-block-same-length-16 : (t : ℕ) → transform-block-lts.Need-same-length-16 (transform-block-claims t) (transform-block-at t) transform-block.Post transform-block-Inv-loop transform-block-μ-loop
 transform-block-same-length-16 t c =
     let at-transform-blocks = c .before .before .before .before .before .before .before .before .before .before .before .before in
     let at-loop = at-transform-blocks .before .before .before .before .before .before .before .before .before .before .before .before .before .before .before .before .before .before .before .before .before .before .before .before .before .before .before .before .before .before .before .before .before .before .before .before .before .before .before in
-    at-transform-blocks .transform-blocks .kept .1 .1 .1 .1 .1 .1 .1 .1 .0 ∙ at-loop .loop .inv .owned .below .room
+    omega (arith, at-transform-blocks .transform-blocks .kept .1 .1 .1 .1 .1 .1 .0, at-loop .loop .inv .owned .below .room)
 
--- src/lib.rt:295:21
+-- src/lib.rt:238:21
 transform-block-same-length-17 : (t : ℕ) → transform-block-lts.Need-same-length-17 (transform-block-claims t) (transform-block-at t) transform-block.Post transform-block-Inv-loop transform-block-μ-loop
 transform-block-same-length-17 t c =
     let at-transform-blocks = c .before .before .before .before .before .before .before .before .before .before .before .before in
     let at-next-change = at-transform-blocks .before .before .before .before .before .before .before .before .before .before .before .before .before .before .before .before .before .before .before .before .before .before .before in
     let at-loop = at-next-change .before .before .before .before .before .before .before .before .before .before .before .before .before .before .before .before in
     let at-head = at-loop .before .before .before in
-    at-transform-blocks .transform-blocks .kept .1 .1 .1 .1 .1 .1 .1 .1 .1 .1 .0 ∙ at-next-change .next-change .kept .1 .1 .1 .1 .1 .1 .1 .1 .1 .1 .1 .1 .1 .0 ∙ at-loop .loop .inv .long .out ∙ at-head .head .kept .1 .1 .0
+    omega (arith, at-transform-blocks .transform-blocks .kept .1 .1 .1 .1 .1 .1 .1 .1 .0, at-next-change .next-change .kept .1 .1 .1 .1 .1 .1 .1 .1 .1 .1 .1 .0, at-loop .loop .inv .long .out, at-head .head .kept .1 .1 .0)
 
--- src/lib.rt:295:21
+-- src/lib.rt:238:21
 transform-block-same-length-18 : (t : ℕ) → transform-block-lts.Need-same-length-18 (transform-block-claims t) (transform-block-at t) transform-block.Post transform-block-Inv-loop transform-block-μ-loop
 transform-block-same-length-18 t c =
     let at-transform-blocks = c .before .before .before .before .before .before .before .before .before .before .before .before in
     let at-next-change = at-transform-blocks .before .before .before .before .before .before .before .before .before .before .before .before .before .before .before .before .before .before .before .before .before .before .before in
     let at-loop = at-next-change .before .before .before .before .before .before .before .before .before .before .before .before .before .before .before .before in
-    at-transform-blocks .transform-blocks .kept .1 .1 .1 .1 .1 .1 .1 .1 .1 .1 .1 .0 ∙ at-next-change .next-change .kept .1 .1 .1 .1 .1 .1 .1 .1 .1 .1 .1 .1 .1 .1 .0 ∙ at-loop .loop .inv .long .errs
+    omega (arith, at-transform-blocks .transform-blocks .kept .1 .1 .1 .1 .1 .1 .1 .1 .1 .0, at-next-change .next-change .kept .1 .1 .1 .1 .1 .1 .1 .1 .1 .1 .1 .1 .0, at-loop .loop .inv .long .errs)
 
--- src/lib.rt:295:21
+-- src/lib.rt:238:21
 transform-block-same-length-19 : (t : ℕ) → transform-block-lts.Need-same-length-19 (transform-block-claims t) (transform-block-at t) transform-block.Post transform-block-Inv-loop transform-block-μ-loop
 transform-block-same-length-19 t c =
     let at-transform-blocks = c .before .before .before .before .before .before .before .before .before .before .before .before in
     let at-next-change = at-transform-blocks .before .before .before .before .before .before .before .before .before .before .before .before .before .before .before .before .before .before .before .before .before .before .before in
     let at-loop = at-next-change .before .before .before .before .before .before .before .before .before .before .before .before .before .before .before .before in
-    at-transform-blocks .transform-blocks .kept .1 .1 .1 .1 .1 .1 .1 .1 .1 .1 .1 .1 .0 ∙ at-next-change .next-change .kept .1 .1 .1 .1 .1 .1 .1 .1 .1 .1 .1 .1 .1 .1 .1 .0 ∙ at-loop .loop .inv .long .warns
+    omega (arith, at-transform-blocks .transform-blocks .kept .1 .1 .1 .1 .1 .1 .1 .1 .1 .1 .0, at-next-change .next-change .kept .1 .1 .1 .1 .1 .1 .1 .1 .1 .1 .1 .1 .1 .0, at-loop .loop .inv .long .warns)
 
--- src/lib.rt:295:21
+-- src/lib.rt:238:21
 transform-block-same-length-20 : (t : ℕ) → transform-block-lts.Need-same-length-20 (transform-block-claims t) (transform-block-at t) transform-block.Post transform-block-Inv-loop transform-block-μ-loop
 transform-block-same-length-20 t c =
     let at-transform-blocks = c .before .before .before .before .before .before .before .before .before .before .before .before in
     let at-next-change = at-transform-blocks .before .before .before .before .before .before .before .before .before .before .before .before .before .before .before .before .before .before .before .before .before .before .before in
     let at-loop = at-next-change .before .before .before .before .before .before .before .before .before .before .before .before .before .before .before .before in
-    at-transform-blocks .transform-blocks .kept .1 .1 .1 .1 .1 .1 .1 .1 .1 .1 .1 .1 .1 .0 ∙ at-next-change .next-change .kept .1 .1 .1 .1 .1 .1 .1 .1 .1 .1 .1 .1 .1 .1 .1 .1 .0 ∙ at-loop .loop .inv .long .lefts
+    omega (arith, at-transform-blocks .transform-blocks .kept .1 .1 .1 .1 .1 .1 .1 .1 .1 .1 .1 .0, at-next-change .next-change .kept .1 .1 .1 .1 .1 .1 .1 .1 .1 .1 .1 .1 .1 .1 .0, at-loop .loop .inv .long .lefts)
 
--- src/lib.rt:295:21
+-- src/lib.rt:238:21
 transform-block-returns-4 : (t : ℕ) → transform-block-lts.Need-returns-4 (transform-block-claims t) (transform-block-at t) transform-block.Post transform-block-Inv-loop transform-block-μ-loop
 transform-block-returns-4 t c =
     let at-transform-blocks = c .before .before .before .before .before .before .before .before .before .before .before .before in
@@ -769,43 +770,43 @@ transform-block-returns-4 t c =
     let at-head = at-loop .before .before .before in
     let at-inner = at-head .before .before .before in
     let at-place-in = at-inner .before in
-    let at-shared-slice-known = at-place-in .before .before .before .before .before .before .before .before .before .before in
+    let at-shared-slice-known = at-place-in .before .before .before .before .before .before .before .before in
     let start = at-shared-slice-known .before in
     let there = subst (λ (p : Place). BlockThere (start .args .s .now) (start .args .env .left) (p .at)) (sym (at-place-in .place-in .ensures)) (start .pre .1 .1) in
     let el = ap (λ (x : Env). x .left) (at-inner .inner .ensures) in
     let ec = ap (λ (x : Env). x .cur) (at-inner .inner .ensures) in
     let low = block-there _ _ _ (start .pre .1 .1) .0 in
     let within = subst (Within _) (sym (at-place-in .place-in .ensures)) (start .pre .1 .0 .within) in
-    let h = turned (start .args .s .now) (start .args .ns .now) (start .args .ts .now) (start .args .xs .now) (at-inner .inner .result) (at-place-in .place-in .result)
+    let h = turned (start .args .s .now) (start .args .tb .now) (at-inner .inner .result) (at-place-in .place-in .result)
     (start .args .outer) (start .args .states) (start .args .rows .now) _ (start .args .errs .now) (start .args .warns .now) (start .args .lefts .now)
     (at-loop .loop .inv) (at-drop-word .drop-word .result)
     (λ T d. at-drop-word .drop-word .ensures T (at-loop .loop .l) (at-loop .loop .st) refl refl (at-loop .loop .inv .owned .sound .kept)
     (at-loop .loop .inv .owned .sound .held) d) (at-scanning .scanning .result) (at-scanning .scanning .ensures) (at-next-change .next-change .ensures)
-    (at-turn3 .turn3 .given .1) (at-next-change .next-change .kept .1 .1 .1 .1 .1 .1 .1 .1 .1 .1 .1 .1 .1 .0)
-    (at-next-change .next-change .kept .1 .1 .1 .1 .1 .1 .1 .1 .1 .1 .1 .1 .1 .1 .0)
-    (at-next-change .next-change .kept .1 .1 .1 .1 .1 .1 .1 .1 .1 .1 .1 .1 .1 .1 .1 .0)
-    (at-next-change .next-change .kept .1 .1 .1 .1 .1 .1 .1 .1 .1 .1 .1 .1 .1 .1 .1 .1 .0) in
+    (at-turn3 .turn3 .given .1) (at-next-change .next-change .kept .1 .1 .1 .1 .1 .1 .1 .1 .1 .1 .1 .0)
+    (at-next-change .next-change .kept .1 .1 .1 .1 .1 .1 .1 .1 .1 .1 .1 .1 .0)
+    (at-next-change .next-change .kept .1 .1 .1 .1 .1 .1 .1 .1 .1 .1 .1 .1 .1 .0)
+    (at-next-change .next-change .kept .1 .1 .1 .1 .1 .1 .1 .1 .1 .1 .1 .1 .1 .1 .0) in
     let is = at-put-place .put-place .ensures .place in
     let b = at-transform-blocks .transform-blocks .ensures in
     let come = b .0 .0 in
-    let d = blocks-done (start .args .s .now) (start .args .ns .now) (start .args .ts .now) (start .args .xs .now)
+    let d = blocks-done (start .args .s .now) (start .args .tb .now)
     (λ k. omega (arith, at-shared-slice-known .shared-slice-known .given k)) (at-inner .inner .result) (start .args .env .left) low (start .pre .1 .0 .depth) el
     (at-place-in .place-in .result) (start .args .outer) (start .args .states) (start .args .rows .now) _ (start .args .errs .now) (start .args .warns .now)
     (start .args .lefts .now) within there (start .args .out .now) (at-head .head .ensures .stored) _ h _ is _ come (b .1) (c .if4 .taken)
-    (at-transform-blocks .transform-blocks .last .1 .1 .1 .1 .1 .1 .1 .1 .1 .0) (b .0 .1) (blockRows (start .args .env .cur) (start .args .env .left))
+    (at-transform-blocks .transform-blocks .last .1 .1 .1 .1 .1 .1 .1 .0) (b .0 .1) (blockRows (start .args .env .cur) (start .args .env .left))
     (λ z. omega (arith, come .short z, at-loop .loop .inv .owned .below .room, ec, el, low)) in
-    let q = done-as _ _ _ _ (start .args .env) (at-inner .inner .result) _ _ _ _ _ _ _ _ _ _ _ _ _ (at-inner .inner .ensures) (at-place-in .place-in .ensures) d in
+    let q = done-as _ _ (start .args .env) (at-inner .inner .result) _ _ _ _ _ _ _ _ _ _ _ _ _ (at-inner .inner .ensures) (at-place-in .place-in .ensures) d in
     ((q .comes, q .nodes), q .walks)
 
--- src/lib.rt:297:57
+-- src/lib.rt:240:57
 transform-block-place-in-requires-2 : (t : ℕ) → transform-block-lts.Need-place-in-requires-2 (transform-block-claims t) (transform-block-at t) transform-block.Post transform-block-Inv-loop transform-block-μ-loop
 transform-block-place-in-requires-2 t c κs = tt
 
--- src/lib.rt:297:17
+-- src/lib.rt:240:17
 transform-block-between-requires : (t : ℕ) → transform-block-lts.Need-between-requires (transform-block-claims t) (transform-block-at t) transform-block.Post transform-block-Inv-loop transform-block-μ-loop
 transform-block-between-requires t c κs = tt
 
--- src/lib.rt:212:5
+-- src/lib.rt:159:5
 transform-block-loop-less-5 : (t : ℕ) → transform-block-lts.Need-loop-less-5 (transform-block-claims t) (transform-block-at t) transform-block.Post transform-block-Inv-loop transform-block-μ-loop
 transform-block-loop-less-5 t c =
     let at-if4 = c .before .before .before in
@@ -818,29 +819,29 @@ transform-block-loop-less-5 t c =
     let at-loop = at-drop-word .before in
     let at-inner = at-loop .before .before .before .before .before .before in
     let at-place-in = at-inner .before in
-    let at-shared-slice-known = at-place-in .before .before .before .before .before .before .before .before .before .before in
+    let at-shared-slice-known = at-place-in .before .before .before .before .before .before .before .before in
     let start = at-shared-slice-known .before in
     let there = subst (λ (p : Place). BlockThere (start .args .s .now) (start .args .env .left) (p .at)) (sym (at-place-in .place-in .ensures)) (start .pre .1 .1) in
     let el = ap (λ (x : Env). x .left) (at-inner .inner .ensures) in
-    let h = turned (start .args .s .now) (start .args .ns .now) (start .args .ts .now) (start .args .xs .now) (at-inner .inner .result) (at-place-in .place-in .result)
+    let h = turned (start .args .s .now) (start .args .tb .now) (at-inner .inner .result) (at-place-in .place-in .result)
     (start .args .outer) (start .args .states) (start .args .rows .now) _ (start .args .errs .now) (start .args .warns .now) (start .args .lefts .now)
     (at-loop .loop .inv) (at-drop-word .drop-word .result)
     (λ T d. at-drop-word .drop-word .ensures T (at-loop .loop .l) (at-loop .loop .st) refl refl (at-loop .loop .inv .owned .sound .kept)
     (at-loop .loop .inv .owned .sound .held) d) (at-scanning .scanning .result) (at-scanning .scanning .ensures) (at-next-change .next-change .ensures)
-    (at-turn3 .turn3 .given .1) (at-next-change .next-change .kept .1 .1 .1 .1 .1 .1 .1 .1 .1 .1 .1 .1 .1 .0)
-    (at-next-change .next-change .kept .1 .1 .1 .1 .1 .1 .1 .1 .1 .1 .1 .1 .1 .1 .0)
-    (at-next-change .next-change .kept .1 .1 .1 .1 .1 .1 .1 .1 .1 .1 .1 .1 .1 .1 .1 .0)
-    (at-next-change .next-change .kept .1 .1 .1 .1 .1 .1 .1 .1 .1 .1 .1 .1 .1 .1 .1 .1 .0) in
+    (at-turn3 .turn3 .given .1) (at-next-change .next-change .kept .1 .1 .1 .1 .1 .1 .1 .1 .1 .1 .1 .0)
+    (at-next-change .next-change .kept .1 .1 .1 .1 .1 .1 .1 .1 .1 .1 .1 .1 .0)
+    (at-next-change .next-change .kept .1 .1 .1 .1 .1 .1 .1 .1 .1 .1 .1 .1 .1 .0)
+    (at-next-change .next-change .kept .1 .1 .1 .1 .1 .1 .1 .1 .1 .1 .1 .1 .1 .1 .0) in
     let is = at-put-place .put-place .ensures .place in
     let b = at-transform-blocks .transform-blocks .ensures in
     let zero = no-fault (at-if4 .if4 .left) in
-    less-behind (start .args .s .now) (start .args .ns .now) (start .args .ts .now) (start .args .xs .now) (at-inner .inner .result) (at-place-in .place-in .result)
+    less-behind (start .args .s .now) (start .args .tb .now) (at-inner .inner .result) (at-place-in .place-in .result)
     (start .args .outer) (start .args .states) (start .args .rows .now) _ (start .args .errs .now) (start .args .warns .now) (start .args .lefts .now) _ h _ is _
-    (b .0 .0) (b .1) (λ k. omega (arith, at-shared-slice-known .shared-slice-known .given k)) (start .args .env .left) el there _ (said _ _ _ _ _ _) zero
-    (at-transform-blocks .transform-blocks .last .1 .1 .1 .1 .1 .1 .1 .1 .1 .0) (b .0 .1) _
+    (b .0 .0) (b .1) (λ k. omega (arith, at-shared-slice-known .shared-slice-known .given k)) (start .args .env .left) el there _ (said _ _) zero
+    (at-transform-blocks .transform-blocks .last .1 .1 .1 .1 .1 .1 .1 .0) (b .0 .1) _
     (at-next-change .next-change .ensures .1 .3 (λ z. blocks-go _ (sym (at-turn3 .turn3 .given .1) ∙ z))) _ _ (c .between .ensures)
 
--- src/lib.rt:212:5
+-- src/lib.rt:159:5
 transform-block-loop-again-5 : (t : ℕ) → transform-block-lts.Need-loop-again-5 (transform-block-claims t) (transform-block-at t) transform-block.Post transform-block-Inv-loop transform-block-μ-loop
 transform-block-loop-again-5 t c =
     let at-place-in2 = c .before in
@@ -854,41 +855,41 @@ transform-block-loop-again-5 t c =
     let at-loop = at-drop-word .before in
     let at-inner = at-loop .before .before .before .before .before .before in
     let at-place-in = at-inner .before in
-    let at-shared-slice-known = at-place-in .before .before .before .before .before .before .before .before .before .before in
+    let at-shared-slice-known = at-place-in .before .before .before .before .before .before .before .before in
     let start = at-shared-slice-known .before in
     let there = subst (λ (p : Place). BlockThere (start .args .s .now) (start .args .env .left) (p .at)) (sym (at-place-in .place-in .ensures)) (start .pre .1 .1) in
     let el = ap (λ (x : Env). x .left) (at-inner .inner .ensures) in
-    let h = turned (start .args .s .now) (start .args .ns .now) (start .args .ts .now) (start .args .xs .now) (at-inner .inner .result) (at-place-in .place-in .result)
+    let h = turned (start .args .s .now) (start .args .tb .now) (at-inner .inner .result) (at-place-in .place-in .result)
     (start .args .outer) (start .args .states) (start .args .rows .now) _ (start .args .errs .now) (start .args .warns .now) (start .args .lefts .now)
     (at-loop .loop .inv) (at-drop-word .drop-word .result)
     (λ T d. at-drop-word .drop-word .ensures T (at-loop .loop .l) (at-loop .loop .st) refl refl (at-loop .loop .inv .owned .sound .kept)
     (at-loop .loop .inv .owned .sound .held) d) (at-scanning .scanning .result) (at-scanning .scanning .ensures) (at-next-change .next-change .ensures)
-    (at-turn3 .turn3 .given .1) (at-next-change .next-change .kept .1 .1 .1 .1 .1 .1 .1 .1 .1 .1 .1 .1 .1 .0)
-    (at-next-change .next-change .kept .1 .1 .1 .1 .1 .1 .1 .1 .1 .1 .1 .1 .1 .1 .0)
-    (at-next-change .next-change .kept .1 .1 .1 .1 .1 .1 .1 .1 .1 .1 .1 .1 .1 .1 .1 .0)
-    (at-next-change .next-change .kept .1 .1 .1 .1 .1 .1 .1 .1 .1 .1 .1 .1 .1 .1 .1 .1 .0) in
+    (at-turn3 .turn3 .given .1) (at-next-change .next-change .kept .1 .1 .1 .1 .1 .1 .1 .1 .1 .1 .1 .0)
+    (at-next-change .next-change .kept .1 .1 .1 .1 .1 .1 .1 .1 .1 .1 .1 .1 .0)
+    (at-next-change .next-change .kept .1 .1 .1 .1 .1 .1 .1 .1 .1 .1 .1 .1 .1 .0)
+    (at-next-change .next-change .kept .1 .1 .1 .1 .1 .1 .1 .1 .1 .1 .1 .1 .1 .1 .0) in
     let is = at-put-place .put-place .ensures .place in
     let b = at-transform-blocks .transform-blocks .ensures in
     let zero = no-fault (at-if4 .if4 .left) in
-    standing-behind (start .args .s .now) (start .args .ns .now) (start .args .ts .now) (start .args .xs .now) (at-inner .inner .result) (at-place-in .place-in .result)
+    standing-behind (start .args .s .now) (start .args .tb .now) (at-inner .inner .result) (at-place-in .place-in .result)
     (start .args .outer) (start .args .states) (start .args .rows .now) _ (start .args .errs .now) (start .args .warns .now) (start .args .lefts .now) _ h _ is _
-    (b .0 .0) (b .1) (λ k. omega (arith, at-shared-slice-known .shared-slice-known .given k)) (start .args .env .left) el there _ (said _ _ _ _ _ _) zero
-    (at-transform-blocks .transform-blocks .last .1 .1 .1 .1 .1 .1 .1 .1 .1 .0) (b .0 .1)
+    (b .0 .0) (b .1) (λ k. omega (arith, at-shared-slice-known .shared-slice-known .given k)) (start .args .env .left) el there _ (said _ _) zero
+    (at-transform-blocks .transform-blocks .last .1 .1 .1 .1 .1 .1 .1 .0) (b .0 .1)
+    (at-transform-blocks .transform-blocks .kept .1 .1 .1 .1 .1 .1 .1 .1 .0)
+    (at-transform-blocks .transform-blocks .kept .1 .1 .1 .1 .1 .1 .1 .1 .1 .0)
     (at-transform-blocks .transform-blocks .kept .1 .1 .1 .1 .1 .1 .1 .1 .1 .1 .0)
-    (at-transform-blocks .transform-blocks .kept .1 .1 .1 .1 .1 .1 .1 .1 .1 .1 .1 .0)
-    (at-transform-blocks .transform-blocks .kept .1 .1 .1 .1 .1 .1 .1 .1 .1 .1 .1 .1 .0)
-    (at-transform-blocks .transform-blocks .kept .1 .1 .1 .1 .1 .1 .1 .1 .1 .1 .1 .1 .1 .0) _ (at-place-in2 .place-in2 .ensures) _ (c .between .ensures)
+    (at-transform-blocks .transform-blocks .kept .1 .1 .1 .1 .1 .1 .1 .1 .1 .1 .1 .0) _ (at-place-in2 .place-in2 .ensures) _ (c .between .ensures)
 
--- src/lib.rt:117:9
+-- src/lib.rt:98:9
 transform-blocks-transform-block-requires : (t : ℕ) → transform-blocks-lts.Need-transform-block-requires (transform-blocks-claims t) (transform-blocks-at t) transform-blocks.Post
 transform-blocks-transform-block-requires t c κs =
-    let at-shared-slice-known = c .before .before .before .before .before .before .before .before .before .before .before .before .before .before .before .before in
+    let at-shared-slice-known = c .before .before .before .before .before .before .before .before .before .before .before .before .before .before in
     let start = at-shared-slice-known .before in (
       omega (arith, start .pre .0),
       (
         start .pre .1 .0,
-        block-of (start .args .s .now) (start .args .ns .now) (start .args .ts .now) (start .args .xs .now)
-            (λ k. omega (arith, at-shared-slice-known .shared-slice-known .given k)) (start .args .env) (start .args .tag) (start .args .l) (start .args .t8)
+        block-of (start .args .s .now) (start .args .tb .now)
+            (λ k. omega (arith, at-shared-slice-known .shared-slice-known .given k)) (start .args .env) (start .args .tag) (start .args .l) (start .args .t6)
             (start .args .rows .now) (start .args .pl .now) (start .pre .1 .0) (start .pre .1 .1)
             (start .pre .1 .3),
         omega (arith, start .pre .1 .3),
@@ -897,37 +898,37 @@ transform-blocks-transform-block-requires t c κs =
       ),
     )
 
--- src/lib.rt:117:9
+-- src/lib.rt:98:9
 transform-blocks-same-length : (t : ℕ) → transform-blocks-lts.Need-same-length (transform-blocks-claims t) (transform-blocks-at t) transform-blocks.Post
 transform-blocks-same-length t c = omega arith
 
--- src/lib.rt:117:9
+-- src/lib.rt:98:9
 transform-blocks-same-length-2 : (t : ℕ) → transform-blocks-lts.Need-same-length-2 (transform-blocks-claims t) (transform-blocks-at t) transform-blocks.Post
 transform-blocks-same-length-2 t c = omega arith
 
--- src/lib.rt:117:9
+-- src/lib.rt:98:9
 transform-blocks-same-length-3 : (t : ℕ) → transform-blocks-lts.Need-same-length-3 (transform-blocks-claims t) (transform-blocks-at t) transform-blocks.Post
 transform-blocks-same-length-3 t c = omega arith
 
--- src/lib.rt:117:9
+-- src/lib.rt:98:9
 transform-blocks-same-length-4 : (t : ℕ) → transform-blocks-lts.Need-same-length-4 (transform-blocks-claims t) (transform-blocks-at t) transform-blocks.Post
 transform-blocks-same-length-4 t c = omega arith
 
--- src/lib.rt:117:9
+-- src/lib.rt:98:9
 transform-blocks-same-length-5 : (t : ℕ) → transform-blocks-lts.Need-same-length-5 (transform-blocks-claims t) (transform-blocks-at t) transform-blocks.Post
 transform-blocks-same-length-5 t c = omega arith
 
--- src/lib.rt:117:9
+-- src/lib.rt:98:9
 transform-blocks-returns : (t : ℕ) → transform-blocks-lts.Need-returns (transform-blocks-claims t) (transform-blocks-at t) transform-blocks.Post
 transform-blocks-returns t c =
     let at-transform-block = c .before .before .before .before .before .before .before .before .before .before in
     let at-if1 = at-transform-block .before .before .before .before .before .before .before .before in
-    let at-shared-slice-known = at-if1 .before .before .before .before .before .before .before .before .before in
+    let at-shared-slice-known = at-if1 .before .before .before .before .before .before .before in
     let start = at-shared-slice-known .before in
     let b = at-transform-block .transform-block .ensures in (
       (
-        plain-comes (start .args .s .now) (start .args .ns .now) (start .args .ts .now) (start .args .xs .now)
-            (λ k. omega (arith, at-shared-slice-known .shared-slice-known .given k)) (start .args .env) (start .args .tag) (start .args .l) (start .args .t8)
+        plain-comes (start .args .s .now) (start .args .tb .now)
+            (λ k. omega (arith, at-shared-slice-known .shared-slice-known .given k)) (start .args .env) (start .args .tag) (start .args .l) (start .args .t6)
             (start .args .rows .now) (start .args .pl .now) (start .pre .1 .0) (start .pre .1 .1) (start .pre .1 .3) (b .0 .0),
         b .0 .1,
       ),
@@ -939,45 +940,45 @@ transform-blocks-returns t c =
       },
     )
 
--- src/lib.rt:135:9
+-- src/lib.rt:101:9
 transform-blocks-behind-requires : (t : ℕ) → transform-blocks-lts.Need-behind-requires (transform-blocks-claims t) (transform-blocks-at t) transform-blocks.Post
 transform-blocks-behind-requires t c κs =
-    let at-shared-slice-known = c .before .before .before .before .before .before .before .before .before in
+    let at-shared-slice-known = c .before .before .before .before .before .before .before in
     let start = at-shared-slice-known .before in (
       start .pre .1 .0 .sound .kept .small,
       start .pre .1 .0 .width,
-      then-low (start .args .s .now) (start .args .ns .now) (start .args .ts .now) (start .args .xs .now)
-          (λ k. omega (arith, at-shared-slice-known .shared-slice-known .given k)) (start .args .env) (start .args .tag) (start .args .l) (start .args .t8)
+      then-low (start .args .s .now) (start .args .tb .now)
+          (λ k. omega (arith, at-shared-slice-known .shared-slice-known .given k)) (start .args .env) (start .args .tag) (start .args .l) (start .args .t6)
           (start .args .rows .now) (start .args .pl .now) (start .pre .1 .0) (start .pre .1 .1) (start .pre .1 .3) .2,
     )
 
--- src/lib.rt:136:9
+-- src/lib.rt:102:9
 transform-blocks-copy-rows-requires : (t : ℕ) → transform-blocks-lts.Need-copy-rows-requires (transform-blocks-claims t) (transform-blocks-at t) transform-blocks.Post
 transform-blocks-copy-rows-requires t c κs =
     let at-behind = c .before .before .before in
-    let at-shared-slice-known = at-behind .before .before .before .before .before .before .before .before .before .before in
+    let at-shared-slice-known = at-behind .before .before .before .before .before .before .before .before in
     let start = at-shared-slice-known .before in
     let is = moved-once (start .args .env) (at-behind .behind .result) (start .args .l .count) (at-behind .behind .ensures) in
     copied-at (start .args .env) (at-behind .behind .result) _ is
-    (to-branch (start .args .s .now) (start .args .ns .now) (start .args .ts .now) (start .args .xs .now) (start .args .env) (start .args .l) (start .args .t8) _
-    _ (start .pre .1 .0) _ (omega arith) (then-low (start .args .s .now) (start .args .ns .now) (start .args .ts .now) (start .args .xs .now)
-    (λ k. omega (arith, at-shared-slice-known .shared-slice-known .given k)) (start .args .env) (start .args .tag) (start .args .l) (start .args .t8)
+    (to-branch (start .args .s .now) (start .args .tb .now) (start .args .env) (start .args .l) (start .args .t6) _
+    _ (start .pre .1 .0) _ (omega arith) (then-low (start .args .s .now) (start .args .tb .now)
+    (λ k. omega (arith, at-shared-slice-known .shared-slice-known .given k)) (start .args .env) (start .args .tag) (start .args .l) (start .args .t6)
     (start .args .rows .now) (start .args .pl .now) (start .pre .1 .0) (start .pre .1 .1) (start .pre .1 .3) .0))
 
--- src/lib.rt:137:9
+-- src/lib.rt:103:9
 transform-blocks-element-write-pl : (t : ℕ) → transform-blocks-lts.Need-element-write-pl (transform-blocks-claims t) (transform-blocks-at t) transform-blocks.Post
 transform-blocks-element-write-pl t c = search needs
 
--- src/lib.rt:138:9
+-- src/lib.rt:104:9
 transform-blocks-same-length-6 : (t : ℕ) → transform-blocks-lts.Need-same-length-6 (transform-blocks-claims t) (transform-blocks-at t) transform-blocks.Post
 transform-blocks-same-length-6 t c = omega arith
 
--- src/lib.rt:138:9
+-- src/lib.rt:104:9
 transform-blocks-returns-2 : (t : ℕ) → transform-blocks-lts.Need-returns-2 (transform-blocks-claims t) (transform-blocks-at t) transform-blocks.Post
 transform-blocks-returns-2 t c =
     let at-copy-rows = c .before .before .before in
     let at-behind = at-copy-rows .before .before .before .before in
-    let at-shared-slice-known = at-behind .before .before .before .before .before .before .before .before .before .before in
+    let at-shared-slice-known = at-behind .before .before .before .before .before .before .before .before in
     let start = at-shared-slice-known .before in
     let is = moved-once (start .args .env) (at-behind .behind .result) (start .args .l .count) (at-behind .behind .ensures) in
     let c′ = copies-at (start .args .env) (at-behind .behind .result) _ is (at-copy-rows .copy-rows .ensures) in
@@ -985,65 +986,65 @@ transform-blocks-returns-2 t c =
     let f = told .fault in (
       (
         comes-faulty _ _ _ _ _ _ _ _ _ _ (told .room) (omega arith)
-            (below-less _ _ _ _ (omega arith) (branch-below (start .args .s .now) (start .args .ns .now) (start .args .ts .now) (start .args .xs .now)
-            (start .args .env) (start .args .l) (start .args .t8) _ _ (start .pre .1 .0) _ c′))
-            (λ z. then-short (start .args .s .now) (start .args .ns .now) (start .args .ts .now) (start .args .xs .now)
-            (λ k. omega (arith, at-shared-slice-known .shared-slice-known .given k)) (start .args .env) (start .args .tag) (start .args .l) (start .args .t8)
+            (below-less _ _ _ _ (omega arith) (branch-below (start .args .s .now) (start .args .tb .now)
+            (start .args .env) (start .args .l) (start .args .t6) _ _ (start .pre .1 .0) _ c′))
+            (λ z. then-short (start .args .s .now) (start .args .tb .now)
+            (λ k. omega (arith, at-shared-slice-known .shared-slice-known .given k)) (start .args .env) (start .args .tag) (start .args .l) (start .args .t6)
             (start .args .rows .now) (start .args .pl .now) (start .pre .1 .0) (start .pre .1 .1) (start .pre .1 .3)
-            (branch-short (start .args .s .now) (start .args .ns .now) (start .args .ts .now) (start .args .xs .now) (start .args .env) (start .args .l)
-            (start .args .t8) _ _ (start .pre .1 .0) _ c′ (not-true _ (c .if2 .taken)))),
+            (branch-short (start .args .s .now) (start .args .tb .now) (start .args .env) (start .args .l)
+            (start .args .t6) _ _ (start .pre .1 .0) _ c′ (not-true _ (c .if2 .taken)))),
         start .pre .1 .4,
       ),
       λ T sy reach. absurd (reach f),
     )
 
--- src/lib.rt:140:9
+-- src/lib.rt:106:9
 transform-blocks-transform-block-requires-2 : (t : ℕ) → transform-blocks-lts.Need-transform-block-requires-2 (transform-blocks-claims t) (transform-blocks-at t) transform-blocks.Post
 transform-blocks-transform-block-requires-2 t c κs =
     let at-if2 = c .before .before .before .before .before .before .before in
     let at-copy-rows = at-if2 .before .before .before in
     let at-behind = at-copy-rows .before .before .before .before in
-    let at-shared-slice-known = at-behind .before .before .before .before .before .before .before .before .before .before in
+    let at-shared-slice-known = at-behind .before .before .before .before .before .before .before .before in
     let start = at-shared-slice-known .before in
     let is = moved-once (start .args .env) (at-behind .behind .result) (start .args .l .count) (at-behind .behind .ensures) in
     let c′ = copies-at (start .args .env) (at-behind .behind .result) _ is (at-copy-rows .copy-rows .ensures) in (
       omega (arith, start .pre .0, left-same (start .args .env) (at-behind .behind .result) _ is),
       block-asked (start .args .env) (at-behind .behind .result) _ is (start .args .nodes .now) (start .args .pl .now)
-          (branch-enters (start .args .s .now) (start .args .ns .now) (start .args .ts .now) (start .args .xs .now) (start .args .env) (start .args .l)
-          (start .args .t8) _ _ (start .pre .1 .0) _ c′ (not-false _ (at-if2 .if2 .left)) (at-behind .behind .result) is)
-          (block-of (start .args .s .now) (start .args .ns .now) (start .args .ts .now) (start .args .xs .now)
-          (λ k. omega (arith, at-shared-slice-known .shared-slice-known .given k)) (start .args .env) (start .args .tag) (start .args .l) (start .args .t8)
+          (branch-enters (start .args .s .now) (start .args .tb .now) (start .args .env) (start .args .l)
+          (start .args .t6) _ _ (start .pre .1 .0) _ c′ (not-false _ (at-if2 .if2 .left)) (at-behind .behind .result) is)
+          (block-of (start .args .s .now) (start .args .tb .now)
+          (λ k. omega (arith, at-shared-slice-known .shared-slice-known .given k)) (start .args .env) (start .args .tag) (start .args .l) (start .args .t6)
           (start .args .rows .now) (start .args .pl .now) (start .pre .1 .0) (start .pre .1 .1) (start .pre .1 .3))
-          (then-low (start .args .s .now) (start .args .ns .now) (start .args .ts .now) (start .args .xs .now)
-          (λ k. omega (arith, at-shared-slice-known .shared-slice-known .given k)) (start .args .env) (start .args .tag) (start .args .l) (start .args .t8)
+          (then-low (start .args .s .now) (start .args .tb .now)
+          (λ k. omega (arith, at-shared-slice-known .shared-slice-known .given k)) (start .args .env) (start .args .tag) (start .args .l) (start .args .t6)
           (start .args .rows .now) (start .args .pl .now) (start .pre .1 .0) (start .pre .1 .1) (start .pre .1 .3) .1) (start .pre .1 .4) (start .pre .1 .5),
     )
 
--- src/lib.rt:156:12
+-- src/lib.rt:107:12
 transform-blocks-element-copy-out-if3 : (t : ℕ) → transform-blocks-lts.Need-element-copy-out-if3 (transform-blocks-claims t) (transform-blocks-at t) transform-blocks.Post
 transform-blocks-element-copy-out-if3 t c = search needs
 
--- src/lib.rt:157:9
+-- src/lib.rt:108:9
 transform-blocks-same-length-7 : (t : ℕ) → transform-blocks-lts.Need-same-length-7 (transform-blocks-claims t) (transform-blocks-at t) transform-blocks.Post
 transform-blocks-same-length-7 t c = omega arith
 
--- src/lib.rt:157:9
+-- src/lib.rt:108:9
 transform-blocks-same-length-8 : (t : ℕ) → transform-blocks-lts.Need-same-length-8 (transform-blocks-claims t) (transform-blocks-at t) transform-blocks.Post
 transform-blocks-same-length-8 t c = omega arith
 
--- src/lib.rt:157:9
+-- src/lib.rt:108:9
 transform-blocks-same-length-9 : (t : ℕ) → transform-blocks-lts.Need-same-length-9 (transform-blocks-claims t) (transform-blocks-at t) transform-blocks.Post
 transform-blocks-same-length-9 t c = omega arith
 
--- src/lib.rt:157:9
+-- src/lib.rt:108:9
 transform-blocks-same-length-10 : (t : ℕ) → transform-blocks-lts.Need-same-length-10 (transform-blocks-claims t) (transform-blocks-at t) transform-blocks.Post
 transform-blocks-same-length-10 t c = omega arith
 
--- src/lib.rt:157:9
+-- src/lib.rt:108:9
 transform-blocks-same-length-11 : (t : ℕ) → transform-blocks-lts.Need-same-length-11 (transform-blocks-claims t) (transform-blocks-at t) transform-blocks.Post
 transform-blocks-same-length-11 t c = omega arith
 
--- src/lib.rt:157:9
+-- src/lib.rt:108:9
 transform-blocks-returns-3 : (t : ℕ) → transform-blocks-lts.Need-returns-3 (transform-blocks-claims t) (transform-blocks-at t) transform-blocks.Post
 transform-blocks-returns-3 t c =
     let at-transform-block2 = c .before .before .before .before .before .before .before .before .before .before .before .before in
@@ -1051,35 +1052,35 @@ transform-blocks-returns-3 t c =
     let at-copy-rows = at-if2 .before .before .before in
     let at-behind = at-copy-rows .before .before .before .before in
     let at-if1 = at-behind .before in
-    let at-shared-slice-known = at-if1 .before .before .before .before .before .before .before .before .before in
+    let at-shared-slice-known = at-if1 .before .before .before .before .before .before .before in
     let start = at-shared-slice-known .before in
     let is = moved-once (start .args .env) (at-behind .behind .result) (start .args .l .count) (at-behind .behind .ensures) in
     let c′ = copies-at (start .args .env) (at-behind .behind .result) _ is (at-copy-rows .copy-rows .ensures) in
     let yes = not-false _ (at-if2 .if2 .left) in
     let come = comes-at (start .args .env) (at-behind .behind .result) _ is (at-transform-block2 .transform-block2 .ensures .0 .0) in
-    let walks = walks-at (start .args .env) (at-behind .behind .result) _ is (start .args .s .now) (start .args .ns .now) (start .args .ts .now) (start .args .xs .now)
-    (start .args .l) (start .args .t8) (at-copy-rows .copy-rows .last .1 .1 .0) _ _ (at-transform-block2 .transform-block2 .result)
-    (at-transform-block2 .transform-block2 .last .1 .1 .1 .1 .1 .1 .1 .0) (at-transform-block2 .transform-block2 .last .1 .1 .1 .1 .1 .1 .1 .1 .1 .1 .1 .1 .1 .0)
+    let walks = walks-at (start .args .env) (at-behind .behind .result) _ is (start .args .s .now) (start .args .tb .now)
+    (start .args .l) (start .args .t6) (at-copy-rows .copy-rows .last .1 .1 .0) _ _ (at-transform-block2 .transform-block2 .result)
+    (at-transform-block2 .transform-block2 .last .1 .1 .1 .1 .1 .0) (at-transform-block2 .transform-block2 .last .1 .1 .1 .1 .1 .1 .1 .1 .1 .1 .1 .0)
     _ (at-transform-block2 .transform-block2 .ensures .1) in
     let which = tag-of (start .args .tag) (start .pre .1 .2) (at-if1 .if1 .left) in (
       (
         comes-faulty _ _ _ _ _ _ _ _ _ _ (come .room) (c .if3 .taken)
-            (then-below (start .args .s .now) (start .args .ns .now) (start .args .ts .now) (start .args .xs .now)
-            (λ k. omega (arith, at-shared-slice-known .shared-slice-known .given k)) (start .args .env) (start .args .tag) (start .args .l) (start .args .t8)
+            (then-below (start .args .s .now) (start .args .tb .now)
+            (λ k. omega (arith, at-shared-slice-known .shared-slice-known .given k)) (start .args .env) (start .args .tag) (start .args .l) (start .args .t6)
             (start .args .rows .now) (start .args .pl .now) (start .pre .1 .0) (start .pre .1 .1) (start .pre .1 .3) c′ yes come)
-            (then-least (start .args .s .now) (start .args .ns .now) (start .args .ts .now) (start .args .xs .now)
-            (λ k. omega (arith, at-shared-slice-known .shared-slice-known .given k)) (start .args .env) (start .args .tag) (start .args .l) (start .args .t8)
+            (then-least (start .args .s .now) (start .args .tb .now)
+            (λ k. omega (arith, at-shared-slice-known .shared-slice-known .given k)) (start .args .env) (start .args .tag) (start .args .l) (start .args .t6)
             (start .args .rows .now) (start .args .pl .now) (start .pre .1 .0) (start .pre .1 .1) (start .pre .1 .3) c′ yes
             come),
         at-transform-block2 .transform-block2 .ensures .0 .1,
       ),
-      λ T sy reach. then-fault (start .args .s .now) (start .args .ns .now) (start .args .ts .now) (start .args .xs .now)
-          (λ k. omega (arith, at-shared-slice-known .shared-slice-known .given k)) (start .args .env) (start .args .tag) (start .args .l) (start .args .t8)
+      λ T sy reach. then-fault (start .args .s .now) (start .args .tb .now)
+          (λ k. omega (arith, at-shared-slice-known .shared-slice-known .given k)) (start .args .env) (start .args .tag) (start .args .l) (start .args .t6)
           (start .args .rows .now) (start .args .pl .now) (start .pre .1 .0) (start .pre .1 .1) (start .pre .1 .3) c′ yes come T _ _ (walks T sy reach)
           (c .if3 .taken) which,
     )
 
--- src/lib.rt:159:8
+-- src/lib.rt:110:8
 transform-blocks-then-over-requires : (t : ℕ) → transform-blocks-lts.Need-then-over-requires (transform-blocks-claims t) (transform-blocks-at t) transform-blocks.Post
 transform-blocks-then-over-requires t c κs =
     let at-if3 = c .before .before in
@@ -1088,29 +1089,28 @@ transform-blocks-then-over-requires t c κs =
     let at-copy-rows = at-if2 .before .before .before in
     let at-behind = at-copy-rows .before .before .before .before in
     let at-if1 = at-behind .before in
-    let at-shared-slice-known = at-if1 .before .before .before .before .before .before .before .before .before in
+    let at-shared-slice-known = at-if1 .before .before .before .before .before .before .before in
     let start = at-shared-slice-known .before in
     let is = moved-once (start .args .env) (at-behind .behind .result) (start .args .l .count) (at-behind .behind .ensures) in
     let c′ = copies-at (start .args .env) (at-behind .behind .result) _ is (at-copy-rows .copy-rows .ensures) in
     let yes = not-false _ (at-if2 .if2 .left) in
     let come = comes-at (start .args .env) (at-behind .behind .result) _ is (at-transform-block2 .transform-block2 .ensures .0 .0) in
-    let walks = walks-at (start .args .env) (at-behind .behind .result) _ is (start .args .s .now) (start .args .ns .now) (start .args .ts .now) (start .args .xs .now)
-    (start .args .l) (start .args .t8) (at-copy-rows .copy-rows .last .1 .1 .0) _ _ (at-transform-block2 .transform-block2 .result)
-    (at-transform-block2 .transform-block2 .last .1 .1 .1 .1 .1 .1 .1 .0) (at-transform-block2 .transform-block2 .last .1 .1 .1 .1 .1 .1 .1 .1 .1 .1 .1 .1 .1 .0)
+    let walks = walks-at (start .args .env) (at-behind .behind .result) _ is (start .args .s .now) (start .args .tb .now)
+    (start .args .l) (start .args .t6) (at-copy-rows .copy-rows .last .1 .1 .0) _ _ (at-transform-block2 .transform-block2 .result)
+    (at-transform-block2 .transform-block2 .last .1 .1 .1 .1 .1 .0) (at-transform-block2 .transform-block2 .last .1 .1 .1 .1 .1 .1 .1 .1 .1 .1 .1 .0)
     _ (at-transform-block2 .transform-block2 .ensures .1) in
     let which = tag-of (start .args .tag) (start .pre .1 .2) (at-if1 .if1 .left) in
     let zero = no-fault (at-if3 .if3 .left) in
-    let some-walks = walks (tablesOf (start .args .s .now) (start .args .ns .now) (start .args .ts .now) (start .args .xs .now) (start .args .env .globals)
-    (start .args .env .first)) (said _ _ _ _ _ _) (reaches zero) in (
+    let some-walks = walks (tablesOf (start .args .s .now) (start .args .tb .now)) (said _ _) (reaches zero) in (
       come .within zero,
-      λ ne. flag-there (start .args .s .now) (start .args .ns .now) (start .args .ts .now) (start .args .xs .now)
-          (λ k. omega (arith, at-shared-slice-known .shared-slice-known .given k)) (start .args .env) (start .args .tag) (start .args .l) (start .args .t8)
+      λ ne. flag-there (start .args .s .now) (start .args .tb .now)
+          (λ k. omega (arith, at-shared-slice-known .shared-slice-known .given k)) (start .args .env) (start .args .tag) (start .args .l) (start .args .t6)
           (start .args .rows .now) (start .args .pl .now) (start .pre .1 .0) (start .pre .1 .1) (start .pre .1 .3) c′ yes come zero _ _ _ some-walks
           (seven-of (start .args .tag) which ne) .inside,
       come .room,
     )
 
--- src/lib.rt:160:9
+-- src/lib.rt:111:9
 transform-blocks-transform-else-requires : (t : ℕ) → transform-blocks-lts.Need-transform-else-requires (transform-blocks-claims t) (transform-blocks-at t) transform-blocks.Post
 transform-blocks-transform-else-requires t c κs =
     let at-if4 = c .before .before .before .before .before .before .before in
@@ -1121,94 +1121,93 @@ transform-blocks-transform-else-requires t c κs =
     let at-copy-rows = at-if2 .before .before .before in
     let at-behind = at-copy-rows .before .before .before .before in
     let at-if1 = at-behind .before in
-    let at-shared-slice-known = at-if1 .before .before .before .before .before .before .before .before .before in
+    let at-shared-slice-known = at-if1 .before .before .before .before .before .before .before in
     let start = at-shared-slice-known .before in
     let is = moved-once (start .args .env) (at-behind .behind .result) (start .args .l .count) (at-behind .behind .ensures) in
     let c′ = copies-at (start .args .env) (at-behind .behind .result) _ is (at-copy-rows .copy-rows .ensures) in
     let yes = not-false _ (at-if2 .if2 .left) in
     let come = comes-at (start .args .env) (at-behind .behind .result) _ is (at-transform-block2 .transform-block2 .ensures .0 .0) in
-    let walks = walks-at (start .args .env) (at-behind .behind .result) _ is (start .args .s .now) (start .args .ns .now) (start .args .ts .now) (start .args .xs .now)
-    (start .args .l) (start .args .t8) (at-copy-rows .copy-rows .last .1 .1 .0) _ _ (at-transform-block2 .transform-block2 .result)
-    (at-transform-block2 .transform-block2 .last .1 .1 .1 .1 .1 .1 .1 .0) (at-transform-block2 .transform-block2 .last .1 .1 .1 .1 .1 .1 .1 .1 .1 .1 .1 .1 .1 .0)
+    let walks = walks-at (start .args .env) (at-behind .behind .result) _ is (start .args .s .now) (start .args .tb .now)
+    (start .args .l) (start .args .t6) (at-copy-rows .copy-rows .last .1 .1 .0) _ _ (at-transform-block2 .transform-block2 .result)
+    (at-transform-block2 .transform-block2 .last .1 .1 .1 .1 .1 .0) (at-transform-block2 .transform-block2 .last .1 .1 .1 .1 .1 .1 .1 .1 .1 .1 .1 .0)
     _ (at-transform-block2 .transform-block2 .ensures .1) in
     let which = tag-of (start .args .tag) (start .pre .1 .2) (at-if1 .if1 .left) in
     let zero = no-fault (at-if3 .if3 .left) in
-    let some-walks = walks (tablesOf (start .args .s .now) (start .args .ns .now) (start .args .ts .now) (start .args .xs .now) (start .args .env .globals)
-    (start .args .env .first)) (said _ _ _ _ _ _) (reaches zero) in
+    let some-walks = walks (tablesOf (start .args .s .now) (start .args .tb .now)) (said _ _) (reaches zero) in
     let seven = flag-seven (start .args .tag) (at-then-over .then-over .result) which (λ q. at-then-over .then-over .ensures .0 q .flag) (at-if4 .if4 .taken) in
     let f = at-then-over .then-over .ensures .1 (λ q. omega arith) in
-    let there = flag-there (start .args .s .now) (start .args .ns .now) (start .args .ts .now) (start .args .xs .now)
-    (λ k. omega (arith, at-shared-slice-known .shared-slice-known .given k)) (start .args .env) (start .args .tag) (start .args .l) (start .args .t8)
+    let there = flag-there (start .args .s .now) (start .args .tb .now)
+    (λ k. omega (arith, at-shared-slice-known .shared-slice-known .given k)) (start .args .env) (start .args .tag) (start .args .l) (start .args .t6)
     (start .args .rows .now) (start .args .pl .now) (start .pre .1 .0) (start .pre .1 .1) (start .pre .1 .3) c′ yes come zero _ _ _ some-walks seven in (
       omega (arith, start .pre .0),
       (
-        else-enters (start .args .s .now) (start .args .ns .now) (start .args .ts .now) (start .args .xs .now)
-            (λ k. omega (arith, at-shared-slice-known .shared-slice-known .given k)) (start .args .env) (start .args .tag) (start .args .l) (start .args .t8)
+        else-enters (start .args .s .now) (start .args .tb .now)
+            (λ k. omega (arith, at-shared-slice-known .shared-slice-known .given k)) (start .args .env) (start .args .tag) (start .args .l) (start .args .t6)
             (start .args .rows .now) (start .args .pl .now) (start .pre .1 .0) (start .pre .1 .1) (start .pre .1 .3) c′ yes come zero
-            (at-transform-block2 .transform-block2 .last .1 .1 .1 .1 .1 .1 .1 .1 .1 .0) (at-then-over .then-over .last .1 .1 .0)
-            (at-then-over .then-over .last .1 .1 .1 .0) (at-then-over .then-over .result) (at-transform-block2 .transform-block2 .last .1 .1 .1 .1 .1 .1 .1 .1 .1 .1 .0)
-            (at-transform-block2 .transform-block2 .last .1 .1 .1 .1 .1 .1 .1 .1 .1 .1 .1 .0)
-            (at-transform-block2 .transform-block2 .last .1 .1 .1 .1 .1 .1 .1 .1 .1 .1 .1 .1 .0) f there (at-if4 .if4 .taken),
+            (at-transform-block2 .transform-block2 .last .1 .1 .1 .1 .1 .1 .1 .0) (at-then-over .then-over .last .1 .1 .0)
+            (at-then-over .then-over .last .1 .1 .1 .0) (at-then-over .then-over .result) (at-transform-block2 .transform-block2 .last .1 .1 .1 .1 .1 .1 .1 .1 .0)
+            (at-transform-block2 .transform-block2 .last .1 .1 .1 .1 .1 .1 .1 .1 .1 .0)
+            (at-transform-block2 .transform-block2 .last .1 .1 .1 .1 .1 .1 .1 .1 .1 .1 .0) f there (at-if4 .if4 .taken),
         else-block-there (start .args .s .now)
-            (start .args .ns .now) (start .args .ts .now) (start .args .xs .now) (λ k. omega (arith, at-shared-slice-known .shared-slice-known .given k))
-            (start .args .env) (start .args .tag) (start .args .l) (start .args .t8) (start .args .rows .now) (start .args .pl .now) (start .pre .1 .0) (start .pre .1 .1)
-            (start .pre .1 .3) c′ yes come zero (at-transform-block2 .transform-block2 .last .1 .1 .1 .1 .1 .1 .1 .1 .1 .0) (at-then-over .then-over .last .1 .1 .0)
-            (at-then-over .then-over .last .1 .1 .1 .0) (at-then-over .then-over .result) (at-transform-block2 .transform-block2 .last .1 .1 .1 .1 .1 .1 .1 .1 .1 .1 .0)
-            (at-transform-block2 .transform-block2 .last .1 .1 .1 .1 .1 .1 .1 .1 .1 .1 .1 .0)
-            (at-transform-block2 .transform-block2 .last .1 .1 .1 .1 .1 .1 .1 .1 .1 .1 .1 .1 .0) f there (at-if4 .if4 .taken),
+            (start .args .tb .now) (λ k. omega (arith, at-shared-slice-known .shared-slice-known .given k))
+            (start .args .env) (start .args .tag) (start .args .l) (start .args .t6) (start .args .rows .now) (start .args .pl .now) (start .pre .1 .0) (start .pre .1 .1)
+            (start .pre .1 .3) c′ yes come zero (at-transform-block2 .transform-block2 .last .1 .1 .1 .1 .1 .1 .1 .0) (at-then-over .then-over .last .1 .1 .0)
+            (at-then-over .then-over .last .1 .1 .1 .0) (at-then-over .then-over .result) (at-transform-block2 .transform-block2 .last .1 .1 .1 .1 .1 .1 .1 .1 .0)
+            (at-transform-block2 .transform-block2 .last .1 .1 .1 .1 .1 .1 .1 .1 .1 .0)
+            (at-transform-block2 .transform-block2 .last .1 .1 .1 .1 .1 .1 .1 .1 .1 .1 .0) f there (at-if4 .if4 .taken),
         start .pre .1 .3,
         else-first
-            (start .args .s .now) (start .args .ns .now) (start .args .ts .now) (start .args .xs .now)
-            (λ k. omega (arith, at-shared-slice-known .shared-slice-known .given k)) (start .args .env) (start .args .tag) (start .args .l) (start .args .t8)
+            (start .args .s .now) (start .args .tb .now)
+            (λ k. omega (arith, at-shared-slice-known .shared-slice-known .given k)) (start .args .env) (start .args .tag) (start .args .l) (start .args .t6)
             (start .args .rows .now) (start .args .pl .now) (start .pre .1 .0) (start .pre .1 .1) (start .pre .1 .3) c′ yes come zero
-            (at-transform-block2 .transform-block2 .last .1 .1 .1 .1 .1 .1 .1 .1 .1 .0) (at-then-over .then-over .last .1 .1 .0)
-            (at-then-over .then-over .last .1 .1 .1 .0) (at-then-over .then-over .result) (at-transform-block2 .transform-block2 .last .1 .1 .1 .1 .1 .1 .1 .1 .1 .1 .0)
-            (at-transform-block2 .transform-block2 .last .1 .1 .1 .1 .1 .1 .1 .1 .1 .1 .1 .0)
-            (at-transform-block2 .transform-block2 .last .1 .1 .1 .1 .1 .1 .1 .1 .1 .1 .1 .1 .0) f there
+            (at-transform-block2 .transform-block2 .last .1 .1 .1 .1 .1 .1 .1 .0) (at-then-over .then-over .last .1 .1 .0)
+            (at-then-over .then-over .last .1 .1 .1 .0) (at-then-over .then-over .result) (at-transform-block2 .transform-block2 .last .1 .1 .1 .1 .1 .1 .1 .1 .0)
+            (at-transform-block2 .transform-block2 .last .1 .1 .1 .1 .1 .1 .1 .1 .1 .0)
+            (at-transform-block2 .transform-block2 .last .1 .1 .1 .1 .1 .1 .1 .1 .1 .1 .0) f there
             (at-if4 .if4 .taken),
         at-transform-block2 .transform-block2 .ensures .0 .1,
         f .tells .room,
       ),
     )
 
--- src/lib.rt:160:9
+-- src/lib.rt:111:9
 transform-blocks-same-length-12 : (t : ℕ) → transform-blocks-lts.Need-same-length-12 (transform-blocks-claims t) (transform-blocks-at t) transform-blocks.Post
 transform-blocks-same-length-12 t c =
     let at-transform-else = c .before .before .before .before .before .before .before .before .before .before in
     let at-transform-block2 = at-transform-else .before .before .before .before .before .before .before .before .before .before .before .before .before .before .before .before .before .before .before .before .before .before .before .before .before .before in
     let at-copy-rows = at-transform-block2 .before .before .before .before .before .before .before .before .before .before .before in
-    at-transform-else .transform-else .kept .1 .1 .1 .1 .1 .1 .1 .1 .0 ∙ at-transform-block2 .transform-block2 .kept .1 .1 .1 .1 .1 .1 .1 .0 ∙ at-copy-rows .copy-rows .kept .1 .1 .0
+    omega (arith, at-transform-else .transform-else .kept .1 .1 .1 .1 .1 .1 .0, at-transform-block2 .transform-block2 .kept .1 .1 .1 .1 .1 .0, at-copy-rows .copy-rows .kept .1 .1 .0)
 
--- src/lib.rt:160:9
+-- src/lib.rt:111:9
 transform-blocks-same-length-13 : (t : ℕ) → transform-blocks-lts.Need-same-length-13 (transform-blocks-claims t) (transform-blocks-at t) transform-blocks.Post
 transform-blocks-same-length-13 t c =
     let at-transform-else = c .before .before .before .before .before .before .before .before .before .before in
     let at-then-over = at-transform-else .before .before .before .before .before .before .before .before .before .before .before in
     let at-transform-block2 = at-then-over .before .before .before .before .before .before .before .before .before .before .before .before .before .before .before in
-    at-transform-else .transform-else .kept .1 .1 .1 .1 .1 .1 .1 .1 .1 .1 .0 ∙ at-then-over .then-over .kept .1 .1 .0 ∙ at-transform-block2 .transform-block2 .kept .1 .1 .1 .1 .1 .1 .1 .1 .1 .0
+    omega (arith, at-transform-else .transform-else .kept .1 .1 .1 .1 .1 .1 .1 .1 .0, at-then-over .then-over .kept .1 .1 .0, at-transform-block2 .transform-block2 .kept .1 .1 .1 .1 .1 .1 .1 .0)
 
--- src/lib.rt:160:9
+-- src/lib.rt:111:9
 transform-blocks-same-length-14 : (t : ℕ) → transform-blocks-lts.Need-same-length-14 (transform-blocks-claims t) (transform-blocks-at t) transform-blocks.Post
 transform-blocks-same-length-14 t c =
     let at-transform-else = c .before .before .before .before .before .before .before .before .before .before in
     let at-transform-block2 = at-transform-else .before .before .before .before .before .before .before .before .before .before .before .before .before .before .before .before .before .before .before .before .before .before .before .before .before .before in
-    at-transform-else .transform-else .kept .1 .1 .1 .1 .1 .1 .1 .1 .1 .1 .1 .0 ∙ at-transform-block2 .transform-block2 .kept .1 .1 .1 .1 .1 .1 .1 .1 .1 .1 .0
+    omega (arith, at-transform-else .transform-else .kept .1 .1 .1 .1 .1 .1 .1 .1 .1 .0, at-transform-block2 .transform-block2 .kept .1 .1 .1 .1 .1 .1 .1 .1 .0)
 
--- src/lib.rt:160:9
+-- src/lib.rt:111:9
 transform-blocks-same-length-15 : (t : ℕ) → transform-blocks-lts.Need-same-length-15 (transform-blocks-claims t) (transform-blocks-at t) transform-blocks.Post
 transform-blocks-same-length-15 t c =
     let at-transform-else = c .before .before .before .before .before .before .before .before .before .before in
     let at-transform-block2 = at-transform-else .before .before .before .before .before .before .before .before .before .before .before .before .before .before .before .before .before .before .before .before .before .before .before .before .before .before in
-    at-transform-else .transform-else .kept .1 .1 .1 .1 .1 .1 .1 .1 .1 .1 .1 .1 .0 ∙ at-transform-block2 .transform-block2 .kept .1 .1 .1 .1 .1 .1 .1 .1 .1 .1 .1 .0
+    omega (arith, at-transform-else .transform-else .kept .1 .1 .1 .1 .1 .1 .1 .1 .1 .1 .0, at-transform-block2 .transform-block2 .kept .1 .1 .1 .1 .1 .1 .1 .1 .1 .0)
 
--- src/lib.rt:160:9
+-- src/lib.rt:111:9
 transform-blocks-same-length-16 : (t : ℕ) → transform-blocks-lts.Need-same-length-16 (transform-blocks-claims t) (transform-blocks-at t) transform-blocks.Post
 transform-blocks-same-length-16 t c =
     let at-transform-else = c .before .before .before .before .before .before .before .before .before .before in
     let at-transform-block2 = at-transform-else .before .before .before .before .before .before .before .before .before .before .before .before .before .before .before .before .before .before .before .before .before .before .before .before .before .before in
-    at-transform-else .transform-else .kept .1 .1 .1 .1 .1 .1 .1 .1 .1 .1 .1 .1 .1 .0 ∙ at-transform-block2 .transform-block2 .kept .1 .1 .1 .1 .1 .1 .1 .1 .1 .1 .1 .1 .0
+    omega (arith, at-transform-else .transform-else .kept .1 .1 .1 .1 .1 .1 .1 .1 .1 .1 .1 .0, at-transform-block2 .transform-block2 .kept .1 .1 .1 .1 .1 .1 .1 .1 .1 .1 .0)
 
--- src/lib.rt:160:9
+-- src/lib.rt:111:9
 transform-blocks-returns-4 : (t : ℕ) → transform-blocks-lts.Need-returns-4 (transform-blocks-claims t) (transform-blocks-at t) transform-blocks.Post
 transform-blocks-returns-4 t c =
     let at-transform-else = c .before .before .before .before .before .before .before .before .before .before in
@@ -1220,51 +1219,50 @@ transform-blocks-returns-4 t c =
     let at-copy-rows = at-if2 .before .before .before in
     let at-behind = at-copy-rows .before .before .before .before in
     let at-if1 = at-behind .before in
-    let at-shared-slice-known = at-if1 .before .before .before .before .before .before .before .before .before in
+    let at-shared-slice-known = at-if1 .before .before .before .before .before .before .before in
     let start = at-shared-slice-known .before in
     let is = moved-once (start .args .env) (at-behind .behind .result) (start .args .l .count) (at-behind .behind .ensures) in
     let c′ = copies-at (start .args .env) (at-behind .behind .result) _ is (at-copy-rows .copy-rows .ensures) in
     let yes = not-false _ (at-if2 .if2 .left) in
     let come = comes-at (start .args .env) (at-behind .behind .result) _ is (at-transform-block2 .transform-block2 .ensures .0 .0) in
-    let walks = walks-at (start .args .env) (at-behind .behind .result) _ is (start .args .s .now) (start .args .ns .now) (start .args .ts .now) (start .args .xs .now)
-    (start .args .l) (start .args .t8) (at-copy-rows .copy-rows .last .1 .1 .0) _ _ (at-transform-block2 .transform-block2 .result)
-    (at-transform-block2 .transform-block2 .last .1 .1 .1 .1 .1 .1 .1 .0) (at-transform-block2 .transform-block2 .last .1 .1 .1 .1 .1 .1 .1 .1 .1 .1 .1 .1 .1 .0)
+    let walks = walks-at (start .args .env) (at-behind .behind .result) _ is (start .args .s .now) (start .args .tb .now)
+    (start .args .l) (start .args .t6) (at-copy-rows .copy-rows .last .1 .1 .0) _ _ (at-transform-block2 .transform-block2 .result)
+    (at-transform-block2 .transform-block2 .last .1 .1 .1 .1 .1 .0) (at-transform-block2 .transform-block2 .last .1 .1 .1 .1 .1 .1 .1 .1 .1 .1 .1 .0)
     _ (at-transform-block2 .transform-block2 .ensures .1) in
     let which = tag-of (start .args .tag) (start .pre .1 .2) (at-if1 .if1 .left) in
     let zero = no-fault (at-if3 .if3 .left) in
-    let some-walks = walks (tablesOf (start .args .s .now) (start .args .ns .now) (start .args .ts .now) (start .args .xs .now) (start .args .env .globals)
-    (start .args .env .first)) (said _ _ _ _ _ _) (reaches zero) in
+    let some-walks = walks (tablesOf (start .args .s .now) (start .args .tb .now)) (said _ _) (reaches zero) in
     let seven = flag-seven (start .args .tag) (at-then-over .then-over .result) which (λ q. at-then-over .then-over .ensures .0 q .flag) (at-if4 .if4 .taken) in
     let f = at-then-over .then-over .ensures .1 (λ q. omega arith) in
-    let there = flag-there (start .args .s .now) (start .args .ns .now) (start .args .ts .now) (start .args .xs .now)
-    (λ k. omega (arith, at-shared-slice-known .shared-slice-known .given k)) (start .args .env) (start .args .tag) (start .args .l) (start .args .t8)
+    let there = flag-there (start .args .s .now) (start .args .tb .now)
+    (λ k. omega (arith, at-shared-slice-known .shared-slice-known .given k)) (start .args .env) (start .args .tag) (start .args .l) (start .args .t6)
     (start .args .rows .now) (start .args .pl .now) (start .pre .1 .0) (start .pre .1 .1) (start .pre .1 .3) c′ yes come zero _ _ _ some-walks seven in (
       (
-        else-comes-to (start .args .s .now) (start .args .ns .now) (start .args .ts .now) (start .args .xs .now)
-            (λ k. omega (arith, at-shared-slice-known .shared-slice-known .given k)) (start .args .env) (start .args .tag) (start .args .l) (start .args .t8)
+        else-comes-to (start .args .s .now) (start .args .tb .now)
+            (λ k. omega (arith, at-shared-slice-known .shared-slice-known .given k)) (start .args .env) (start .args .tag) (start .args .l) (start .args .t6)
             (start .args .rows .now) (start .args .pl .now) (start .pre .1 .0) (start .pre .1 .1) (start .pre .1 .3) c′ yes come zero
-            (at-transform-block2 .transform-block2 .last .1 .1 .1 .1 .1 .1 .1 .1 .1 .0) (at-then-over .then-over .last .1 .1 .0)
-            (at-then-over .then-over .last .1 .1 .1 .0) (at-then-over .then-over .result) (at-transform-block2 .transform-block2 .last .1 .1 .1 .1 .1 .1 .1 .1 .1 .1 .0)
-            (at-transform-block2 .transform-block2 .last .1 .1 .1 .1 .1 .1 .1 .1 .1 .1 .1 .0)
-            (at-transform-block2 .transform-block2 .last .1 .1 .1 .1 .1 .1 .1 .1 .1 .1 .1 .1 .0) f there (at-if4 .if4 .taken)
+            (at-transform-block2 .transform-block2 .last .1 .1 .1 .1 .1 .1 .1 .0) (at-then-over .then-over .last .1 .1 .0)
+            (at-then-over .then-over .last .1 .1 .1 .0) (at-then-over .then-over .result) (at-transform-block2 .transform-block2 .last .1 .1 .1 .1 .1 .1 .1 .1 .0)
+            (at-transform-block2 .transform-block2 .last .1 .1 .1 .1 .1 .1 .1 .1 .1 .0)
+            (at-transform-block2 .transform-block2 .last .1 .1 .1 .1 .1 .1 .1 .1 .1 .1 .0) f there (at-if4 .if4 .taken)
             (at-transform-else .transform-else .ensures .0 .0),
         at-transform-else .transform-else .ensures .0 .1,
       ),
-      λ T sy reach. else-walks-to (start .args .s .now) (start .args .ns .now) (start .args .ts .now) (start .args .xs .now)
-          (λ k. omega (arith, at-shared-slice-known .shared-slice-known .given k)) (start .args .env) (start .args .tag) (start .args .l) (start .args .t8)
+      λ T sy reach. else-walks-to (start .args .s .now) (start .args .tb .now)
+          (λ k. omega (arith, at-shared-slice-known .shared-slice-known .given k)) (start .args .env) (start .args .tag) (start .args .l) (start .args .t6)
           (start .args .rows .now) (start .args .pl .now) (start .pre .1 .0) (start .pre .1 .1) (start .pre .1 .3) c′ yes come zero
-          (at-transform-block2 .transform-block2 .last .1 .1 .1 .1 .1 .1 .1 .1 .1 .0) (at-then-over .then-over .last .1 .1 .0)
-          (at-then-over .then-over .last .1 .1 .1 .0) (at-then-over .then-over .result) (at-transform-block2 .transform-block2 .last .1 .1 .1 .1 .1 .1 .1 .1 .1 .1 .0)
-          (at-transform-block2 .transform-block2 .last .1 .1 .1 .1 .1 .1 .1 .1 .1 .1 .1 .0)
-          (at-transform-block2 .transform-block2 .last .1 .1 .1 .1 .1 .1 .1 .1 .1 .1 .1 .1 .0) f there (at-if4 .if4 .taken) T _ _ seven (walks T sy (reaches zero)) _
+          (at-transform-block2 .transform-block2 .last .1 .1 .1 .1 .1 .1 .1 .0) (at-then-over .then-over .last .1 .1 .0)
+          (at-then-over .then-over .last .1 .1 .1 .0) (at-then-over .then-over .result) (at-transform-block2 .transform-block2 .last .1 .1 .1 .1 .1 .1 .1 .1 .0)
+          (at-transform-block2 .transform-block2 .last .1 .1 .1 .1 .1 .1 .1 .1 .1 .0)
+          (at-transform-block2 .transform-block2 .last .1 .1 .1 .1 .1 .1 .1 .1 .1 .1 .0) f there (at-if4 .if4 .taken) T _ _ seven (walks T sy (reaches zero)) _
           (at-transform-else .transform-else .ensures .1 T sy reach),
     )
 
--- src/lib.rt:178:16
+-- src/lib.rt:127:16
 transform-blocks-element-copy-out-sure : (t : ℕ) → transform-blocks-lts.Need-element-copy-out-sure (transform-blocks-claims t) (transform-blocks-at t) transform-blocks.Post
 transform-blocks-element-copy-out-sure t c = search needs
 
--- src/lib.rt:179:5
+-- src/lib.rt:128:5
 transform-blocks-merge-control-flow-states-requires : (t : ℕ) → transform-blocks-lts.Need-merge-control-flow-states-requires (transform-blocks-claims t) (transform-blocks-at t) transform-blocks.Post
 transform-blocks-merge-control-flow-states-requires t c κs =
     let at-then-over = c .before .before .before .before .before .before in
@@ -1274,58 +1272,58 @@ transform-blocks-merge-control-flow-states-requires t c κs =
     let at-copy-rows = at-if2 .before .before .before in
     let at-behind = at-copy-rows .before .before .before .before in
     let at-if1 = at-behind .before in
-    let at-shared-slice-known = at-if1 .before .before .before .before .before .before .before .before .before in
+    let at-shared-slice-known = at-if1 .before .before .before .before .before .before .before in
     let start = at-shared-slice-known .before in
     let is = moved-once (start .args .env) (at-behind .behind .result) (start .args .l .count) (at-behind .behind .ensures) in
     let c′ = copies-at (start .args .env) (at-behind .behind .result) _ is (at-copy-rows .copy-rows .ensures) in
     let yes = not-false _ (at-if2 .if2 .left) in
     let come = comes-at (start .args .env) (at-behind .behind .result) _ is (at-transform-block2 .transform-block2 .ensures .0 .0) in
-    let walks = walks-at (start .args .env) (at-behind .behind .result) _ is (start .args .s .now) (start .args .ns .now) (start .args .ts .now) (start .args .xs .now)
-    (start .args .l) (start .args .t8) (at-copy-rows .copy-rows .last .1 .1 .0) _ _ (at-transform-block2 .transform-block2 .result)
-    (at-transform-block2 .transform-block2 .last .1 .1 .1 .1 .1 .1 .1 .0) (at-transform-block2 .transform-block2 .last .1 .1 .1 .1 .1 .1 .1 .1 .1 .1 .1 .1 .1 .0)
+    let walks = walks-at (start .args .env) (at-behind .behind .result) _ is (start .args .s .now) (start .args .tb .now)
+    (start .args .l) (start .args .t6) (at-copy-rows .copy-rows .last .1 .1 .0) _ _ (at-transform-block2 .transform-block2 .result)
+    (at-transform-block2 .transform-block2 .last .1 .1 .1 .1 .1 .0) (at-transform-block2 .transform-block2 .last .1 .1 .1 .1 .1 .1 .1 .1 .1 .1 .1 .0)
     _ (at-transform-block2 .transform-block2 .ensures .1) in
     let which = tag-of (start .args .tag) (start .pre .1 .2) (at-if1 .if1 .left) in
     let zero = no-fault (at-if3 .if3 .left) in
     let told = told-either (start .args .tag) which (at-then-over .then-over .ensures .0) (at-then-over .then-over .ensures .1) zero in (
-      without-branches (start .args .s .now) (start .args .ns .now) (start .args .ts .now) (start .args .xs .now)
-          (λ k. omega (arith, at-shared-slice-known .shared-slice-known .given k)) (start .args .env) (start .args .tag) (start .args .l) (start .args .t8)
+      without-branches (start .args .s .now) (start .args .tb .now)
+          (λ k. omega (arith, at-shared-slice-known .shared-slice-known .given k)) (start .args .env) (start .args .tag) (start .args .l) (start .args .t6)
           (start .args .rows .now) (start .args .pl .now) (start .pre .1 .0) (start .pre .1 .1) (start .pre .1 .3) c′ yes come zero
-          (at-transform-block2 .transform-block2 .last .1 .1 .1 .1 .1 .1 .1 .1 .1 .0) (at-then-over .then-over .last .1 .1 .0)
-          (at-then-over .then-over .last .1 .1 .1 .0) (at-then-over .then-over .result) (at-transform-block2 .transform-block2 .last .1 .1 .1 .1 .1 .1 .1 .1 .1 .1 .0)
-          (at-transform-block2 .transform-block2 .last .1 .1 .1 .1 .1 .1 .1 .1 .1 .1 .1 .0)
-          (at-transform-block2 .transform-block2 .last .1 .1 .1 .1 .1 .1 .1 .1 .1 .1 .1 .1 .0)
-          (then-low (start .args .s .now) (start .args .ns .now) (start .args .ts .now) (start .args .xs .now)
-          (λ k. omega (arith, at-shared-slice-known .shared-slice-known .given k)) (start .args .env) (start .args .tag) (start .args .l) (start .args .t8)
+          (at-transform-block2 .transform-block2 .last .1 .1 .1 .1 .1 .1 .1 .0) (at-then-over .then-over .last .1 .1 .0)
+          (at-then-over .then-over .last .1 .1 .1 .0) (at-then-over .then-over .result) (at-transform-block2 .transform-block2 .last .1 .1 .1 .1 .1 .1 .1 .1 .0)
+          (at-transform-block2 .transform-block2 .last .1 .1 .1 .1 .1 .1 .1 .1 .1 .0)
+          (at-transform-block2 .transform-block2 .last .1 .1 .1 .1 .1 .1 .1 .1 .1 .1 .0)
+          (then-low (start .args .s .now) (start .args .tb .now)
+          (λ k. omega (arith, at-shared-slice-known .shared-slice-known .given k)) (start .args .env) (start .args .tag) (start .args .l) (start .args .t6)
           (start .args .rows .now) (start .args .pl .now) (start .pre .1 .0) (start .pre .1 .1) (start .pre .1 .3) .2),
       told .0,
       told .1,
     )
 
--- src/lib.rt:92:1
+-- src/lib.rt:75:1
 transform-blocks-same-length-17 : (t : ℕ) → transform-blocks-lts.Need-same-length-17 (transform-blocks-claims t) (transform-blocks-at t) transform-blocks.Post
 transform-blocks-same-length-17 t c =
     let at-merge-control-flow-states = c .before .before in
     let at-transform-block2 = at-merge-control-flow-states .before .before .before .before .before .before .before .before .before .before .before .before .before .before .before .before .before .before .before .before .before .before in
     let at-copy-rows = at-transform-block2 .before .before .before .before .before .before .before .before .before .before .before in
-    at-merge-control-flow-states .merge-control-flow-states .kept .1 .1 .1 .1 .1 .1 .0 ∙ at-transform-block2 .transform-block2 .kept .1 .1 .1 .1 .1 .1 .1 .0 ∙ at-copy-rows .copy-rows .kept .1 .1 .0
+    omega (arith, at-merge-control-flow-states .merge-control-flow-states .kept .1 .1 .1 .1 .1 .1 .0, at-transform-block2 .transform-block2 .kept .1 .1 .1 .1 .1 .0, at-copy-rows .copy-rows .kept .1 .1 .0)
 
--- src/lib.rt:92:1
+-- src/lib.rt:75:1
 transform-blocks-same-length-18 : (t : ℕ) → transform-blocks-lts.Need-same-length-18 (transform-blocks-claims t) (transform-blocks-at t) transform-blocks.Post
 transform-blocks-same-length-18 t c = omega arith
 
--- src/lib.rt:92:1
+-- src/lib.rt:75:1
 transform-blocks-same-length-19 : (t : ℕ) → transform-blocks-lts.Need-same-length-19 (transform-blocks-claims t) (transform-blocks-at t) transform-blocks.Post
 transform-blocks-same-length-19 t c = omega arith
 
--- src/lib.rt:92:1
+-- src/lib.rt:75:1
 transform-blocks-same-length-20 : (t : ℕ) → transform-blocks-lts.Need-same-length-20 (transform-blocks-claims t) (transform-blocks-at t) transform-blocks.Post
 transform-blocks-same-length-20 t c = omega arith
 
--- src/lib.rt:92:1
+-- src/lib.rt:75:1
 transform-blocks-same-length-21 : (t : ℕ) → transform-blocks-lts.Need-same-length-21 (transform-blocks-claims t) (transform-blocks-at t) transform-blocks.Post
 transform-blocks-same-length-21 t c = omega arith
 
--- src/lib.rt:92:1
+-- src/lib.rt:75:1
 transform-blocks-returns-5 : (t : ℕ) → transform-blocks-lts.Need-returns-5 (transform-blocks-claims t) (transform-blocks-at t) transform-blocks.Post
 transform-blocks-returns-5 t c =
     let at-merge-control-flow-states = c .before .before in
@@ -1337,135 +1335,134 @@ transform-blocks-returns-5 t c =
     let at-copy-rows = at-if2 .before .before .before in
     let at-behind = at-copy-rows .before .before .before .before in
     let at-if1 = at-behind .before in
-    let at-shared-slice-known = at-if1 .before .before .before .before .before .before .before .before .before in
+    let at-shared-slice-known = at-if1 .before .before .before .before .before .before .before in
     let start = at-shared-slice-known .before in
     let is = moved-once (start .args .env) (at-behind .behind .result) (start .args .l .count) (at-behind .behind .ensures) in
     let c′ = copies-at (start .args .env) (at-behind .behind .result) _ is (at-copy-rows .copy-rows .ensures) in
     let yes = not-false _ (at-if2 .if2 .left) in
     let come = comes-at (start .args .env) (at-behind .behind .result) _ is (at-transform-block2 .transform-block2 .ensures .0 .0) in
-    let walks = walks-at (start .args .env) (at-behind .behind .result) _ is (start .args .s .now) (start .args .ns .now) (start .args .ts .now) (start .args .xs .now)
-    (start .args .l) (start .args .t8) (at-copy-rows .copy-rows .last .1 .1 .0) _ _ (at-transform-block2 .transform-block2 .result)
-    (at-transform-block2 .transform-block2 .last .1 .1 .1 .1 .1 .1 .1 .0) (at-transform-block2 .transform-block2 .last .1 .1 .1 .1 .1 .1 .1 .1 .1 .1 .1 .1 .1 .0)
+    let walks = walks-at (start .args .env) (at-behind .behind .result) _ is (start .args .s .now) (start .args .tb .now)
+    (start .args .l) (start .args .t6) (at-copy-rows .copy-rows .last .1 .1 .0) _ _ (at-transform-block2 .transform-block2 .result)
+    (at-transform-block2 .transform-block2 .last .1 .1 .1 .1 .1 .0) (at-transform-block2 .transform-block2 .last .1 .1 .1 .1 .1 .1 .1 .1 .1 .1 .1 .0)
     _ (at-transform-block2 .transform-block2 .ensures .1) in
     let which = tag-of (start .args .tag) (start .pre .1 .2) (at-if1 .if1 .left) in
     let zero = no-fault (at-if3 .if3 .left) in
-    let some-walks = walks (tablesOf (start .args .s .now) (start .args .ns .now) (start .args .ts .now) (start .args .xs .now) (start .args .env .globals)
-    (start .args .env .first)) (said _ _ _ _ _ _) (reaches zero) in
+    let some-walks = walks (tablesOf (start .args .s .now) (start .args .tb .now)) (said _ _) (reaches zero) in
     let g = at-merge-control-flow-states .merge-control-flow-states .ensures in
     ⊎-elim
     (λ (q : start .args .tag ≡ 7).
     let f = at-then-over .then-over .ensures .1 (λ e. omega arith) in
-    let there = flag-there (start .args .s .now) (start .args .ns .now) (start .args .ts .now) (start .args .xs .now)
-    (λ k. omega (arith, at-shared-slice-known .shared-slice-known .given k)) (start .args .env) (start .args .tag) (start .args .l) (start .args .t8)
+    let there = flag-there (start .args .s .now) (start .args .tb .now)
+    (λ k. omega (arith, at-shared-slice-known .shared-slice-known .given k)) (start .args .env) (start .args .tag) (start .args .l) (start .args .t6)
     (start .args .rows .now) (start .args .pl .now) (start .pre .1 .0) (start .pre .1 .1) (start .pre .1 .3) c′ yes come zero _ _ _ some-walks q in
     let off = flag-none (at-then-over .then-over .result) _ (f .flag) (there .flag) (at-if4 .if4 .left) in (
       (
-        without-comes (start .args .s .now) (start .args .ns .now) (start .args .ts .now) (start .args .xs .now)
-            (λ k. omega (arith, at-shared-slice-known .shared-slice-known .given k)) (start .args .env) (start .args .tag) (start .args .l) (start .args .t8)
+        without-comes (start .args .s .now) (start .args .tb .now)
+            (λ k. omega (arith, at-shared-slice-known .shared-slice-known .given k)) (start .args .env) (start .args .tag) (start .args .l) (start .args .t6)
             (start .args .rows .now) (start .args .pl .now) (start .pre .1 .0) (start .pre .1 .1) (start .pre .1 .3) c′ yes come zero
-            (at-transform-block2 .transform-block2 .last .1 .1 .1 .1 .1 .1 .1 .1 .1 .0) (at-then-over .then-over .last .1 .1 .0)
+            (at-transform-block2 .transform-block2 .last .1 .1 .1 .1 .1 .1 .1 .0) (at-then-over .then-over .last .1 .1 .0)
             (at-then-over .then-over .last .1 .1 .1 .0) (at-then-over .then-over .result)
-            (at-transform-block2 .transform-block2 .last .1 .1 .1 .1 .1 .1 .1 .1 .1 .1 .0)
-            (at-transform-block2 .transform-block2 .last .1 .1 .1 .1 .1 .1 .1 .1 .1 .1 .1 .0)
-            (at-transform-block2 .transform-block2 .last .1 .1 .1 .1 .1 .1 .1 .1 .1 .1 .1 .1 .0) g
-            (flag-further (start .args .s .now) (start .args .ns .now) (start .args .ts .now) (start .args .xs .now)
-            (λ k. omega (arith, at-shared-slice-known .shared-slice-known .given k)) (start .args .env) (start .args .tag) (start .args .l) (start .args .t8)
+            (at-transform-block2 .transform-block2 .last .1 .1 .1 .1 .1 .1 .1 .1 .0)
+            (at-transform-block2 .transform-block2 .last .1 .1 .1 .1 .1 .1 .1 .1 .1 .0)
+            (at-transform-block2 .transform-block2 .last .1 .1 .1 .1 .1 .1 .1 .1 .1 .1 .0) g
+            (flag-further (start .args .s .now) (start .args .tb .now)
+            (λ k. omega (arith, at-shared-slice-known .shared-slice-known .given k)) (start .args .env) (start .args .tag) (start .args .l) (start .args .t6)
             (start .args .rows .now) (start .args .pl .now) (start .pre .1 .0) (start .pre .1 .1) (start .pre .1 .3) c′ yes come zero
-            (at-transform-block2 .transform-block2 .last .1 .1 .1 .1 .1 .1 .1 .1 .1 .0) (at-then-over .then-over .last .1 .1 .0)
+            (at-transform-block2 .transform-block2 .last .1 .1 .1 .1 .1 .1 .1 .0) (at-then-over .then-over .last .1 .1 .0)
             (at-then-over .then-over .last .1 .1 .1 .0) (at-then-over .then-over .result)
-            (at-transform-block2 .transform-block2 .last .1 .1 .1 .1 .1 .1 .1 .1 .1 .1 .0)
-            (at-transform-block2 .transform-block2 .last .1 .1 .1 .1 .1 .1 .1 .1 .1 .1 .1 .0)
-            (at-transform-block2 .transform-block2 .last .1 .1 .1 .1 .1 .1 .1 .1 .1 .1 .1 .1 .0) f
+            (at-transform-block2 .transform-block2 .last .1 .1 .1 .1 .1 .1 .1 .1 .0)
+            (at-transform-block2 .transform-block2 .last .1 .1 .1 .1 .1 .1 .1 .1 .1 .0)
+            (at-transform-block2 .transform-block2 .last .1 .1 .1 .1 .1 .1 .1 .1 .1 .1 .0) f
             (there .inside)),
         at-transform-block2 .transform-block2 .ensures .0 .1,
       ),
-      λ T sy reach. without-if (start .args .s .now) (start .args .ns .now) (start .args .ts .now) (start .args .xs .now)
-          (λ k. omega (arith, at-shared-slice-known .shared-slice-known .given k)) (start .args .env) (start .args .tag) (start .args .l) (start .args .t8)
+      λ T sy reach. without-if (start .args .s .now) (start .args .tb .now)
+          (λ k. omega (arith, at-shared-slice-known .shared-slice-known .given k)) (start .args .env) (start .args .tag) (start .args .l) (start .args .t6)
           (start .args .rows .now) (start .args .pl .now) (start .pre .1 .0) (start .pre .1 .1) (start .pre .1 .3) c′ yes come zero
-          (at-transform-block2 .transform-block2 .last .1 .1 .1 .1 .1 .1 .1 .1 .1 .0) (at-then-over .then-over .last .1 .1 .0)
+          (at-transform-block2 .transform-block2 .last .1 .1 .1 .1 .1 .1 .1 .0) (at-then-over .then-over .last .1 .1 .0)
           (at-then-over .then-over .last .1 .1 .1 .0) (at-then-over .then-over .result)
-          (at-transform-block2 .transform-block2 .last .1 .1 .1 .1 .1 .1 .1 .1 .1 .1 .0)
-          (at-transform-block2 .transform-block2 .last .1 .1 .1 .1 .1 .1 .1 .1 .1 .1 .1 .0)
-          (at-transform-block2 .transform-block2 .last .1 .1 .1 .1 .1 .1 .1 .1 .1 .1 .1 .1 .0) g f refl off q T _ (walks T sy (reaches zero)) reach,
+          (at-transform-block2 .transform-block2 .last .1 .1 .1 .1 .1 .1 .1 .1 .0)
+          (at-transform-block2 .transform-block2 .last .1 .1 .1 .1 .1 .1 .1 .1 .1 .0)
+          (at-transform-block2 .transform-block2 .last .1 .1 .1 .1 .1 .1 .1 .1 .1 .1 .0) g f refl off q T _ (walks T sy (reaches zero)) reach,
     ))
     (λ (q : start .args .tag ≡ 8).
     let f = at-then-over .then-over .ensures .0 q in (
       (
-        without-comes (start .args .s .now) (start .args .ns .now) (start .args .ts .now) (start .args .xs .now)
-            (λ k. omega (arith, at-shared-slice-known .shared-slice-known .given k)) (start .args .env) (start .args .tag) (start .args .l) (start .args .t8)
+        without-comes (start .args .s .now) (start .args .tb .now)
+            (λ k. omega (arith, at-shared-slice-known .shared-slice-known .given k)) (start .args .env) (start .args .tag) (start .args .l) (start .args .t6)
             (start .args .rows .now) (start .args .pl .now) (start .pre .1 .0) (start .pre .1 .1) (start .pre .1 .3) c′ yes come zero
-            (at-transform-block2 .transform-block2 .last .1 .1 .1 .1 .1 .1 .1 .1 .1 .0) (at-then-over .then-over .last .1 .1 .0)
+            (at-transform-block2 .transform-block2 .last .1 .1 .1 .1 .1 .1 .1 .0) (at-then-over .then-over .last .1 .1 .0)
             (at-then-over .then-over .last .1 .1 .1 .0) (at-then-over .then-over .result)
-            (at-transform-block2 .transform-block2 .last .1 .1 .1 .1 .1 .1 .1 .1 .1 .1 .0)
-            (at-transform-block2 .transform-block2 .last .1 .1 .1 .1 .1 .1 .1 .1 .1 .1 .1 .0)
-            (at-transform-block2 .transform-block2 .last .1 .1 .1 .1 .1 .1 .1 .1 .1 .1 .1 .1 .0) g
-            (loop-further (start .args .s .now) (start .args .ns .now) (start .args .ts .now) (start .args .xs .now)
-            (λ k. omega (arith, at-shared-slice-known .shared-slice-known .given k)) (start .args .env) (start .args .tag) (start .args .l) (start .args .t8)
+            (at-transform-block2 .transform-block2 .last .1 .1 .1 .1 .1 .1 .1 .1 .0)
+            (at-transform-block2 .transform-block2 .last .1 .1 .1 .1 .1 .1 .1 .1 .1 .0)
+            (at-transform-block2 .transform-block2 .last .1 .1 .1 .1 .1 .1 .1 .1 .1 .1 .0) g
+            (loop-further (start .args .s .now) (start .args .tb .now)
+            (λ k. omega (arith, at-shared-slice-known .shared-slice-known .given k)) (start .args .env) (start .args .tag) (start .args .l) (start .args .t6)
             (start .args .rows .now) (start .args .pl .now) (start .pre .1 .0) (start .pre .1 .1) (start .pre .1 .3) c′ yes come zero
-            (at-transform-block2 .transform-block2 .last .1 .1 .1 .1 .1 .1 .1 .1 .1 .0) (at-then-over .then-over .last .1 .1 .0)
+            (at-transform-block2 .transform-block2 .last .1 .1 .1 .1 .1 .1 .1 .0) (at-then-over .then-over .last .1 .1 .0)
             (at-then-over .then-over .last .1 .1 .1 .0) (at-then-over .then-over .result)
-            (at-transform-block2 .transform-block2 .last .1 .1 .1 .1 .1 .1 .1 .1 .1 .1 .0)
-            (at-transform-block2 .transform-block2 .last .1 .1 .1 .1 .1 .1 .1 .1 .1 .1 .1 .0)
-            (at-transform-block2 .transform-block2 .last .1 .1 .1 .1 .1 .1 .1 .1 .1 .1 .1 .1 .0) f),
+            (at-transform-block2 .transform-block2 .last .1 .1 .1 .1 .1 .1 .1 .1 .0)
+            (at-transform-block2 .transform-block2 .last .1 .1 .1 .1 .1 .1 .1 .1 .1 .0)
+            (at-transform-block2 .transform-block2 .last .1 .1 .1 .1 .1 .1 .1 .1 .1 .1 .0) f),
         at-transform-block2 .transform-block2 .ensures .0 .1,
       ),
-      λ T sy reach. without-loop (start .args .s .now) (start .args .ns .now) (start .args .ts .now) (start .args .xs .now)
-          (λ k. omega (arith, at-shared-slice-known .shared-slice-known .given k)) (start .args .env) (start .args .tag) (start .args .l) (start .args .t8)
+      λ T sy reach. without-loop (start .args .s .now) (start .args .tb .now)
+          (λ k. omega (arith, at-shared-slice-known .shared-slice-known .given k)) (start .args .env) (start .args .tag) (start .args .l) (start .args .t6)
           (start .args .rows .now) (start .args .pl .now) (start .pre .1 .0) (start .pre .1 .1) (start .pre .1 .3) c′ yes come zero
-          (at-transform-block2 .transform-block2 .last .1 .1 .1 .1 .1 .1 .1 .1 .1 .0) (at-then-over .then-over .last .1 .1 .0)
+          (at-transform-block2 .transform-block2 .last .1 .1 .1 .1 .1 .1 .1 .0) (at-then-over .then-over .last .1 .1 .0)
           (at-then-over .then-over .last .1 .1 .1 .0) (at-then-over .then-over .result)
-          (at-transform-block2 .transform-block2 .last .1 .1 .1 .1 .1 .1 .1 .1 .1 .1 .0)
-          (at-transform-block2 .transform-block2 .last .1 .1 .1 .1 .1 .1 .1 .1 .1 .1 .1 .0)
-          (at-transform-block2 .transform-block2 .last .1 .1 .1 .1 .1 .1 .1 .1 .1 .1 .1 .1 .0) g f refl q T _ (walks T sy (reaches zero)) reach,
+          (at-transform-block2 .transform-block2 .last .1 .1 .1 .1 .1 .1 .1 .1 .0)
+          (at-transform-block2 .transform-block2 .last .1 .1 .1 .1 .1 .1 .1 .1 .1 .0)
+          (at-transform-block2 .transform-block2 .last .1 .1 .1 .1 .1 .1 .1 .1 .1 .1 .0) g f refl q T _ (walks T sy (reaches zero)) reach,
     ))
     which
 
--- src/lib.rt:51:16
+-- src/lib.rt:49:16
 transform-else-element-copy-out-sure : (t : ℕ) → transform-else-lts.Need-element-copy-out-sure (transform-else-claims t) (transform-else-at t) transform-else.Post
 transform-else-element-copy-out-sure t c = search needs
 
--- src/lib.rt:52:33
+-- src/lib.rt:50:33
 transform-else-behind-requires : (t : ℕ) → transform-else-lts.Need-behind-requires (transform-else-claims t) (transform-else-at t) transform-else.Post
 transform-else-behind-requires t c κs =
-    let start = c .before .before .before .before .before .before .before .before .before .before in
+    let start = c .before .before .before .before .before .before .before .before in
     (start .pre .1 .0 .sound .kept .small, start .pre .1 .0 .width, omega (arith, start .pre .1 .2))
 
--- src/lib.rt:52:9
+-- src/lib.rt:50:9
 transform-else-behind-requires-2 : (t : ℕ) → transform-else-lts.Need-behind-requires-2 (transform-else-claims t) (transform-else-at t) transform-else.Post
 transform-else-behind-requires-2 t c κs =
-    let start = c .before .before .before .before .before .before .before .before .before .before .before in
-    behind-asked (start .args .s .now) (start .args .ns .now) (start .args .ts .now) (start .args .xs .now) (start .args .env) (start .args .l) (start .args .t8) _ _
+    let start = c .before .before .before .before .before .before .before .before .before in
+    behind-asked (start .args .s .now) (start .args .tb .now) (start .args .env) (start .args .l) (start .args .t6) _ _
     (start .pre .1 .0) (start .pre .1 .2) _ (c .behind .ensures)
 
--- src/lib.rt:53:9
+-- src/lib.rt:51:9
 transform-else-copy-rows-requires : (t : ℕ) → transform-else-lts.Need-copy-rows-requires (transform-else-claims t) (transform-else-at t) transform-else.Post
 transform-else-copy-rows-requires t c κs =
     let at-behind2 = c .before .before .before in
     let at-behind = at-behind2 .before in
-    let start = at-behind .before .before .before .before .before .before .before .before .before .before .before in
+    let start = at-behind .before .before .before .before .before .before .before .before .before in
     let is = moved-twice (start .args .env) (at-behind .behind .result) (at-behind2 .behind2 .result) (start .args .l .count) (at-behind .behind .ensures)
     (at-behind2 .behind2 .ensures) in
-    let low = else-low (start .args .s .now) (start .args .ns .now) (start .args .ts .now) (start .args .xs .now) (start .args .env) (start .args .l) (start .args .t8)
+    let low = else-low (start .args .s .now) (start .args .tb .now) (start .args .env) (start .args .l) (start .args .t6)
     (start .args .first) (start .args .rows .now) (start .args .pl .now) (start .pre .1 .0) (start .pre .1 .1) (start .pre .1 .2) (start .pre .1 .3) in
     copied-at (start .args .env) (at-behind2 .behind2 .result) _ is
-    (to-branch (start .args .s .now) (start .args .ns .now) (start .args .ts .now) (start .args .xs .now) (start .args .env) (start .args .l) (start .args .t8) _
+    (to-branch (start .args .s .now) (start .args .tb .now) (start .args .env) (start .args .l) (start .args .t6) _
     _ (start .pre .1 .0) _ (low .2) (low .0))
 
--- src/lib.rt:54:9
+-- src/lib.rt:52:9
 transform-else-element-write-pl : (t : ℕ) → transform-else-lts.Need-element-write-pl (transform-else-claims t) (transform-else-at t) transform-else.Post
 transform-else-element-write-pl t c = search needs
 
--- src/lib.rt:55:9
+-- src/lib.rt:53:9
 transform-else-same-length : (t : ℕ) → transform-else-lts.Need-same-length (transform-else-claims t) (transform-else-at t) transform-else.Post
 transform-else-same-length t c = omega arith
 
--- src/lib.rt:55:9
+-- src/lib.rt:53:9
 transform-else-returns : (t : ℕ) → transform-else-lts.Need-returns (transform-else-claims t) (transform-else-at t) transform-else.Post
 transform-else-returns t c =
     let at-copy-rows = c .before .before .before in
     let at-behind2 = at-copy-rows .before .before .before .before in
     let at-behind = at-behind2 .before in
-    let start = at-behind .before .before .before .before .before .before .before .before .before .before .before in
+    let start = at-behind .before .before .before .before .before .before .before .before .before in
     let is = moved-twice (start .args .env) (at-behind .behind .result) (at-behind2 .behind2 .result) (start .args .l .count) (at-behind .behind .ensures)
     (at-behind2 .behind2 .ensures) in
     let c′ = copies-at (start .args .env) (at-behind2 .behind2 .result) _ is (at-copy-rows .copy-rows .ensures) in
@@ -1473,65 +1470,65 @@ transform-else-returns t c =
     let f = told .fault in (
       (
         comes-faulty _ _ _ _ _ _ _ _ _ _ (told .room) (omega arith)
-            (let low = else-low (start .args .s .now) (start .args .ns .now) (start .args .ts .now) (start .args .xs .now) (start .args .env) (start .args .l)
-            (start .args .t8) (start .args .first) (start .args .rows .now) (start .args .pl .now) (start .pre .1 .0) (start .pre .1 .1) (start .pre .1 .2)
+            (let low = else-low (start .args .s .now) (start .args .tb .now) (start .args .env) (start .args .l)
+            (start .args .t6) (start .args .first) (start .args .rows .now) (start .args .pl .now) (start .pre .1 .0) (start .pre .1 .1) (start .pre .1 .2)
             (start .pre .1 .3) in below-less _ _ _ _ (omega (arith, low .2))
-            (branch-below (start .args .s .now) (start .args .ns .now) (start .args .ts .now) (start .args .xs .now) (start .args .env) (start .args .l)
-            (start .args .t8) _ _ (start .pre .1 .0) _ c′))
-            (λ z. else-short (start .args .s .now) (start .args .ns .now) (start .args .ts .now) (start .args .xs .now) (start .args .env) (start .args .l)
-            (start .args .t8) (start .args .first) (start .args .rows .now) (start .args .pl .now) (start .pre .1 .0) (start .pre .1 .1) (start .pre .1 .2)
-            (start .pre .1 .3) (branch-short (start .args .s .now) (start .args .ns .now) (start .args .ts .now) (start .args .xs .now) (start .args .env)
-            (start .args .l) (start .args .t8) _ _ (start .pre .1 .0) _ c′ (not-true _ (c .if1 .taken)))),
+            (branch-below (start .args .s .now) (start .args .tb .now) (start .args .env) (start .args .l)
+            (start .args .t6) _ _ (start .pre .1 .0) _ c′))
+            (λ z. else-short (start .args .s .now) (start .args .tb .now) (start .args .env) (start .args .l)
+            (start .args .t6) (start .args .first) (start .args .rows .now) (start .args .pl .now) (start .pre .1 .0) (start .pre .1 .1) (start .pre .1 .2)
+            (start .pre .1 .3) (branch-short (start .args .s .now) (start .args .tb .now) (start .args .env)
+            (start .args .l) (start .args .t6) _ _ (start .pre .1 .0) _ c′ (not-true _ (c .if1 .taken)))),
         start .pre .1 .4,
       ),
       λ T sy reach. absurd (reach f),
     )
 
--- src/lib.rt:57:9
+-- src/lib.rt:55:9
 transform-else-transform-block-requires : (t : ℕ) → transform-else-lts.Need-transform-block-requires (transform-else-claims t) (transform-else-at t) transform-else.Post
 transform-else-transform-block-requires t c κs =
     let at-if1 = c .before .before .before .before .before .before .before in
     let at-copy-rows = at-if1 .before .before .before in
     let at-behind2 = at-copy-rows .before .before .before .before in
     let at-behind = at-behind2 .before in
-    let start = at-behind .before .before .before .before .before .before .before .before .before .before .before in
+    let start = at-behind .before .before .before .before .before .before .before .before .before in
     let is = moved-twice (start .args .env) (at-behind .behind .result) (at-behind2 .behind2 .result) (start .args .l .count) (at-behind .behind .ensures)
     (at-behind2 .behind2 .ensures) in
-    let low = else-low (start .args .s .now) (start .args .ns .now) (start .args .ts .now) (start .args .xs .now) (start .args .env) (start .args .l) (start .args .t8)
+    let low = else-low (start .args .s .now) (start .args .tb .now) (start .args .env) (start .args .l) (start .args .t6)
     (start .args .first) (start .args .rows .now) (start .args .pl .now) (start .pre .1 .0) (start .pre .1 .1) (start .pre .1 .2) (start .pre .1 .3) in
     let c′ = copies-at (start .args .env) (at-behind2 .behind2 .result) _ is (at-copy-rows .copy-rows .ensures) in (
       omega (arith, start .pre .0, left-same (start .args .env) (at-behind2 .behind2 .result) _ is),
       block-asked (start .args .env) (at-behind2 .behind2 .result) _ is (start .args .nodes .now) (start .args .pl .now)
-          (branch-enters (start .args .s .now) (start .args .ns .now) (start .args .ts .now) (start .args .xs .now) (start .args .env) (start .args .l)
-          (start .args .t8) _ _ (start .pre .1 .0) _ c′ (not-false _ (at-if1 .if1 .left)) (at-behind2 .behind2 .result) is) (start .pre .1 .1) (low .1)
+          (branch-enters (start .args .s .now) (start .args .tb .now) (start .args .env) (start .args .l)
+          (start .args .t6) _ _ (start .pre .1 .0) _ c′ (not-false _ (at-if1 .if1 .left)) (at-behind2 .behind2 .result) is) (start .pre .1 .1) (low .1)
           (start .pre .1 .4) (start .pre .1 .5),
     )
 
--- src/lib.rt:73:12
+-- src/lib.rt:56:12
 transform-else-element-copy-out-if2 : (t : ℕ) → transform-else-lts.Need-element-copy-out-if2 (transform-else-claims t) (transform-else-at t) transform-else.Post
 transform-else-element-copy-out-if2 t c = search needs
 
--- src/lib.rt:74:9
+-- src/lib.rt:57:9
 transform-else-same-length-2 : (t : ℕ) → transform-else-lts.Need-same-length-2 (transform-else-claims t) (transform-else-at t) transform-else.Post
 transform-else-same-length-2 t c = omega arith
 
--- src/lib.rt:74:9
+-- src/lib.rt:57:9
 transform-else-same-length-3 : (t : ℕ) → transform-else-lts.Need-same-length-3 (transform-else-claims t) (transform-else-at t) transform-else.Post
 transform-else-same-length-3 t c = omega arith
 
--- src/lib.rt:74:9
+-- src/lib.rt:57:9
 transform-else-same-length-4 : (t : ℕ) → transform-else-lts.Need-same-length-4 (transform-else-claims t) (transform-else-at t) transform-else.Post
 transform-else-same-length-4 t c = omega arith
 
--- src/lib.rt:74:9
+-- src/lib.rt:57:9
 transform-else-same-length-5 : (t : ℕ) → transform-else-lts.Need-same-length-5 (transform-else-claims t) (transform-else-at t) transform-else.Post
 transform-else-same-length-5 t c = omega arith
 
--- src/lib.rt:74:9
+-- src/lib.rt:57:9
 transform-else-same-length-6 : (t : ℕ) → transform-else-lts.Need-same-length-6 (transform-else-claims t) (transform-else-at t) transform-else.Post
 transform-else-same-length-6 t c = omega arith
 
--- src/lib.rt:74:9
+-- src/lib.rt:57:9
 transform-else-returns-2 : (t : ℕ) → transform-else-lts.Need-returns-2 (transform-else-claims t) (transform-else-at t) transform-else.Post
 transform-else-returns-2 t c =
     let at-transform-block = c .before .before .before .before .before .before .before .before .before .before .before .before in
@@ -1539,35 +1536,35 @@ transform-else-returns-2 t c =
     let at-copy-rows = at-if1 .before .before .before in
     let at-behind2 = at-copy-rows .before .before .before .before in
     let at-behind = at-behind2 .before in
-    let start = at-behind .before .before .before .before .before .before .before .before .before .before .before in
+    let start = at-behind .before .before .before .before .before .before .before .before .before in
     let is = moved-twice (start .args .env) (at-behind .behind .result) (at-behind2 .behind2 .result) (start .args .l .count) (at-behind .behind .ensures)
     (at-behind2 .behind2 .ensures) in
     let c′ = copies-at (start .args .env) (at-behind2 .behind2 .result) _ is (at-copy-rows .copy-rows .ensures) in
     let yes = not-false _ (at-if1 .if1 .left) in
     let come = comes-at (start .args .env) (at-behind2 .behind2 .result) _ is (at-transform-block .transform-block .ensures .0 .0) in
-    let walks = walks-at (start .args .env) (at-behind2 .behind2 .result) _ is (start .args .s .now) (start .args .ns .now) (start .args .ts .now) (start .args .xs .now)
-    (start .args .l) (start .args .t8) (at-copy-rows .copy-rows .last .1 .1 .0) _ _ (at-transform-block .transform-block .result)
-    (at-transform-block .transform-block .last .1 .1 .1 .1 .1 .1 .1 .0) (at-transform-block .transform-block .last .1 .1 .1 .1 .1 .1 .1 .1 .1 .1 .1 .1 .1 .0) _
+    let walks = walks-at (start .args .env) (at-behind2 .behind2 .result) _ is (start .args .s .now) (start .args .tb .now)
+    (start .args .l) (start .args .t6) (at-copy-rows .copy-rows .last .1 .1 .0) _ _ (at-transform-block .transform-block .result)
+    (at-transform-block .transform-block .last .1 .1 .1 .1 .1 .0) (at-transform-block .transform-block .last .1 .1 .1 .1 .1 .1 .1 .1 .1 .1 .1 .0) _
     (at-transform-block .transform-block .ensures .1) in (
       (
         comes-faulty _ _ _ _ _ _ _ _ _ _ (come .room) (c .if2 .taken)
-            (else-below (start .args .s .now) (start .args .ns .now) (start .args .ts .now) (start .args .xs .now) (start .args .env) (start .args .l) (start .args .t8)
+            (else-below (start .args .s .now) (start .args .tb .now) (start .args .env) (start .args .l) (start .args .t6)
             (start .args .first) (start .args .rows .now) (start .args .pl .now) (start .pre .1 .0) (start .pre .1 .1) (start .pre .1 .2) (start .pre .1 .3) c′ yes
-            come) (else-least (start .args .s .now) (start .args .ns .now) (start .args .ts .now) (start .args .xs .now) (start .args .env) (start .args .l)
-            (start .args .t8) (start .args .first) (start .args .rows .now) (start .args .pl .now) (start .pre .1 .0) (start .pre .1 .1) (start .pre .1 .2)
+            come) (else-least (start .args .s .now) (start .args .tb .now) (start .args .env) (start .args .l)
+            (start .args .t6) (start .args .first) (start .args .rows .now) (start .args .pl .now) (start .pre .1 .0) (start .pre .1 .1) (start .pre .1 .2)
             (start .pre .1 .3) c′ yes come),
         at-transform-block .transform-block .ensures .0 .1,
       ),
-      λ T sy reach. else-fault (start .args .s .now) (start .args .ns .now) (start .args .ts .now) (start .args .xs .now) (start .args .env) (start .args .l)
-          (start .args .t8) (start .args .first) (start .args .rows .now) (start .args .pl .now) (start .pre .1 .0) (start .pre .1 .1) (start .pre .1 .2)
+      λ T sy reach. else-fault (start .args .s .now) (start .args .tb .now) (start .args .env) (start .args .l)
+          (start .args .t6) (start .args .first) (start .args .rows .now) (start .args .pl .now) (start .pre .1 .0) (start .pre .1 .1) (start .pre .1 .2)
           (start .pre .1 .3) c′ yes come T _ _ (walks T sy reach) (c .if2 .taken),
     )
 
--- src/lib.rt:76:21
+-- src/lib.rt:59:21
 transform-else-element-copy-out-else-sure : (t : ℕ) → transform-else-lts.Need-element-copy-out-else-sure (transform-else-claims t) (transform-else-at t) transform-else.Post
 transform-else-element-copy-out-else-sure t c = search needs
 
--- src/lib.rt:77:5
+-- src/lib.rt:60:5
 transform-else-merge-control-flow-states-requires : (t : ℕ) → transform-else-lts.Need-merge-control-flow-states-requires (transform-else-claims t) (transform-else-at t) transform-else.Post
 transform-else-merge-control-flow-states-requires t c κs =
     let at-if2 = c .before .before .before in
@@ -1576,20 +1573,20 @@ transform-else-merge-control-flow-states-requires t c κs =
     let at-copy-rows = at-if1 .before .before .before in
     let at-behind2 = at-copy-rows .before .before .before .before in
     let at-behind = at-behind2 .before in
-    let start = at-behind .before .before .before .before .before .before .before .before .before .before .before in
+    let start = at-behind .before .before .before .before .before .before .before .before .before in
     let is = moved-twice (start .args .env) (at-behind .behind .result) (at-behind2 .behind2 .result) (start .args .l .count) (at-behind .behind .ensures)
     (at-behind2 .behind2 .ensures) in
     let c′ = copies-at (start .args .env) (at-behind2 .behind2 .result) _ is (at-copy-rows .copy-rows .ensures) in
     let yes = not-false _ (at-if1 .if1 .left) in
     let come = comes-at (start .args .env) (at-behind2 .behind2 .result) _ is (at-transform-block .transform-block .ensures .0 .0) in
-    let walks = walks-at (start .args .env) (at-behind2 .behind2 .result) _ is (start .args .s .now) (start .args .ns .now) (start .args .ts .now) (start .args .xs .now)
-    (start .args .l) (start .args .t8) (at-copy-rows .copy-rows .last .1 .1 .0) _ _ (at-transform-block .transform-block .result)
-    (at-transform-block .transform-block .last .1 .1 .1 .1 .1 .1 .1 .0) (at-transform-block .transform-block .last .1 .1 .1 .1 .1 .1 .1 .1 .1 .1 .1 .1 .1 .0) _
+    let walks = walks-at (start .args .env) (at-behind2 .behind2 .result) _ is (start .args .s .now) (start .args .tb .now)
+    (start .args .l) (start .args .t6) (at-copy-rows .copy-rows .last .1 .1 .0) _ _ (at-transform-block .transform-block .result)
+    (at-transform-block .transform-block .last .1 .1 .1 .1 .1 .0) (at-transform-block .transform-block .last .1 .1 .1 .1 .1 .1 .1 .1 .1 .1 .1 .0) _
     (at-transform-block .transform-block .ensures .1) in
     let zero = no-fault (at-if2 .if2 .left) in (
       branches-at (start .args .env) (at-behind2 .behind2 .result) _ is
-          (else-branches (start .args .s .now) (start .args .ns .now) (start .args .ts .now) (start .args .xs .now) (start .args .env) (start .args .l)
-          (start .args .t8) (start .args .first) (start .args .rows .now) (start .args .pl .now) (start .pre .1 .0) (start .pre .1 .1) (start .pre .1 .2)
+          (else-branches (start .args .s .now) (start .args .tb .now) (start .args .env) (start .args .l)
+          (start .args .t6) (start .args .first) (start .args .rows .now) (start .args .pl .now) (start .pre .1 .0) (start .pre .1 .1) (start .pre .1 .2)
           (start .pre .1 .3) c′ yes come zero),
       zero,
       come .room,
@@ -1601,7 +1598,7 @@ transform-else-same-length-7 t c =
     let at-merge-control-flow-states = c .before .before in
     let at-transform-block = at-merge-control-flow-states .before .before .before .before .before .before .before .before .before .before .before .before .before .before .before .before in
     let at-copy-rows = at-transform-block .before .before .before .before .before .before .before .before .before .before .before in
-    at-merge-control-flow-states .merge-control-flow-states .kept .1 .1 .1 .1 .1 .1 .0 ∙ at-transform-block .transform-block .kept .1 .1 .1 .1 .1 .1 .1 .0 ∙ at-copy-rows .copy-rows .kept .1 .1 .0
+    omega (arith, at-merge-control-flow-states .merge-control-flow-states .kept .1 .1 .1 .1 .1 .1 .0, at-transform-block .transform-block .kept .1 .1 .1 .1 .1 .0, at-copy-rows .copy-rows .kept .1 .1 .0)
 
 -- src/lib.rt:26:1
 transform-else-same-length-8 : (t : ℕ) → transform-else-lts.Need-same-length-8 (transform-else-claims t) (transform-else-at t) transform-else.Post
@@ -1629,26 +1626,26 @@ transform-else-returns-3 t c =
     let at-copy-rows = at-if1 .before .before .before in
     let at-behind2 = at-copy-rows .before .before .before .before in
     let at-behind = at-behind2 .before in
-    let start = at-behind .before .before .before .before .before .before .before .before .before .before .before in
+    let start = at-behind .before .before .before .before .before .before .before .before .before in
     let is = moved-twice (start .args .env) (at-behind .behind .result) (at-behind2 .behind2 .result) (start .args .l .count) (at-behind .behind .ensures)
     (at-behind2 .behind2 .ensures) in
     let c′ = copies-at (start .args .env) (at-behind2 .behind2 .result) _ is (at-copy-rows .copy-rows .ensures) in
     let yes = not-false _ (at-if1 .if1 .left) in
     let come = comes-at (start .args .env) (at-behind2 .behind2 .result) _ is (at-transform-block .transform-block .ensures .0 .0) in
-    let walks = walks-at (start .args .env) (at-behind2 .behind2 .result) _ is (start .args .s .now) (start .args .ns .now) (start .args .ts .now) (start .args .xs .now)
-    (start .args .l) (start .args .t8) (at-copy-rows .copy-rows .last .1 .1 .0) _ _ (at-transform-block .transform-block .result)
-    (at-transform-block .transform-block .last .1 .1 .1 .1 .1 .1 .1 .0) (at-transform-block .transform-block .last .1 .1 .1 .1 .1 .1 .1 .1 .1 .1 .1 .1 .1 .0) _
+    let walks = walks-at (start .args .env) (at-behind2 .behind2 .result) _ is (start .args .s .now) (start .args .tb .now)
+    (start .args .l) (start .args .t6) (at-copy-rows .copy-rows .last .1 .1 .0) _ _ (at-transform-block .transform-block .result)
+    (at-transform-block .transform-block .last .1 .1 .1 .1 .1 .0) (at-transform-block .transform-block .last .1 .1 .1 .1 .1 .1 .1 .1 .1 .1 .1 .0) _
     (at-transform-block .transform-block .ensures .1) in
     let zero = no-fault (at-if2 .if2 .left) in
     let g = merges-at (start .args .env) (at-behind2 .behind2 .result) _ is (at-merge-control-flow-states .merge-control-flow-states .ensures) in (
       (
-        else-comes (start .args .s .now) (start .args .ns .now) (start .args .ts .now) (start .args .xs .now) (start .args .env) (start .args .l) (start .args .t8)
+        else-comes (start .args .s .now) (start .args .tb .now) (start .args .env) (start .args .l) (start .args .t6)
             (start .args .first) (start .args .rows .now) (start .args .pl .now) (start .pre .1 .0) (start .pre .1 .1) (start .pre .1 .2) (start .pre .1 .3) c′ yes come
             zero g,
         at-transform-block .transform-block .ensures .0 .1,
       ),
-      λ T sy reach. else-merges (start .args .s .now) (start .args .ns .now) (start .args .ts .now) (start .args .xs .now) (start .args .env) (start .args .l)
-          (start .args .t8) (start .args .first) (start .args .rows .now) (start .args .pl .now) (start .pre .1 .0) (start .pre .1 .1) (start .pre .1 .2)
+      λ T sy reach. else-merges (start .args .s .now) (start .args .tb .now) (start .args .env) (start .args .l)
+          (start .args .t6) (start .args .first) (start .args .rows .now) (start .args .pl .now) (start .pre .1 .0) (start .pre .1 .1) (start .pre .1 .2)
           (start .pre .1 .3) c′ yes come T _ _ (walks T sy (reaches zero)) zero g reach,
     )
 
@@ -1696,8 +1693,8 @@ pub +transform-block+transform-blocks+transform-else-spec : {M : Type 1} → sta
     (transform-block-same-length-14 t)
     (transform-block-same-length-15 t)
     (transform-block-returns-3 t)
-    (transform-block-cast-should-auto-delete t)
-    (transform-block-should-auto-delete-requires t)
+    (transform-block-cast-auto-deleted t)
+    (transform-block-auto-deleted-requires t)
     (transform-block-register-local-requires t)
     (transform-block-needs-revival-requires t)
     (transform-block-mark-requires-2 t)

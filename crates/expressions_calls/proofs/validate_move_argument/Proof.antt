@@ -4,7 +4,7 @@ use Prim.Native.Nat.{_<_}
 use mathlib.Core.Path.{sym, _∙_}
 use native.Mathlib.Omega.{arith}
 use Rattle.image_body.specs.Expr.{headOf, through}
-use Rattle.expressions_effects.proofs.Laws.{within}
+use Rattle.image_body.proofs.Walking.{within}
 use Rattle.expressions_calls.proofs.Ends.{told-1, told-2, told-3}
 use borrow.Author.Needs.{needs}
 use Rattle.expressions_calls.proofs.validate_move_argument.Statement.{statement}

@@ -18,11 +18,11 @@ add-span-at c = search needs
 span-at-requires : tie.Need-span-at-requires
 span-at-requires c κs = search needs
 
-validate-identifier-use-requires : tie.Need-validate-identifier-use-requires
-validate-identifier-use-requires c κs = search needs
+identifier-effect-requires : tie.Need-identifier-effect-requires
+identifier-effect-requires c κs = search needs
 
 returns : tie.Need-returns
-returns c = λ T e. simp (← c .before .before .before .before .peek .ensures .0, eq-eqb _ _ (c .before .before .before .if1 .taken), ← c .before .before .name-at .ensures, ← c .before .span-at .ensures) (c .validate-identifier-use .ensures T e)
+returns c = λ T e. simp (← c .before .before .before .before .peek .ensures .0, eq-eqb _ _ (c .before .before .before .if1 .taken), ← c .before .before .name-at .ensures, ← c .before .span-at .ensures) (c .identifier-effect .ensures T e)
 
 add-span-at-2 : tie.Need-add-span-at-2
 add-span-at-2 c = search needs
@@ -30,11 +30,11 @@ add-span-at-2 c = search needs
 span-at-requires-2 : tie.Need-span-at-requires-2
 span-at-requires-2 c κs = search needs
 
-validate-identifier-use-requires-2 : tie.Need-validate-identifier-use-requires-2
-validate-identifier-use-requires-2 c κs = search needs
+identifier-effect-requires-2 : tie.Need-identifier-effect-requires-2
+identifier-effect-requires-2 c κs = search needs
 
 returns-2 : tie.Need-returns-2
-returns-2 c = λ T e. simp (← c .before .before .before .before .peek .ensures .0, ne-eqb _ _ (c .before .before .before .if1 .left), eq-eqb _ _ (c .before .before .if2 .taken), ← c .before .span-at2 .ensures) (c .validate-identifier-use2 .ensures T e)
+returns-2 c = λ T e. simp (← c .before .before .before .before .peek .ensures .0, ne-eqb _ _ (c .before .before .before .if1 .left), eq-eqb _ _ (c .before .before .if2 .taken), ← c .before .span-at2 .ensures) (c .identifier-effect2 .ensures T e)
 
 returns-3 : tie.Need-returns-3
 returns-3 c = λ T e. simp (← c .before .before .peek .ensures .0, ne-eqb _ _ (c .before .if1 .left), ne-eqb _ _ (c .if2 .left))
@@ -48,10 +48,10 @@ own-spec =
     name-at-requires
     add-span-at
     span-at-requires
-    validate-identifier-use-requires
+    identifier-effect-requires
     returns
     add-span-at-2
     span-at-requires-2
-    validate-identifier-use-requires-2
+    identifier-effect-requires-2
     returns-2
     returns-3)

@@ -8,23 +8,23 @@ use Rattle.expressions_scan.proofs.consume.Reads as reads
 use Rattle.expressions_scan.proofs.consume.Lts as lts
 use Rattle.expressions_scan.proofs.find_local.Reads as find-local-reads
 
--- src/lib.rt:300:11
+-- src/lib.rt:294:11
 find-local-requires : tie.Need-find-local-requires
 find-local-requires c κs = search needs
 
--- src/lib.rt:303:21
+-- src/lib.rt:297:21
 enum-told : tie.Need-enum-told
 enum-told c = search needs
 
--- src/lib.rt:307:21
+-- src/lib.rt:301:21
 enum-told-2 : tie.Need-enum-told-2
 enum-told-2 c = search needs
 
--- src/lib.rt:296:1
+-- src/lib.rt:290:1
 returns : tie.Need-returns
 returns c = (λ at σ old h. answers-give σ (found-local (c .before .before .find-local .ensures) at σ h (c .enum-told .given .1)), λ old. record { most = omega arith; marks = (omega arith, omega arith) })
 
--- src/lib.rt:296:1
+-- src/lib.rt:290:1
 returns-2 : tie.Need-returns-2
 returns-2 c = (λ at σ old h. answers-ungiven σ (found-none (c .before .before .find-local .ensures) at σ h (c .enum-told2 .given .1)), λ old. record { most = omega arith; marks = tt })
 

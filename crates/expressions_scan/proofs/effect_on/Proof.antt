@@ -11,122 +11,122 @@ use Rattle.expressions_scan.proofs.consume.Reads as consume-reads
 use Rattle.expressions_scan.proofs.put_bad_move.Reads as put-bad-move-reads
 use Rattle.expressions_scan.proofs.put_error.Reads as put-error-reads
 use Rattle.expressions_scan.proofs.use_and_hand_over.Reads as use-and-hand-over-reads
-use Rattle.expressions_scan.proofs.use_local.Reads as use-local-reads
+use Rattle.expressions_scan.proofs.validate_identifier_use.Reads as validate-identifier-use-reads
 use Rattle.expressions_scan.proofs.validate_move.Reads as validate-move-reads
 
--- src/lib.rt:372:21
+-- src/lib.rt:366:21
 enum-told : tie.Need-enum-told
 enum-told c = search needs
 
--- src/lib.rt:374:21
+-- src/lib.rt:368:21
 enum-known-effect : tie.Need-enum-known-effect
 enum-known-effect c = search needs
 
--- src/lib.rt:375:17
-use-local-requires : tie.Need-use-local-requires
-use-local-requires c κs = search needs
+-- src/lib.rt:369:17
+validate-identifier-use-requires : tie.Need-validate-identifier-use-requires
+validate-identifier-use-requires c κs = search needs
 
--- src/lib.rt:378:25
+-- src/lib.rt:384:25
 enum-known-effect-2 : tie.Need-enum-known-effect-2
 enum-known-effect-2 c = search needs
 
--- src/lib.rt:379:17
+-- src/lib.rt:385:17
 use-and-hand-over-requires : tie.Need-use-and-hand-over-requires
 use-and-hand-over-requires c κs = search needs
 
--- src/lib.rt:382:25
+-- src/lib.rt:388:25
 enum-known-effect-3 : tie.Need-enum-known-effect-3
 enum-known-effect-3 c = search needs
 
--- src/lib.rt:382:41
+-- src/lib.rt:388:41
 consume-requires : tie.Need-consume-requires
 consume-requires c κs = search needs
 
--- src/lib.rt:383:22
+-- src/lib.rt:389:22
 enum-known-effect-4 : tie.Need-enum-known-effect-4
 enum-known-effect-4 c = search needs
 
--- src/lib.rt:383:38
+-- src/lib.rt:389:38
 validate-move-requires : tie.Need-validate-move-requires
 validate-move-requires c κs = search needs
 
--- src/lib.rt:384:26
+-- src/lib.rt:390:26
 enum-known-effect-5 : tie.Need-enum-known-effect-5
 enum-known-effect-5 c = search needs
 
--- src/lib.rt:384:42
+-- src/lib.rt:390:42
 validate-move-requires-2 : tie.Need-validate-move-requires-2
 validate-move-requires-2 c κs = search needs
 
--- src/lib.rt:385:25
+-- src/lib.rt:391:25
 enum-known-effect-6 : tie.Need-enum-known-effect-6
 enum-known-effect-6 c = search needs
 
--- src/lib.rt:385:35
+-- src/lib.rt:391:35
 put-bad-move-requires : tie.Need-put-bad-move-requires
 put-bad-move-requires c κs = search needs
 
--- src/lib.rt:386:28
+-- src/lib.rt:392:28
 enum-known-effect-7 : tie.Need-enum-known-effect-7
 enum-known-effect-7 c = search needs
 
--- src/lib.rt:387:17
+-- src/lib.rt:393:17
 put-error-requires : tie.Need-put-error-requires
 put-error-requires c κs = search needs
 
--- src/lib.rt:353:1
+-- src/lib.rt:347:1
 returns : tie.Need-returns
 returns c = (λ σ h. as-emits (c .enum-told .given .1) (answers-nothing σ), record { most = omega arith; marks = tt })
 
--- src/lib.rt:353:1
+-- src/lib.rt:347:1
 same-length : tie.Need-same-length
 same-length c = search needs
 
--- src/lib.rt:353:1
+-- src/lib.rt:347:1
 returns-2 : tie.Need-returns-2
-returns-2 c = (λ σ h. as-emits (c .before .before .before .before .before .effect .given .1) (c .before .before .use-local .ensures .0 σ h), c .before .before .use-local .ensures .1)
+returns-2 c = (λ σ h. as-emits (c .before .before .before .before .before .effect .given .1) (c .before .before .validate-identifier-use .ensures .0 σ h), c .before .before .validate-identifier-use .ensures .1)
 
--- src/lib.rt:353:1
+-- src/lib.rt:347:1
 same-length-2 : tie.Need-same-length-2
 same-length-2 c = search needs
 
--- src/lib.rt:353:1
+-- src/lib.rt:347:1
 returns-3 : tie.Need-returns-3
 returns-3 c = (λ σ h. as-emits (c .before .before .before .before .before .effect2 .given .1) (c .before .before .use-and-hand-over .ensures .0 σ h), c .before .before .use-and-hand-over .ensures .1)
 
--- src/lib.rt:353:1
+-- src/lib.rt:347:1
 returns-4 : tie.Need-returns-4
 returns-4 c = (λ σ h. as-emits (c .before .before .effect3 .given .1) (c .consume .ensures .0 _ σ _ h), c .consume .ensures .1 _)
 
--- src/lib.rt:353:1
+-- src/lib.rt:347:1
 same-length-3 : tie.Need-same-length-3
 same-length-3 c = search needs
 
--- src/lib.rt:353:1
+-- src/lib.rt:347:1
 returns-5 : tie.Need-returns-5
 returns-5 c = (λ σ h. as-emits (c .before .before .before .before .before .effect4 .given .1) (c .before .before .validate-move .ensures .0 _ σ h), c .before .before .validate-move .ensures .1)
 
--- src/lib.rt:353:1
+-- src/lib.rt:347:1
 same-length-4 : tie.Need-same-length-4
 same-length-4 c = search needs
 
--- src/lib.rt:353:1
+-- src/lib.rt:347:1
 returns-6 : tie.Need-returns-6
 returns-6 c = (λ σ h. as-emits (c .before .before .before .before .before .effect5 .given .1) (c .before .before .validate-move2 .ensures .0 _ σ h), c .before .before .validate-move2 .ensures .1)
 
--- src/lib.rt:353:1
+-- src/lib.rt:347:1
 same-length-5 : tie.Need-same-length-5
 same-length-5 c = search needs
 
--- src/lib.rt:353:1
+-- src/lib.rt:347:1
 returns-7 : tie.Need-returns-7
 returns-7 c = (λ σ h. as-emits (c .before .before .before .before .before .effect6 .given .1) (answers-bad σ (c .before .before .put-bad-move .ensures)), small-still (c .before .before .put-bad-move .ensures .1) (entry-most 7 _ 1 [] (omega arith) (c .before .before .put-bad-move .ensures .0)))
 
--- src/lib.rt:353:1
+-- src/lib.rt:347:1
 same-length-6 : tie.Need-same-length-6
 same-length-6 c = search needs
 
--- src/lib.rt:353:1
+-- src/lib.rt:347:1
 returns-8 : tie.Need-returns-8
 returns-8 c = (λ σ h. as-emits (c .before .before .before .before .before .effect7 .given .1) (answers-global σ (c .before .before .put-error .ensures)), record { most = entry-most 8 _ 0 (_ ∷ []) (omega arith) (c .before .before .put-error .ensures); marks = tt })
 
@@ -136,7 +136,7 @@ effect-on-spec =
     (tie.spec
     enum-told
     enum-known-effect
-    use-local-requires
+    validate-identifier-use-requires
     enum-known-effect-2
     use-and-hand-over-requires
     enum-known-effect-3

@@ -2,8 +2,8 @@ use denote.Ref.{now}
 use native.Mathlib.Omega.{arith}
 use mathlib.Core.Path.{refl, sym, ap, _∙_}
 use lib.ListN.{getD}
-use Rattle.image_body.specs.Expr.{argWidth, fixedCount, countWidth}
-use Rattle.expressions_steps.proofs.Stages.{leaves, seen-tag, seen-child, goes-child, goes-leaf}
+use Rattle.image_body.specs.Expr.{argWidth, fixedCount, countWidth, leaf}
+use Rattle.expressions_steps.proofs.Stages.{seen-tag, seen-child, goes-child, goes-leaf}
 use borrow.Author.Needs.{needs}
 use Rattle.expressions_steps.proofs.next_child.Statement.{statement}
 use Rattle.expressions_steps.proofs.next_child.Tie as tie
@@ -26,42 +26,40 @@ wide-requires c κs = search needs
 add-next : tie.Need-add-next
 add-next c = let z = seen-child (now (c .before .before .before .before .before .before .before .args .s)) (c .before .before .before .before .before .before .before .pre .1 .os) (c .before .before .before .before .before .before .before .pre .1 .n) (c .before .before .before .before .before .before .before .args .at) (c .before .before .before .before .before .before .before .pre .1 .ready) (c .before .before .before .before .before .before .before .pre .1 .some) (c .before .before .before .before .before .before .before .args .top) (c .before .before .before .before .before .before .before .pre .1 .is) (c .before .before .before .before .strip-noop-unary .result) (c .before .before .before .before .strip-noop-unary .ensures) (c .before .before .before .before .before .before .before .pre .2) .inside in omega arith
 
-array-read-wide : tie.Need-array-read-wide
-array-read-wide c = let z = seen-child (now (c .before .before .before .before .before .before .before .args .s)) (c .before .before .before .before .before .before .before .pre .1 .os) (c .before .before .before .before .before .before .before .pre .1 .n) (c .before .before .before .before .before .before .before .args .at) (c .before .before .before .before .before .before .before .pre .1 .ready) (c .before .before .before .before .before .before .before .pre .1 .some) (c .before .before .before .before .before .before .before .args .top) (c .before .before .before .before .before .before .before .pre .1 .is) (c .before .before .before .before .strip-noop-unary .result) (c .before .before .before .before .strip-noop-unary .ensures) (c .before .before .before .before .before .before .before .pre .2) .tag16 in let w = c .wide .ensures .0 in omega arith
-
-wide-requires-2 : tie.Need-wide-requires-2
-wide-requires-2 c κs = search needs
+arg-width-requires : tie.Need-arg-width-requires
+arg-width-requires c κs = search needs
 
 add-next-2 : tie.Need-add-next-2
-add-next-2 c = let z = seen-child (now (c .before .before .before .before .before .before .before .before .args .s)) (c .before .before .before .before .before .before .before .before .pre .1 .os) (c .before .before .before .before .before .before .before .before .pre .1 .n) (c .before .before .before .before .before .before .before .before .args .at) (c .before .before .before .before .before .before .before .before .pre .1 .ready) (c .before .before .before .before .before .before .before .before .pre .1 .some) (c .before .before .before .before .before .before .before .before .args .top) (c .before .before .before .before .before .before .before .before .pre .1 .is) (c .before .before .before .before .before .strip-noop-unary .result) (c .before .before .before .before .before .strip-noop-unary .ensures) (c .before .before .before .before .before .before .before .before .pre .2) .inside in let w = c .wide2 .ensures .1 in omega arith
+add-next-2 c = let z = seen-child (now (c .before .before .before .before .before .before .before .before .args .s)) (c .before .before .before .before .before .before .before .before .pre .1 .os) (c .before .before .before .before .before .before .before .before .pre .1 .n) (c .before .before .before .before .before .before .before .before .args .at) (c .before .before .before .before .before .before .before .before .pre .1 .ready) (c .before .before .before .before .before .before .before .before .pre .1 .some) (c .before .before .before .before .before .before .before .before .args .top) (c .before .before .before .before .before .before .before .before .pre .1 .is) (c .before .before .before .before .before .strip-noop-unary .result) (c .before .before .before .before .before .strip-noop-unary .ensures) (c .before .before .before .before .before .before .before .before .pre .2) .inside in let w = c .arg-width .ensures .1 in omega arith
 
-sub-t20 : tie.Need-sub-t20
-sub-t20 c = search needs
+sub-t17 : tie.Need-sub-t17
+sub-t17 c = search needs
 
-array-read-if1 : tie.Need-array-read-if1
-array-read-if1 c = let z = seen-child (now (c .before .before .before .before .before .before .before .before .before .args .s)) (c .before .before .before .before .before .before .before .before .before .pre .1 .os) (c .before .before .before .before .before .before .before .before .before .pre .1 .n) (c .before .before .before .before .before .before .before .before .before .args .at) (c .before .before .before .before .before .before .before .before .before .pre .1 .ready) (c .before .before .before .before .before .before .before .before .before .pre .1 .some) (c .before .before .before .before .before .before .before .before .before .args .top) (c .before .before .before .before .before .before .before .before .before .pre .1 .is) (c .before .before .before .before .before .before .strip-noop-unary .result) (c .before .before .before .before .before .before .strip-noop-unary .ensures) (c .before .before .before .before .before .before .before .before .before .pre .2) .tag16 in let w = c .before .before .wide .ensures .0 in omega arith
+is-leaf-requires : tie.Need-is-leaf-requires
+is-leaf-requires c κs = search needs
 
 returns : tie.Need-returns
-unfolding argWidth leaves
-returns c = λ T en os n rd lt eo. goes-leaf (now (c .before .before .before .before .before .before .before .before .before .before .args .s)) os n (c .before .before .before .before .before .before .before .before .before .before .args .at) rd lt (c .before .before .before .before .before .before .before .before .before .before .args .top) eo T (c .before .before .before .before .before .before .before .strip-noop-unary .result) (c .before .before .before .before .before .before .before .strip-noop-unary .ensures) (c .before .before .before .before .before .before .before .before .before .before .pre .2) (c .before .before .before .before .before .own .result) (c .before .before .before .before .before .before .is-handed .result) _ (c .before .before .wide2 .result) _ refl
-    (c .before .before .wide2 .ensures .0 ∙ ap (λ x. getD argWidth x 0) (c .before .before .before .wide .ensures .0)) (ap (λ x. getD leaves x 0) (sym (c .before .before .before .wide .ensures .0)) ∙ c .if1 .taken) (c .before .before .before .before .before .before .is-handed .ensures) (c .before .before .before .before .before .own .ensures T en)
+returns c = λ T en os n rd lt eo. goes-leaf (now (c .before .before .before .before .before .before .before .before .before .before .before .args .s)) os n (c .before .before .before .before .before .before .before .before .before .before .before .args .at) rd lt (c .before .before .before .before .before .before .before .before .before .before .before .args .top) eo T (c .before .before .before .before .before .before .before .before .strip-noop-unary .result) (c .before .before .before .before .before .before .before .before .strip-noop-unary .ensures) (c .before .before .before .before .before .before .before .before .before .before .before .pre .2) (c .before .before .before .before .before .before .own .result) (c .before .before .before .before .before .before .before .is-handed .result) _ (c .before .before .before .arg-width .result) _ refl
+    (c .before .before .before .arg-width .ensures .0 ∙ ap (λ x. getD argWidth x 0) (c .before .before .before .before .wide .ensures .0)) (ap leaf (sym (c .before .before .before .before .wide .ensures .0)) ∙ sym (c .before .is-leaf .ensures) ∙ c .if1 .taken) (c .before .before .before .before .before .before .before .is-handed .ensures) (c .before .before .before .before .before .before .own .ensures T en)
 
-cast-t24 : tie.Need-cast-t24
-cast-t24 c = let z = seen-child (now (c .before .before .before .before .before .before .before .before .before .before .args .s)) (c .before .before .before .before .before .before .before .before .before .before .pre .1 .os) (c .before .before .before .before .before .before .before .before .before .before .pre .1 .n) (c .before .before .before .before .before .before .before .before .before .before .args .at) (c .before .before .before .before .before .before .before .before .before .before .pre .1 .ready) (c .before .before .before .before .before .before .before .before .before .before .pre .1 .some) (c .before .before .before .before .before .before .before .before .before .before .args .top) (c .before .before .before .before .before .before .before .before .before .before .pre .1 .is) (c .before .before .before .before .before .before .before .strip-noop-unary .result) (c .before .before .before .before .before .before .before .strip-noop-unary .ensures) (c .before .before .before .before .before .before .before .before .before .before .pre .2) .inside in let w = c .before .before .before .before .before .before .before .before .before .before .pre .1 .ready .small in omega arith
+cast-t19 : tie.Need-cast-t19
+cast-t19 c = let z = seen-child (now (c .before .before .before .before .before .before .before .before .before .before .before .args .s)) (c .before .before .before .before .before .before .before .before .before .before .before .pre .1 .os) (c .before .before .before .before .before .before .before .before .before .before .before .pre .1 .n) (c .before .before .before .before .before .before .before .before .before .before .before .args .at) (c .before .before .before .before .before .before .before .before .before .before .before .pre .1 .ready) (c .before .before .before .before .before .before .before .before .before .before .before .pre .1 .some) (c .before .before .before .before .before .before .before .before .before .before .before .args .top) (c .before .before .before .before .before .before .before .before .before .before .before .pre .1 .is) (c .before .before .before .before .before .before .before .before .strip-noop-unary .result) (c .before .before .before .before .before .before .before .before .strip-noop-unary .ensures) (c .before .before .before .before .before .before .before .before .before .before .before .pre .2) .inside in let w = c .before .before .before .before .before .before .before .before .before .before .before .pre .1 .ready .small in omega arith
 
-mul-t15 : tie.Need-mul-t15
-mul-t15 c = search needs
+fixed-count-requires : tie.Need-fixed-count-requires
+fixed-count-requires c κs = search needs
 
-array-read-t20 : tie.Need-array-read-t20
-array-read-t20 c = let z = seen-child (now (c .before .before .before .before .before .before .before .before .before .before .args .s)) (c .before .before .before .before .before .before .before .before .before .before .pre .1 .os) (c .before .before .before .before .before .before .before .before .before .before .pre .1 .n) (c .before .before .before .before .before .before .before .before .before .before .args .at) (c .before .before .before .before .before .before .before .before .before .before .pre .1 .ready) (c .before .before .before .before .before .before .before .before .before .before .pre .1 .some) (c .before .before .before .before .before .before .before .before .before .before .args .top) (c .before .before .before .before .before .before .before .before .before .before .pre .1 .is) (c .before .before .before .before .before .before .before .strip-noop-unary .result) (c .before .before .before .before .before .before .before .strip-noop-unary .ensures) (c .before .before .before .before .before .before .before .before .before .before .pre .2) .tag16 in let w = c .before .before .before .wide .ensures .0 in omega arith
+cast-t17 : tie.Need-cast-t17
+cast-t17 c = search needs
 
-array-read-t14 : tie.Need-array-read-t14
-array-read-t14 c = let z = seen-child (now (c .before .before .before .before .before .before .before .before .before .before .args .s)) (c .before .before .before .before .before .before .before .before .before .before .pre .1 .os) (c .before .before .before .before .before .before .before .before .before .before .pre .1 .n) (c .before .before .before .before .before .before .before .before .before .before .args .at) (c .before .before .before .before .before .before .before .before .before .before .pre .1 .ready) (c .before .before .before .before .before .before .before .before .before .before .pre .1 .some) (c .before .before .before .before .before .before .before .before .before .before .args .top) (c .before .before .before .before .before .before .before .before .before .before .pre .1 .is) (c .before .before .before .before .before .before .before .strip-noop-unary .result) (c .before .before .before .before .before .before .before .strip-noop-unary .ensures) (c .before .before .before .before .before .before .before .before .before .before .pre .2) .tag16 in let w = c .before .before .before .wide .ensures .0 in omega arith
+count-width-requires : tie.Need-count-width-requires
+count-width-requires c κs = search needs
+
+cast-t14 : tie.Need-cast-t14
+cast-t14 c = search needs
 
 returns-2 : tie.Need-returns-2
-unfolding argWidth fixedCount countWidth
-returns-2 c = λ T en os n rd lt eo. goes-child (now (c .before .before .before .before .before .before .before .before .before .before .args .s)) os n (c .before .before .before .before .before .before .before .before .before .before .args .at) rd lt (c .before .before .before .before .before .before .before .before .before .before .args .top) eo T (c .before .before .before .before .before .before .before .strip-noop-unary .result) (c .before .before .before .before .before .before .before .strip-noop-unary .ensures) (c .before .before .before .before .before .before .before .before .before .before .pre .2) (c .before .before .before .before .before .own .result) (c .before .before .before .before .before .before .is-handed .result) _ _ _ (c .before .before .wide2 .result) refl
-    (ap (λ x. getD fixedCount x 0) (c .before .before .before .wide .ensures .0)) (ap (λ x. getD countWidth x 0) (c .before .before .before .wide .ensures .0)) (c .before .before .wide2 .ensures .0 ∙ ap (λ x. getD argWidth x 0) (c .before .before .before .wide .ensures .0)) (c .before .before .before .before .before .before .is-handed .ensures) (c .before .before .before .before .before .own .ensures T en)
+returns-2 c = λ T en os n rd lt eo. goes-child (now (c .before .before .before .before .before .before .before .before .before .before .before .before .before .args .s)) os n (c .before .before .before .before .before .before .before .before .before .before .before .before .before .args .at) rd lt (c .before .before .before .before .before .before .before .before .before .before .before .before .before .args .top) eo T (c .before .before .before .before .before .before .before .before .before .before .strip-noop-unary .result) (c .before .before .before .before .before .before .before .before .before .before .strip-noop-unary .ensures) (c .before .before .before .before .before .before .before .before .before .before .before .before .before .pre .2) (c .before .before .before .before .before .before .before .before .own .result) (c .before .before .before .before .before .before .before .before .before .is-handed .result) _ _ _ (c .before .before .before .before .before .arg-width .result) refl
+    (c .before .fixed-count .ensures .0 ∙ ap (λ x. getD fixedCount x 0) (c .before .before .before .before .before .before .wide .ensures .0)) (c .count-width .ensures .0 ∙ ap (λ x. getD countWidth x 0) (c .before .before .before .before .before .before .wide .ensures .0)) (c .before .before .before .before .before .arg-width .ensures .0 ∙ ap (λ x. getD argWidth x 0) (c .before .before .before .before .before .before .wide .ensures .0)) (c .before .before .before .before .before .before .before .before .before .is-handed .ensures) (c .before .before .before .before .before .before .before .before .own .ensures T en)
 
 pub next-child-spec : {M : Type 1} → statement M
 next-child-spec =
@@ -73,14 +71,14 @@ next-child-spec =
     shared-slice-read-tag
     wide-requires
     add-next
-    array-read-wide
-    wide-requires-2
+    arg-width-requires
     add-next-2
-    sub-t20
-    array-read-if1
+    sub-t17
+    is-leaf-requires
     returns
-    cast-t24
-    mul-t15
-    array-read-t20
-    array-read-t14
+    cast-t19
+    fixed-count-requires
+    cast-t17
+    count-width-requires
+    cast-t14
     returns-2)

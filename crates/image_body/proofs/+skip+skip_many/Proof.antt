@@ -2,7 +2,6 @@ use borrow.Author.Needs.{needs}
 use native.Mathlib.Omega.{arith}
 use native.Mathlib.Nat.{le-refl}
 use Prim.Native.Nat.{_+_, _*_, _-_}
-use Rattle.image_body.specs.Expr.{argWidth, fixedCount, countWidth, lastWidth}
 use Rattle.image_body.proofs.Skipping.{steps, own, children-walk, children-end, list-walk, list-end, Going, going-start, first-walk, going-next, going-done}
 use Prim.Native.Nat.{ℕ, _<_}
 use borrow.Fn.Kinds.{In}
@@ -15,7 +14,10 @@ use Rattle.image_body.proofs.skip_many.Kinds as skip-many-kinds
 use Rattle.image_body.proofs.+skip+skip_many.Lts-skip_many as skip-many-lts
 use Rattle.image_body.proofs.items_at.Reads as items-at-reads
 use Rattle.image_fields.proofs.peek.Reads as peek-reads
-use Rattle.image_fields.proofs.wide.Reads as wide-reads
+use Rattle.image_body.proofs.layout.fixed_count.Reads as fixed-count-reads
+use Rattle.image_body.proofs.layout.arg_width.Reads as arg-width-reads
+use Rattle.image_body.proofs.layout.count_width.Reads as count-width-reads
+use Rattle.image_body.proofs.layout.last_width.Reads as last-width-reads
 use Rattle.image_body.proofs.+skip+skip_many.{statement}
 use Rattle.image_body.proofs.+skip+skip_many.Tie.{close}
 
@@ -39,7 +41,7 @@ skip-many-below t =
     and 1 skip-many-kinds.ps (falls 1 skip-many-kinds.ps _<_ μ-skip-many t) skip-many.Pre
 
 abbrev skip-claims : ℕ → skip-lts.Claims
-skip-claims t = (peek-reads.Asked, peek-reads.Learnt, wide-reads.Asked, wide-reads.Learnt, skip-many-below t, skip-many.Post, items-at-reads.Asked, items-at-reads.Learnt)
+skip-claims t = (peek-reads.Asked, peek-reads.Learnt, fixed-count-reads.Asked, fixed-count-reads.Learnt, arg-width-reads.Asked, arg-width-reads.Learnt, skip-many-below t, skip-many.Post, count-width-reads.Asked, count-width-reads.Learnt, items-at-reads.Asked, items-at-reads.Learnt, last-width-reads.Asked, last-width-reads.Learnt)
 
 abbrev skip-many-claims : ℕ → skip-many-lts.Claims
 skip-many-claims t = (skip-below t, skip.Post)
@@ -50,70 +52,50 @@ skip-peek-requires t c κs = search needs
 skip-sub-skip-many : (t : ℕ) → skip-lts.Need-sub-skip-many (skip-claims t) (skip-at t) skip.Post
 skip-sub-skip-many t c = let g = own (c .peek .ensures .0) (c .before .before .pre .1) in g .positive
 
-skip-array-read-wide : (t : ℕ) → skip-lts.Need-array-read-wide (skip-claims t) (skip-at t) skip.Post
-skip-array-read-wide t c = let g = own (c .peek .ensures .0) (c .before .before .pre .1) in g .tag16
-
-skip-wide-requires : (t : ℕ) → skip-lts.Need-wide-requires (skip-claims t) (skip-at t) skip.Post
-skip-wide-requires t c κs = search needs
+skip-fixed-count-requires : (t : ℕ) → skip-lts.Need-fixed-count-requires (skip-claims t) (skip-at t) skip.Post
+skip-fixed-count-requires t c κs = search needs
 
 skip-add-skip-many : (t : ℕ) → skip-lts.Need-add-skip-many (skip-claims t) (skip-at t) skip.Post
-unfolding argWidth fixedCount
 skip-add-skip-many t c = let g = own (c .before .peek .ensures .0) (c .before .before .before .pre .1) in let r = g .room in omega arith
 
-skip-array-read-wide-2 : (t : ℕ) → skip-lts.Need-array-read-wide-2 (skip-claims t) (skip-at t) skip.Post
-skip-array-read-wide-2 t c = let g = own (c .before .peek .ensures .0) (c .before .before .before .pre .1) in g .tag16
-
-skip-wide-requires-2 : (t : ℕ) → skip-lts.Need-wide-requires-2 (skip-claims t) (skip-at t) skip.Post
-skip-wide-requires-2 t c κs = search needs
+skip-arg-width-requires : (t : ℕ) → skip-lts.Need-arg-width-requires (skip-claims t) (skip-at t) skip.Post
+skip-arg-width-requires t c κs = search needs
 
 skip-add-skip-many-2 : (t : ℕ) → skip-lts.Need-add-skip-many-2 (skip-claims t) (skip-at t) skip.Post
-unfolding argWidth fixedCount
-skip-add-skip-many-2 t c = let g = own (c .before .before .peek .ensures .0) (c .before .before .before .before .pre .1) in let r = g .room in let b = c .wide2 .ensures .0 in omega arith
+skip-add-skip-many-2 t c = let g = own (c .before .before .peek .ensures .0) (c .before .before .before .before .pre .1) in let r = g .room in let b = c .arg-width .ensures .0 in omega arith
 
 skip-skip-many-requires : (t : ℕ) → skip-lts.Need-skip-many-requires (skip-claims t) (skip-at t) skip.Post
-unfolding argWidth fixedCount
-skip-skip-many-requires t c κs = let g = own (c .before .before .peek .ensures .0) (c .before .before .before .before .pre .1) in let pos = g .positive in (omega arith, children-walk _ _ g (c .before .wide .ensures .0) (c .wide2 .ensures .0))
+skip-skip-many-requires t c κs = let g = own (c .before .before .peek .ensures .0) (c .before .before .before .before .pre .1) in let pos = g .positive in (omega arith, children-walk _ _ g (c .before .fixed-count .ensures .0) (c .arg-width .ensures .0))
 
-skip-array-read-wide-3 : (t : ℕ) → skip-lts.Need-array-read-wide-3 (skip-claims t) (skip-at t) skip.Post
-skip-array-read-wide-3 t c = let g = own (c .before .before .before .peek .ensures .0) (c .before .before .before .before .before .pre .1) in g .tag16
-
-skip-wide-requires-3 : (t : ℕ) → skip-lts.Need-wide-requires-3 (skip-claims t) (skip-at t) skip.Post
-skip-wide-requires-3 t c κs = search needs
+skip-count-width-requires : (t : ℕ) → skip-lts.Need-count-width-requires (skip-claims t) (skip-at t) skip.Post
+skip-count-width-requires t c κs = search needs
 
 skip-sub-skip-many-2 : (t : ℕ) → skip-lts.Need-sub-skip-many-2 (skip-claims t) (skip-at t) skip.Post
 skip-sub-skip-many-2 t c = let g = own (c .before .before .before .before .peek .ensures .0) (c .before .before .before .before .before .before .pre .1) in g .positive
 
 skip-items-at-requires : (t : ℕ) → skip-lts.Need-items-at-requires (skip-claims t) (skip-at t) skip.Post
-unfolding argWidth fixedCount
-skip-items-at-requires t c κs = let g = own (c .before .before .before .before .peek .ensures .0) (c .before .before .before .before .before .before .pre .1) in let eq = children-end _ _ _ g (c .before .before .before .wide .ensures .0) (c .before .before .wide2 .ensures .0) (c .before .skip-many .ensures) g in let l = g .q-in in omega arith
+skip-items-at-requires t c κs = let g = own (c .before .before .before .before .peek .ensures .0) (c .before .before .before .before .before .before .pre .1) in let eq = children-end _ _ _ g (c .before .before .before .fixed-count .ensures .0) (c .before .before .arg-width .ensures .0) (c .before .skip-many .ensures) g in let l = g .q-in in omega arith
 
 skip-add-skip-many-3 : (t : ℕ) → skip-lts.Need-add-skip-many-3 (skip-claims t) (skip-at t) skip.Post
-unfolding argWidth fixedCount countWidth
-skip-add-skip-many-3 t c = let g = own (c .before .before .before .before .before .peek .ensures .0) (c .before .before .before .before .before .before .before .pre .1) in let eq = children-end _ _ _ g (c .before .before .before .before .wide .ensures .0) (c .before .before .before .wide2 .ensures .0) (c .before .before .skip-many .ensures) g in let l = g .narrow in let m = g .q-in in let k = c .before .wide3 .ensures .0 in omega arith
+skip-add-skip-many-3 t c = let g = own (c .before .before .before .before .before .peek .ensures .0) (c .before .before .before .before .before .before .before .pre .1) in let eq = children-end _ _ _ g (c .before .before .before .before .fixed-count .ensures .0) (c .before .before .before .arg-width .ensures .0) (c .before .before .skip-many .ensures) g in let l = g .narrow in let m = g .q-in in let k = c .before .count-width .ensures .0 in omega arith
 
 skip-skip-many-requires-2 : (t : ℕ) → skip-lts.Need-skip-many-requires-2 (skip-claims t) (skip-at t) skip.Post
-unfolding argWidth fixedCount countWidth
-skip-skip-many-requires-2 t c κs = let g = own (c .before .before .before .before .before .peek .ensures .0) (c .before .before .before .before .before .before .before .pre .1) in let eq = children-end _ _ _ g (c .before .before .before .before .wide .ensures .0) (c .before .before .before .wide2 .ensures .0) (c .before .before .skip-many .ensures) g in let pos = g .positive in (omega arith, list-walk _ _ _ g eq (c .before .wide3 .ensures .0) (c .items-at .ensures))
+skip-skip-many-requires-2 t c κs = let g = own (c .before .before .before .before .before .peek .ensures .0) (c .before .before .before .before .before .before .before .pre .1) in let eq = children-end _ _ _ g (c .before .before .before .before .fixed-count .ensures .0) (c .before .before .before .arg-width .ensures .0) (c .before .before .skip-many .ensures) g in let pos = g .positive in (omega arith, list-walk _ _ _ g eq (c .before .count-width .ensures .0) (c .items-at .ensures))
 
-skip-array-read-wide-4 : (t : ℕ) → skip-lts.Need-array-read-wide-4 (skip-claims t) (skip-at t) skip.Post
-skip-array-read-wide-4 t c = let g = own (c .before .before .before .before .before .before .peek .ensures .0) (c .before .before .before .before .before .before .before .before .pre .1) in g .tag16
-
-skip-wide-requires-4 : (t : ℕ) → skip-lts.Need-wide-requires-4 (skip-claims t) (skip-at t) skip.Post
-skip-wide-requires-4 t c κs = search needs
+skip-last-width-requires : (t : ℕ) → skip-lts.Need-last-width-requires (skip-claims t) (skip-at t) skip.Post
+skip-last-width-requires t c κs = search needs
 
 skip-add-result : (t : ℕ) → skip-lts.Need-add-result (skip-claims t) (skip-at t) skip.Post
-unfolding argWidth fixedCount countWidth lastWidth
-skip-add-result t c = let g = own (c .before .before .before .before .before .before .before .peek .ensures .0) (c .before .before .before .before .before .before .before .before .before .pre .1) in let eq = children-end _ _ _ g (c .before .before .before .before .before .before .wide .ensures .0) (c .before .before .before .before .before .wide2 .ensures .0) (c .before .before .before .before .skip-many .ensures) g in
-    let eu = list-end _ _ _ _ g eq (c .before .before .before .wide3 .ensures .0) (c .before .before .items-at .ensures) (c .before .skip-many2 .ensures) in
-    let e = g .end in let l = g .next-in in let a = c .wide4 .ensures .0 in omega arith
+skip-add-result t c = let g = own (c .before .before .before .before .before .before .before .peek .ensures .0) (c .before .before .before .before .before .before .before .before .before .pre .1) in let eq = children-end _ _ _ g (c .before .before .before .before .before .before .fixed-count .ensures .0) (c .before .before .before .before .before .arg-width .ensures .0) (c .before .before .before .before .skip-many .ensures) g in
+    let eu = list-end _ _ _ _ g eq (c .before .before .before .count-width .ensures .0) (c .before .before .items-at .ensures) (c .before .skip-many2 .ensures) in
+    let e = g .end in let l = g .next-in in let a = c .last-width .ensures .0 in omega arith
 
 skip-returns : (t : ℕ) → skip-lts.Need-returns (skip-claims t) (skip-at t) skip.Post
-unfolding argWidth fixedCount countWidth lastWidth
 skip-returns t c = λ e next st.
     let g = steps _ _ _ e next (c .before .before .before .before .before .before .before .peek .ensures .0) st (le-refl _) in
-    let eq = children-end _ _ _ g (c .before .before .before .before .before .before .wide .ensures .0) (c .before .before .before .before .before .wide2 .ensures .0) (c .before .before .before .before .skip-many .ensures) g in
-    let eu = list-end _ _ _ _ g eq (c .before .before .before .wide3 .ensures .0) (c .before .before .items-at .ensures) (c .before .skip-many2 .ensures) in
-    let ee = g .end in let a = c .wide4 .ensures .0 in omega arith
+    let eq = children-end _ _ _ g (c .before .before .before .before .before .before .fixed-count .ensures .0) (c .before .before .before .before .before .arg-width .ensures .0) (c .before .before .before .before .skip-many .ensures) g in
+    let eu = list-end _ _ _ _ g eq (c .before .before .before .count-width .ensures .0) (c .before .before .items-at .ensures) (c .before .skip-many2 .ensures) in
+    let ee = g .end in let a = c .last-width .ensures .0 in omega arith
 
 abbrev skip-many-Inv-loop : skip-many-lts.InvT-loop
 skip-many-Inv-loop s left n at i₀ p₀ i p = Going s left n at i p
@@ -143,21 +125,17 @@ pub +skip+skip-many-spec : {M : Type 1} → statement M
 +skip+skip-many-spec = close μ-skip μ-skip-many (λ t. skip-lts.spec (skip-claims t) (skip-at t) skip.Post
     (skip-peek-requires t)
     (skip-sub-skip-many t)
-    (skip-array-read-wide t)
-    (skip-wide-requires t)
+    (skip-fixed-count-requires t)
     (skip-add-skip-many t)
-    (skip-array-read-wide-2 t)
-    (skip-wide-requires-2 t)
+    (skip-arg-width-requires t)
     (skip-add-skip-many-2 t)
     (skip-skip-many-requires t)
-    (skip-array-read-wide-3 t)
-    (skip-wide-requires-3 t)
+    (skip-count-width-requires t)
     (skip-sub-skip-many-2 t)
     (skip-items-at-requires t)
     (skip-add-skip-many-3 t)
     (skip-skip-many-requires-2 t)
-    (skip-array-read-wide-4 t)
-    (skip-wide-requires-4 t)
+    (skip-last-width-requires t)
     (skip-add-result t)
     (skip-returns t))
     λ t. skip-many-lts.spec (skip-many-claims t) (skip-many-at t) skip-many.Post

@@ -8,7 +8,7 @@ use Rattle.image_fields.proofs.Answers.{read-ok, read-fault, number-ok, number-
 use Rattle.image_fields.proofs.Tables.{of-none, of-next, of-stop}
 use Rattle.image_body.specs.Stmt.{stmtsAt, blocksAt, blockCount, elseFlag}
 use Rattle.image_body.specs.Answer.{scopeOf}
-use Rattle.image_reading.proofs.BodyReading.{front-ok, front-bad, front-small, blocks-stop, else-stop, back-done, stmt-stop, stmt-back, block-deep, block-short, block-stmts}
+use Rattle.image_reading.proofs.BodyReading.{front-ok, front-bad, front-small, blocks-stop, else-stop, back-done, no-blocks, stmt-stop, stmt-back, block-deep, block-short, block-stmts}
 use Prim.Native.Nat.{ℕ, _<_}
 use borrow.Fn.Kinds.{In}
 use borrow.Fn.PlainCycle.{Measures, is, falls, and}
@@ -31,7 +31,8 @@ use Rattle.image_reading.proofs.read_front.Reads as read-front-reads
 use Rattle.image_fields.proofs.field.Reads as field-reads
 use Rattle.image_fields.proofs.room.Reads as room-reads
 use Rattle.image_fields.proofs.two_at.Reads as two-at-reads
-use Rattle.image_fields.proofs.wide.Reads as wide-reads
+use Rattle.image_body.proofs.layout.block_count.Reads as block-count-reads
+use Rattle.image_body.proofs.layout.else_flag.Reads as else-flag-reads
 use Rattle.image_reading.proofs.+read_back+read_block+read_blocks+read_stmt+read_stmts.{statement}
 use Rattle.image_reading.proofs.+read_back+read_block+read_blocks+read_stmt+read_stmts.Tie.{close}
 
@@ -89,7 +90,7 @@ read-stmts-below t =
     and 2 read-stmts-kinds.ps (falls 2 read-stmts-kinds.ps _<_ μ-read-stmts t) read-stmts.Pre
 
 abbrev read-back-claims : ℕ → read-back-lts.Claims
-read-back-claims t = (wide-reads.Asked, wide-reads.Learnt, read-blocks-below t, read-blocks.Post, field-reads.Asked, field-reads.Learnt)
+read-back-claims t = (block-count-reads.Asked, block-count-reads.Learnt, read-blocks-below t, read-blocks.Post, else-flag-reads.Asked, else-flag-reads.Learnt, field-reads.Asked, field-reads.Learnt)
 
 abbrev read-block-claims : ℕ → read-block-lts.Claims
 read-block-claims t = (room-reads.Asked, room-reads.Learnt, two-at-reads.Asked, two-at-reads.Learnt, read-stmts-below t, read-stmts.Post)
@@ -98,16 +99,13 @@ abbrev read-blocks-claims : ℕ → read-blocks-lts.Claims
 read-blocks-claims t = (read-block-below t, read-block.Post)
 
 abbrev read-stmt-claims : ℕ → read-stmt-lts.Claims
-read-stmt-claims t = (read-front-reads.Asked, read-front-reads.Learnt, read-back-below t, read-back.Post)
+read-stmt-claims t = (read-front-reads.Asked, read-front-reads.Learnt, block-count-reads.Asked, block-count-reads.Learnt, read-back-below t, read-back.Post)
 
 abbrev read-stmts-claims : ℕ → read-stmts-lts.Claims
 read-stmts-claims t = (read-stmt-below t, read-stmt.Post)
 
-read-back-array-read-wide : (t : ℕ) → read-back-lts.Need-array-read-wide (read-back-claims t) (read-back-at t) read-back.Post
-read-back-array-read-wide t c = search needs
-
-read-back-wide-requires : (t : ℕ) → read-back-lts.Need-wide-requires (read-back-claims t) (read-back-at t) read-back.Post
-read-back-wide-requires t c κs = search needs
+read-back-block-count-requires : (t : ℕ) → read-back-lts.Need-block-count-requires (read-back-claims t) (read-back-at t) read-back.Post
+read-back-block-count-requires t c κs = search needs
 
 read-back-read-blocks-requires : (t : ℕ) → read-back-lts.Need-read-blocks-requires (read-back-claims t) (read-back-at t) read-back.Post
 read-back-read-blocks-requires t c κs = (omega arith, tt)
@@ -118,11 +116,8 @@ read-back-enum-known-f t c = search needs
 read-back-enum-known-q : (t : ℕ) → read-back-lts.Need-enum-known-q (read-back-claims t) (read-back-at t) read-back.Post
 read-back-enum-known-q t c = search needs
 
-read-back-array-read-wide-2 : (t : ℕ) → read-back-lts.Need-array-read-wide-2 (read-back-claims t) (read-back-at t) read-back.Post
-read-back-array-read-wide-2 t c = search needs
-
-read-back-wide-requires-2 : (t : ℕ) → read-back-lts.Need-wide-requires-2 (read-back-claims t) (read-back-at t) read-back.Post
-read-back-wide-requires-2 t c κs = search needs
+read-back-else-flag-requires : (t : ℕ) → read-back-lts.Need-else-flag-requires (read-back-claims t) (read-back-at t) read-back.Post
+read-back-else-flag-requires t c κs = search needs
 
 read-back-field-requires : (t : ℕ) → read-back-lts.Need-field-requires (read-back-claims t) (read-back-at t) read-back.Post
 read-back-field-requires t c κs = search needs
@@ -137,17 +132,14 @@ read-back-read-blocks-requires-2 : (t : ℕ) → read-back-lts.Need-read-blocks-
 read-back-read-blocks-requires-2 t c κs = (omega arith, tt)
 
 read-back-returns : (t : ℕ) → read-back-lts.Need-returns (read-back-claims t) (read-back-at t) read-back.Post
-unfolding blockCount
-read-back-returns t c = λ h e. blocks-stop _ _ h _ (c .before .before .before .before .wide .ensures .0 ∙ ap (λ x. getD blockCount x 0) (sym e)) (read-fault (c .before .before .before .read-blocks .ensures) (c .before .f .given .1))
+read-back-returns t c = λ h e. blocks-stop _ _ h _ (c .before .before .before .before .block-count .ensures .0 ∙ ap (λ x. getD blockCount x 0) (sym e)) (read-fault (c .before .before .before .read-blocks .ensures) (c .before .f .given .1))
 
 read-back-returns-2 : (t : ℕ) → read-back-lts.Need-returns-2 (read-back-claims t) (read-back-at t) read-back.Post
-unfolding blockCount elseFlag
-read-back-returns-2 t c = λ h e. else-stop _ _ h _ (c .before .before .before .before .before .before .before .before .before .wide .ensures .0 ∙ ap (λ x. getD blockCount x 0) (sym e)) (read-ok (c .before .before .before .before .before .before .before .before .read-blocks .ensures) (c .before .before .before .before .before .before .q .given .1) .1) (c .before .before .before .before .wide2 .ensures .0 ∙ ap (λ x. getD elseFlag x 0) (sym e))
+read-back-returns-2 t c = λ h e. else-stop _ _ h _ (c .before .before .before .before .before .before .before .before .before .block-count .ensures .0 ∙ ap (λ x. getD blockCount x 0) (sym e)) (read-ok (c .before .before .before .before .before .before .before .before .read-blocks .ensures) (c .before .before .before .before .before .before .q .given .1) .1) (c .before .before .before .before .else-flag .ensures .0 ∙ ap (λ x. getD elseFlag x 0) (sym e))
     (number-wrong (c .before .before .before .field .ensures) (c .before .f2 .given .1))
 
 read-back-returns-3 : (t : ℕ) → read-back-lts.Need-returns-3 (read-back-claims t) (read-back-at t) read-back.Post
-unfolding blockCount elseFlag
-read-back-returns-3 t c = λ h e. c .read-blocks2 .ensures ∙ sym (back-done _ _ h _ (c .before .before .before .before .before .before .before .before .before .before .wide .ensures .0 ∙ ap (λ x. getD blockCount x 0) (sym e)) (read-ok (c .before .before .before .before .before .before .before .before .before .read-blocks .ensures) (c .before .before .before .before .before .before .before .q .given .1) .1) (c .before .before .before .before .before .wide2 .ensures .0 ∙ ap (λ x. getD elseFlag x 0) (sym e))
+read-back-returns-3 t c = λ h e. c .read-blocks2 .ensures ∙ sym (back-done _ _ h _ (c .before .before .before .before .before .before .before .before .before .before .block-count .ensures .0 ∙ ap (λ x. getD blockCount x 0) (sym e)) (read-ok (c .before .before .before .before .before .before .before .before .before .read-blocks .ensures) (c .before .before .before .before .before .before .before .q .given .1) .1) (c .before .before .before .before .before .else-flag .ensures .0 ∙ ap (λ x. getD elseFlag x 0) (sym e))
     (number-ok (c .before .before .before .before .field .ensures) (c .before .before .n .given .1)))
 
 read-block-room-requires : (t : ℕ) → read-block-lts.Need-room-requires (read-block-claims t) (read-block-at t) read-block.Post
@@ -219,14 +211,22 @@ read-stmt-enum-known-f t c = search needs
 read-stmt-enum-known-tag : (t : ℕ) → read-stmt-lts.Need-enum-known-tag (read-stmt-claims t) (read-stmt-at t) read-stmt.Post
 read-stmt-enum-known-tag t c = search needs
 
-read-stmt-read-back-requires : (t : ℕ) → read-stmt-lts.Need-read-back-requires (read-stmt-claims t) (read-stmt-at t) read-stmt.Post
-read-stmt-read-back-requires t c κs = (omega arith, front-small _ _ _ (c .before .before .before .read-front .ensures) (c .before .tag .given .1))
+read-stmt-block-count-requires : (t : ℕ) → read-stmt-lts.Need-block-count-requires (read-stmt-claims t) (read-stmt-at t) read-stmt.Post
+read-stmt-block-count-requires t c κs = search needs
 
 read-stmt-returns : (t : ℕ) → read-stmt-lts.Need-returns (read-stmt-claims t) (read-stmt-at t) read-stmt.Post
-read-stmt-returns t c = stmt-stop _ _ _ _ (front-bad (c .before .before .before .read-front .ensures) (c .before .f .given .1))
+read-stmt-returns t c = let g = front-ok (c .before .before .before .before .before .read-front .ensures) (c .before .before .before .tag .given .1) in
+    let small = front-small _ _ _ (c .before .before .before .before .before .read-front .ensures) (c .before .before .before .tag .given .1) in
+    no-blocks _ _ (g .0) _ (omega (arith, small, g .2)) (sym (c .if1 .taken) ∙ c .before .block-count .ensures .0 ∙ ap (λ x. getD blockCount x 0) (sym (g .2))) ∙ sym (ap readOf (stmt-back _ _ _ _ (g .1)))
+
+read-stmt-read-back-requires : (t : ℕ) → read-stmt-lts.Need-read-back-requires (read-stmt-claims t) (read-stmt-at t) read-stmt.Post
+read-stmt-read-back-requires t c κs = (omega arith, front-small _ _ _ (c .before .before .before .before .before .read-front .ensures) (c .before .before .before .tag .given .1))
 
 read-stmt-returns-2 : (t : ℕ) → read-stmt-lts.Need-returns-2 (read-stmt-claims t) (read-stmt-at t) read-stmt.Post
-read-stmt-returns-2 t c = let g = front-ok (c .before .before .before .before .read-front .ensures) (c .before .before .tag .given .1) in
+read-stmt-returns-2 t c = stmt-stop _ _ _ _ (front-bad (c .before .before .before .read-front .ensures) (c .before .f .given .1))
+
+read-stmt-returns-3 : (t : ℕ) → read-stmt-lts.Need-returns-3 (read-stmt-claims t) (read-stmt-at t) read-stmt.Post
+read-stmt-returns-3 t c = let g = front-ok (c .before .before .before .before .before .before .read-front .ensures) (c .before .before .before .before .tag .given .1) in
     c .read-back .ensures (g .0) (g .2) ∙ sym (ap readOf (stmt-back _ _ _ _ (g .1)))
 
 abbrev read-stmts-Inv-loop : read-stmts-lts.InvT-loop
@@ -265,13 +265,11 @@ read-stmts-returns-2 t c = of-none _ _ _ _ (c .loop-test .left) ∙ sym (c .befo
 pub +read-back+read-block+read-blocks+read-stmt+read-stmts-spec : {M : Type 1} → statement M
 +read-back+read-block+read-blocks+read-stmt+read-stmts-spec =
     close μ-read-back μ-read-block μ-read-blocks μ-read-stmt μ-read-stmts (λ t. read-back-lts.spec (read-back-claims t) (read-back-at t) read-back.Post
-    (read-back-array-read-wide t)
-    (read-back-wide-requires t)
+    (read-back-block-count-requires t)
     (read-back-read-blocks-requires t)
     (read-back-enum-known-f t)
     (read-back-enum-known-q t)
-    (read-back-array-read-wide-2 t)
-    (read-back-wide-requires-2 t)
+    (read-back-else-flag-requires t)
     (read-back-field-requires t)
     (read-back-enum-known-f-2 t)
     (read-back-enum-known-n t)
@@ -305,9 +303,11 @@ pub +read-back+read-block+read-blocks+read-stmt+read-stmts-spec : {M : Type 1} �
     (read-stmt-read-front-requires t)
     (read-stmt-enum-known-f t)
     (read-stmt-enum-known-tag t)
-    (read-stmt-read-back-requires t)
+    (read-stmt-block-count-requires t)
     (read-stmt-returns t)
-    (read-stmt-returns-2 t))
+    (read-stmt-read-back-requires t)
+    (read-stmt-returns-2 t)
+    (read-stmt-returns-3 t))
     λ t. read-stmts-lts.spec (read-stmts-claims t) (read-stmts-at t) read-stmts.Post
     read-stmts-Inv-loop
     read-stmts-μ-loop

@@ -2,7 +2,7 @@ use native.Mathlib.Omega.{arith}
 use borrow.Author.Tests.{lt-ltb, le-ltb, le-leb, lt-leb, not-true, not-false}
 use Rattle.image_fields.specs.Parsed.{ensure, bind}
 use Rattle.image_fields.proofs.Answers.{number-ok, number-wrong}
-use Rattle.image_body.specs.Expr.{argWidth, headAt}
+use Rattle.image_body.specs.Expr.{headAt}
 use Rattle.image_reading.specs.Answer.{startOf}
 use borrow.Author.Needs.{needs}
 use Rattle.image_reading.proofs.read_head.Statement.{statement}
@@ -42,11 +42,8 @@ returns-4 : tie.Need-returns-4
 unfolding headAt startOf ensure bind
 returns-4 c = simp (← c .before .before .before .before .before .before .before .before .room .ensures, le-leb _ _ (c .before .before .before .before .before .before .before .if1 .left), ← c .before .before .before .before .before .wide .ensures .0, lt-ltb 0 (c .before .before .before .before .before .wide .result) (omega arith), lt-ltb (c .before .before .before .before .before .wide .result) 16 (omega arith), ← c .before .before .two-at .ensures .0, ← c .before .type-ok .ensures, not-true (c .before .type-ok .result) (c .if4 .taken))
 
-array-read-wide : tie.Need-array-read-wide
-array-read-wide c = search needs
-
-wide-requires-2 : tie.Need-wide-requires-2
-wide-requires-2 c κs = search needs
+arg-width-requires : tie.Need-arg-width-requires
+arg-width-requires c κs = search needs
 
 arg-limit-requires : tie.Need-arg-limit-requires
 arg-limit-requires c κs = search needs
@@ -64,12 +61,12 @@ enum-known-f : tie.Need-enum-known-f
 enum-known-f c = search needs
 
 returns-5 : tie.Need-returns-5
-unfolding headAt argWidth startOf ensure bind
-returns-5 c = simp (← c .before .before .before .before .before .before .before .before .before .before .before .before .before .before .room .ensures, le-leb _ _ (c .before .before .before .before .before .before .before .before .before .before .before .before .before .if1 .left), ← c .before .before .before .before .before .before .before .before .before .before .before .wide .ensures .0, lt-ltb 0 (c .before .before .before .before .before .before .before .before .before .before .before .wide .result) (omega arith), lt-ltb (c .before .before .before .before .before .before .before .before .before .before .before .wide .result) 16 (omega arith), ← c .before .before .before .before .before .before .before .before .two-at .ensures .0, ← c .before .before .before .before .before .before .before .type-ok .ensures, not-false (c .before .before .before .before .before .before .before .type-ok .result) (c .before .before .before .before .before .before .if4 .left), ← c .before .before .before .before .before .wide2 .ensures .0, ← c .before .before .before .before .arg-limit .ensures, number-ok (c .before .before .before .field .ensures) (c .before .next .given .1))
+unfolding headAt startOf ensure bind
+returns-5 c = simp (← c .before .before .before .before .before .before .before .before .before .before .before .before .before .before .room .ensures, le-leb _ _ (c .before .before .before .before .before .before .before .before .before .before .before .before .before .if1 .left), ← c .before .before .before .before .before .before .before .before .before .before .before .wide .ensures .0, lt-ltb 0 (c .before .before .before .before .before .before .before .before .before .before .before .wide .result) (omega arith), lt-ltb (c .before .before .before .before .before .before .before .before .before .before .before .wide .result) 16 (omega arith), ← c .before .before .before .before .before .before .before .before .two-at .ensures .0, ← c .before .before .before .before .before .before .before .type-ok .ensures, not-false (c .before .before .before .before .before .before .before .type-ok .result) (c .before .before .before .before .before .before .if4 .left), ← c .before .before .before .before .before .arg-width .ensures .0, ← c .before .before .before .before .arg-limit .ensures, number-ok (c .before .before .before .field .ensures) (c .before .next .given .1))
 
 returns-6 : tie.Need-returns-6
-unfolding headAt argWidth startOf ensure bind
-returns-6 c = simp (← c .before .before .before .before .before .before .before .before .before .before .before .before .before .before .room .ensures, le-leb _ _ (c .before .before .before .before .before .before .before .before .before .before .before .before .before .if1 .left), ← c .before .before .before .before .before .before .before .before .before .before .before .wide .ensures .0, lt-ltb 0 (c .before .before .before .before .before .before .before .before .before .before .before .wide .result) (omega arith), lt-ltb (c .before .before .before .before .before .before .before .before .before .before .before .wide .result) 16 (omega arith), ← c .before .before .before .before .before .before .before .before .two-at .ensures .0, ← c .before .before .before .before .before .before .before .type-ok .ensures, not-false (c .before .before .before .before .before .before .before .type-ok .result) (c .before .before .before .before .before .before .if4 .left), ← c .before .before .before .before .before .wide2 .ensures .0, ← c .before .before .before .before .arg-limit .ensures, number-wrong (c .before .before .before .field .ensures) (c .before .f .given .1))
+unfolding headAt startOf ensure bind
+returns-6 c = simp (← c .before .before .before .before .before .before .before .before .before .before .before .before .before .before .room .ensures, le-leb _ _ (c .before .before .before .before .before .before .before .before .before .before .before .before .before .if1 .left), ← c .before .before .before .before .before .before .before .before .before .before .before .wide .ensures .0, lt-ltb 0 (c .before .before .before .before .before .before .before .before .before .before .before .wide .result) (omega arith), lt-ltb (c .before .before .before .before .before .before .before .before .before .before .before .wide .result) 16 (omega arith), ← c .before .before .before .before .before .before .before .before .two-at .ensures .0, ← c .before .before .before .before .before .before .before .type-ok .ensures, not-false (c .before .before .before .before .before .before .before .type-ok .result) (c .before .before .before .before .before .before .if4 .left), ← c .before .before .before .before .before .arg-width .ensures .0, ← c .before .before .before .before .arg-limit .ensures, number-wrong (c .before .before .before .field .ensures) (c .before .f .given .1))
 
 pub read-head-spec : {M : Type 1} → statement M
 read-head-spec =
@@ -85,8 +82,7 @@ read-head-spec =
     two-at-requires
     type-ok-requires
     returns-4
-    array-read-wide
-    wide-requires-2
+    arg-width-requires
     arg-limit-requires
     add-field
     field-requires

@@ -19,120 +19,116 @@ use Rattle.scope_entered.proofs.register.Reads as register-reads
 use Rattle.scope_entered.proofs.register_params.Reads as register-params-reads
 use Rattle.scope_stack.proofs.Locals.new.Reads as new-reads
 
--- src/lib.rt:50:9
+-- src/lib.rt:45:9
 new-requires : tie.Need-new-requires
 new-requires c κs = search needs
 
--- src/lib.rt:51:8
+-- src/lib.rt:46:8
 peek-requires : tie.Need-peek-requires
 peek-requires c κs = search needs
 
--- src/lib.rt:52:40
+-- src/lib.rt:47:46
 add-peek-two : tie.Need-add-peek-two
 add-peek-two c =
-    let b = params-behind (c .before .before .before .before .before .before .args .s .now) (c .before .before .before .before .before .before .args .at) _ (c .before .peek .ensures .0) (c .if1 .taken) (c .before .before .before .before .before .before .pre .0) in
-    omega (arith, b .inside, c .before .before .before .before .before .before .pre .1)
+    let b = params-behind (c .before .before .before .before .before .args .s .now) (c .before .before .before .before .before .args .at) _ (c .before .peek .ensures .0) (c .if1 .taken) (c .before .before .before .before .before .pre .0) in
+    omega (arith, b .inside, c .before .before .before .before .before .pre .1)
 
--- src/lib.rt:52:13
+-- src/lib.rt:47:13
 peek-two-requires : tie.Need-peek-two-requires
 peek-two-requires c κs =
-    let b = params-behind (c .before .before .before .before .before .before .args .s .now) (c .before .before .before .before .before .before .args .at) _ (c .before .peek .ensures .0) (c .if1 .taken) (c .before .before .before .before .before .before .pre .0) in
-    omega (arith, b .inside, c .before .before .before .before .before .before .pre .1)
+    let b = params-behind (c .before .before .before .before .before .args .s .now) (c .before .before .before .before .before .args .at) _ (c .before .peek .ensures .0) (c .if1 .taken) (c .before .before .before .before .before .pre .0) in
+    omega (arith, b .inside, c .before .before .before .before .before .pre .1)
 
--- src/lib.rt:53:56
+-- src/lib.rt:48:52
 add-register-params : tie.Need-add-register-params
 add-register-params c =
-    let b = params-behind (c .before .before .before .before .before .before .before .args .s .now) (c .before .before .before .before .before .before .before .args .at) _ (c .before .before .peek .ensures .0) (c .before .if1 .taken) (c .before .before .before .before .before .before .before .pre .0) in
-    omega (arith, b .inside, c .before .before .before .before .before .before .before .pre .1)
+    let b = params-behind (c .before .before .before .before .before .before .args .s .now) (c .before .before .before .before .before .before .args .at) _ (c .before .before .peek .ensures .0) (c .before .if1 .taken) (c .before .before .before .before .before .before .pre .0) in
+    omega (arith, b .inside, c .before .before .before .before .before .before .pre .1)
 
--- src/lib.rt:53:9
+-- src/lib.rt:48:9
 register-params-requires : tie.Need-register-params-requires
 register-params-requires c κs =
-    let b = params-behind (c .before .before .before .before .before .before .before .args .s .now) (c .before .before .before .before .before .before .before .args .at) _ (c .before .before .peek .ensures .0) (c .before .if1 .taken) (c .before .before .before .before .before .before .before .pre .0) in (
+    let b = params-behind (c .before .before .before .before .before .before .args .s .now) (c .before .before .before .before .before .before .args .at) _ (c .before .before .peek .ensures .0) (c .before .if1 .taken) (c .before .before .before .before .before .before .pre .0) in (
       c .before .before .before .new .ensures .0,
       omega (arith, c .before .before .before .new .ensures .1),
       subst (λ k. k ≤ 16) (sym (c .peek-two .ensures .0)) (b .few),
-      subst (λ k. c .before .before .before .before .before .before .before .args .at + 3 + 4 * k ≤ length (c .before .before .before .before .before .before .before .args .s .now)) (sym (c .peek-two .ensures .0)) (b .inside),
-      c .before .before .before .before .before .before .before .pre .1,
-      c .before .before .before .before .before .before .before .pre .2,
-      c .before .before .before .before .before .before .before .pre .3,
-      c .before .before .before .before .before .before .before .pre .4,
+      subst (λ k. c .before .before .before .before .before .before .args .at + 3 + 4 * k ≤ length (c .before .before .before .before .before .before .args .s .now)) (sym (c .peek-two .ensures .0)) (b .inside),
+      c .before .before .before .before .before .before .pre .1,
+      c .before .before .before .before .before .before .pre .2,
     )
 
--- src/lib.rt:53:9
+-- src/lib.rt:48:9
 returns : tie.Need-returns
 returns c =
-    let b = params-behind (c .before .before .before .before .before .before .before .before .args .s .now) (c .before .before .before .before .before .before .before .before .args .at) _ (c .before .before .before .peek .ensures .0) (c .before .before .if1 .taken) (c .before .before .before .before .before .before .before .before .pre .0) in
-    let s = c .before .before .before .before .before .before .before .before .args .s .now in
+    let b = params-behind (c .before .before .before .before .before .before .before .args .s .now) (c .before .before .before .before .before .before .before .args .at) _ (c .before .before .before .peek .ensures .0) (c .before .before .if1 .taken) (c .before .before .before .before .before .before .before .pre .0) in
+    let s = c .before .before .before .before .before .before .before .args .s .now in
     let r = c .register-params .result in
-    let a : Adds s (c .before .before .before .before .before .before .before .before .args .ts .now) (c .before .before .before .before .before .before .before .before .args .xs .now) (paramsIn s (two s (c .before .before .before .before .before .before .before .before .args .at + 1)) (c .before .before .before .before .before .before .before .before .args .at + 3)) (c .before .before .before .before .new .result) r =
-    subst (λ k. Adds s (c .before .before .before .before .before .before .before .before .args .ts .now) (c .before .before .before .before .before .before .before .before .args .xs .now) (paramsIn s k (c .before .before .before .before .before .before .before .before .args .at + 3)) (c .before .before .before .before .new .result) r) (c .before .peek-two .ensures .0) (c .register-params .ensures) in
-    entering s (c .before .before .before .before .before .before .before .before .args .ts .now) (c .before .before .before .before .before .before .before .before .args .xs .now) (c .before .before .before .before .before .before .before .before .args .at) (paramsIn s (two s (c .before .before .before .before .before .before .before .before .args .at + 1)) (c .before .before .before .before .before .before .before .before .args .at + 3))
-    (locals-are s (c .before .before .before .before .before .before .before .before .args .at) (subst (λ k. k < 2) (c .before .before .before .peek .ensures .0) (c .before .before .if1 .taken))) (c .before .before .before .before .new .result) r (c .before .before .before .before .new .ensures .1) (c .before .before .before .before .new .ensures .2)
-    (omega (arith, adds-count s (c .before .before .before .before .before .before .before .before .args .ts .now) (c .before .before .before .before .before .before .before .before .args .xs .now) (c .before .before .before .before .new .result) r (two s (c .before .before .before .before .before .before .before .before .args .at + 1)) (c .before .before .before .before .before .before .before .before .args .at + 3) a, b .few, c .before .before .before .before .new .ensures .1)) a
+    let a : Adds (c .before .before .before .before .before .before .before .args .tb .now) (paramsIn s (two s (c .before .before .before .before .before .before .before .args .at + 1)) (c .before .before .before .before .before .before .before .args .at + 3)) (c .before .before .before .before .new .result) r =
+    subst (λ k. Adds (c .before .before .before .before .before .before .before .args .tb .now) (paramsIn s k (c .before .before .before .before .before .before .before .args .at + 3)) (c .before .before .before .before .new .result) r) (c .before .peek-two .ensures .0) (c .register-params .ensures) in
+    entering s (c .before .before .before .before .before .before .before .args .tb .now) (c .before .before .before .before .before .before .before .args .at) (paramsIn s (two s (c .before .before .before .before .before .before .before .args .at + 1)) (c .before .before .before .before .before .before .before .args .at + 3))
+    (locals-are s (c .before .before .before .before .before .before .before .args .at) (subst (λ k. k < 2) (c .before .before .before .peek .ensures .0) (c .before .before .if1 .taken))) (c .before .before .before .before .new .result) r (c .before .before .before .before .new .ensures .1) (c .before .before .before .before .new .ensures .2)
+    (omega (arith, adds-count s (c .before .before .before .before .before .before .before .args .tb .now) (c .before .before .before .before .new .result) r (two s (c .before .before .before .before .before .before .before .args .at + 1)) (c .before .before .before .before .before .before .before .args .at + 3) a, b .few, c .before .before .before .before .new .ensures .1)) a
 
--- src/lib.rt:55:66
+-- src/lib.rt:50:71
 add-name-at : tie.Need-add-name-at
 add-name-at c =
-    let b = this-behind (c .before .before .before .before .before .before .args .s .now) (c .before .before .before .before .before .before .args .at) _ (c .before .peek .ensures .0) (c .if1 .left) (c .before .before .before .before .before .before .pre .0) in
-    omega (arith, b .inside, c .before .before .before .before .before .before .pre .1)
+    let b = this-behind (c .before .before .before .before .before .args .s .now) (c .before .before .before .before .before .args .at) _ (c .before .peek .ensures .0) (c .if1 .left) (c .before .before .before .before .before .pre .0) in
+    omega (arith, b .inside, c .before .before .before .before .before .pre .1)
 
--- src/lib.rt:55:46
+-- src/lib.rt:50:39
 name-at-requires : tie.Need-name-at-requires
 name-at-requires c κs =
-    let b = this-behind (c .before .before .before .before .before .before .args .s .now) (c .before .before .before .before .before .before .args .at) _ (c .before .peek .ensures .0) (c .if1 .left) (c .before .before .before .before .before .before .pre .0) in
-    omega (arith, b .inside, c .before .before .before .before .before .before .pre .1)
+    let b = this-behind (c .before .before .before .before .before .args .s .now) (c .before .before .before .before .before .args .at) _ (c .before .peek .ensures .0) (c .if1 .left) (c .before .before .before .before .before .pre .0) in
+    omega (arith, b .inside, c .before .before .before .before .before .pre .1)
 
--- src/lib.rt:55:9
+-- src/lib.rt:50:9
 register-requires : tie.Need-register-requires
 register-requires c κs = search needs
 
--- src/lib.rt:56:36
+-- src/lib.rt:51:42
 add-peek-two-2 : tie.Need-add-peek-two-2
 add-peek-two-2 c =
-    let b = this-behind (c .before .before .before .before .before .before .before .before .args .s .now) (c .before .before .before .before .before .before .before .before .args .at) _ (c .before .before .before .peek .ensures .0) (c .before .before .if1 .left) (c .before .before .before .before .before .before .before .before .pre .0) in
-    omega (arith, b .inside, c .before .before .before .before .before .before .before .before .pre .1)
+    let b = this-behind (c .before .before .before .before .before .before .before .args .s .now) (c .before .before .before .before .before .before .before .args .at) _ (c .before .before .before .peek .ensures .0) (c .before .before .if1 .left) (c .before .before .before .before .before .before .before .pre .0) in
+    omega (arith, b .inside, c .before .before .before .before .before .before .before .pre .1)
 
--- src/lib.rt:56:9
+-- src/lib.rt:51:9
 peek-two-requires-2 : tie.Need-peek-two-requires-2
 peek-two-requires-2 c κs =
-    let b = this-behind (c .before .before .before .before .before .before .before .before .args .s .now) (c .before .before .before .before .before .before .before .before .args .at) _ (c .before .before .before .peek .ensures .0) (c .before .before .if1 .left) (c .before .before .before .before .before .before .before .before .pre .0) in
-    omega (arith, b .inside, c .before .before .before .before .before .before .before .before .pre .1)
+    let b = this-behind (c .before .before .before .before .before .before .before .args .s .now) (c .before .before .before .before .before .before .before .args .at) _ (c .before .before .before .peek .ensures .0) (c .before .before .if1 .left) (c .before .before .before .before .before .before .before .pre .0) in
+    omega (arith, b .inside, c .before .before .before .before .before .before .before .pre .1)
 
--- src/lib.rt:57:44
+-- src/lib.rt:52:40
 add-register-params-2 : tie.Need-add-register-params-2
 add-register-params-2 c =
-    let b = this-behind (c .before .before .before .before .before .before .before .before .before .args .s .now) (c .before .before .before .before .before .before .before .before .before .args .at) _ (c .before .before .before .before .peek .ensures .0) (c .before .before .before .if1 .left) (c .before .before .before .before .before .before .before .before .before .pre .0) in
-    omega (arith, b .inside, c .before .before .before .before .before .before .before .before .before .pre .1)
+    let b = this-behind (c .before .before .before .before .before .before .before .before .args .s .now) (c .before .before .before .before .before .before .before .before .args .at) _ (c .before .before .before .before .peek .ensures .0) (c .before .before .before .if1 .left) (c .before .before .before .before .before .before .before .before .pre .0) in
+    omega (arith, b .inside, c .before .before .before .before .before .before .before .before .pre .1)
 
--- src/lib.rt:57:5
+-- src/lib.rt:52:5
 register-params-requires-2 : tie.Need-register-params-requires-2
 register-params-requires-2 c κs =
-    let b = this-behind (c .before .before .before .before .before .before .before .before .before .args .s .now) (c .before .before .before .before .before .before .before .before .before .args .at) _ (c .before .before .before .before .peek .ensures .0) (c .before .before .before .if1 .left) (c .before .before .before .before .before .before .before .before .before .pre .0) in (
+    let b = this-behind (c .before .before .before .before .before .before .before .before .args .s .now) (c .before .before .before .before .before .before .before .before .args .at) _ (c .before .before .before .before .peek .ensures .0) (c .before .before .before .if1 .left) (c .before .before .before .before .before .before .before .before .pre .0) in (
       c .before .register .ensures .kept,
       omega (arith, c .before .register .ensures .count, c .before .before .before .before .before .new .ensures .1),
       subst (λ k. k ≤ 16) (sym (c .peek-two2 .ensures .0)) (b .few),
-      subst (λ k. c .before .before .before .before .before .before .before .before .before .args .at + 5 + 4 * k ≤ length (c .before .before .before .before .before .before .before .before .before .args .s .now)) (sym (c .peek-two2 .ensures .0)) (b .inside),
-      c .before .before .before .before .before .before .before .before .before .pre .1,
-      c .before .before .before .before .before .before .before .before .before .pre .2,
-      c .before .before .before .before .before .before .before .before .before .pre .3,
-      c .before .before .before .before .before .before .before .before .before .pre .4,
+      subst (λ k. c .before .before .before .before .before .before .before .before .args .at + 5 + 4 * k ≤ length (c .before .before .before .before .before .before .before .before .args .s .now)) (sym (c .peek-two2 .ensures .0)) (b .inside),
+      c .before .before .before .before .before .before .before .before .pre .1,
+      c .before .before .before .before .before .before .before .before .pre .2,
     )
 
--- src/lib.rt:46:1
+-- src/lib.rt:41:1
 returns-2 : tie.Need-returns-2
 returns-2 c =
-    let b = this-behind (c .before .before .before .before .before .before .before .before .before .before .args .s .now) (c .before .before .before .before .before .before .before .before .before .before .args .at) _ (c .before .before .before .before .before .peek .ensures .0) (c .before .before .before .before .if1 .left) (c .before .before .before .before .before .before .before .before .before .before .pre .0) in
-    let s = c .before .before .before .before .before .before .before .before .before .before .args .s .now in
+    let b = this-behind (c .before .before .before .before .before .before .before .before .before .args .s .now) (c .before .before .before .before .before .before .before .before .before .args .at) _ (c .before .before .before .before .before .peek .ensures .0) (c .before .before .before .before .if1 .left) (c .before .before .before .before .before .before .before .before .before .pre .0) in
+    let s = c .before .before .before .before .before .before .before .before .before .args .s .now in
     let r = c .register-params2 .result in
-    let a : Adds s (c .before .before .before .before .before .before .before .before .before .before .args .ts .now) (c .before .before .before .before .before .before .before .before .before .before .args .xs .now) (paramsIn s (two s (c .before .before .before .before .before .before .before .before .before .before .args .at + 3)) (c .before .before .before .before .before .before .before .before .before .before .args .at + 5)) (c .before .before .register .result) r =
-    subst (λ k. Adds s (c .before .before .before .before .before .before .before .before .before .before .args .ts .now) (c .before .before .before .before .before .before .before .before .before .before .args .xs .now) (paramsIn s k (c .before .before .before .before .before .before .before .before .before .before .args .at + 5)) (c .before .before .register .result) r) (c .before .peek-two2 .ensures .0) (c .register-params2 .ensures) in
-    let this : Adds s (c .before .before .before .before .before .before .before .before .before .before .args .ts .now) (c .before .before .before .before .before .before .before .before .before .before .args .xs .now) (record { name = 0; ty = two s (c .before .before .before .before .before .before .before .before .before .before .args .at + 1) } ∷ []) (c .before .before .before .before .before .before .new .result) (c .before .before .register .result) =
-    subst (λ k. Adds s (c .before .before .before .before .before .before .before .before .before .before .args .ts .now) (c .before .before .before .before .before .before .before .before .before .before .args .xs .now) (record { name = 0; ty = k } ∷ []) (c .before .before .before .before .before .before .new .result) (c .before .before .register .result)) (c .before .before .before .name-at .ensures) (c .before .before .register .ensures) in
-    entering s (c .before .before .before .before .before .before .before .before .before .before .args .ts .now) (c .before .before .before .before .before .before .before .before .before .before .args .xs .now) (c .before .before .before .before .before .before .before .before .before .before .args .at) (record { name = 0; ty = two s (c .before .before .before .before .before .before .before .before .before .before .args .at + 1) } ∷ paramsIn s (two s (c .before .before .before .before .before .before .before .before .before .before .args .at + 3)) (c .before .before .before .before .before .before .before .before .before .before .args .at + 5))
-    (this-and-locals s (c .before .before .before .before .before .before .before .before .before .before .args .at) (subst (λ k. 2 ≤ k) (c .before .before .before .before .before .peek .ensures .0) (c .before .before .before .before .if1 .left))) (c .before .before .before .before .before .before .new .result) r (c .before .before .before .before .before .before .new .ensures .1) (c .before .before .before .before .before .before .new .ensures .2)
-    (omega (arith, adds-count s (c .before .before .before .before .before .before .before .before .before .before .args .ts .now) (c .before .before .before .before .before .before .before .before .before .before .args .xs .now) (c .before .before .register .result) r (two s (c .before .before .before .before .before .before .before .before .before .before .args .at + 3)) (c .before .before .before .before .before .before .before .before .before .before .args .at + 5) a, this .count, b .few, c .before .before .before .before .before .before .new .ensures .1))
-    (adds-both s (c .before .before .before .before .before .before .before .before .before .before .args .ts .now) (c .before .before .before .before .before .before .before .before .before .before .args .xs .now) (record { name = 0; ty = two s (c .before .before .before .before .before .before .before .before .before .before .args .at + 1) } ∷ []) (paramsIn s (two s (c .before .before .before .before .before .before .before .before .before .before .args .at + 3)) (c .before .before .before .before .before .before .before .before .before .before .args .at + 5)) (c .before .before .before .before .before .before .new .result) (c .before .before .register .result) r this a)
+    let a : Adds (c .before .before .before .before .before .before .before .before .before .args .tb .now) (paramsIn s (two s (c .before .before .before .before .before .before .before .before .before .args .at + 3)) (c .before .before .before .before .before .before .before .before .before .args .at + 5)) (c .before .before .register .result) r =
+    subst (λ k. Adds (c .before .before .before .before .before .before .before .before .before .args .tb .now) (paramsIn s k (c .before .before .before .before .before .before .before .before .before .args .at + 5)) (c .before .before .register .result) r) (c .before .peek-two2 .ensures .0) (c .register-params2 .ensures) in
+    let this : Adds (c .before .before .before .before .before .before .before .before .before .args .tb .now) (record { name = 0; ty = two s (c .before .before .before .before .before .before .before .before .before .args .at + 1) } ∷ []) (c .before .before .before .before .before .before .new .result) (c .before .before .register .result) =
+    subst (λ k. Adds (c .before .before .before .before .before .before .before .before .before .args .tb .now) (record { name = 0; ty = k } ∷ []) (c .before .before .before .before .before .before .new .result) (c .before .before .register .result)) (c .before .before .before .name-at .ensures) (c .before .before .register .ensures) in
+    entering s (c .before .before .before .before .before .before .before .before .before .args .tb .now) (c .before .before .before .before .before .before .before .before .before .args .at) (record { name = 0; ty = two s (c .before .before .before .before .before .before .before .before .before .args .at + 1) } ∷ paramsIn s (two s (c .before .before .before .before .before .before .before .before .before .args .at + 3)) (c .before .before .before .before .before .before .before .before .before .args .at + 5))
+    (this-and-locals s (c .before .before .before .before .before .before .before .before .before .args .at) (subst (λ k. 2 ≤ k) (c .before .before .before .before .before .peek .ensures .0) (c .before .before .before .before .if1 .left))) (c .before .before .before .before .before .before .new .result) r (c .before .before .before .before .before .before .new .ensures .1) (c .before .before .before .before .before .before .new .ensures .2)
+    (omega (arith, adds-count s (c .before .before .before .before .before .before .before .before .before .args .tb .now) (c .before .before .register .result) r (two s (c .before .before .before .before .before .before .before .before .before .args .at + 3)) (c .before .before .before .before .before .before .before .before .before .args .at + 5) a, this .count, b .few, c .before .before .before .before .before .before .new .ensures .1))
+    (adds-both (c .before .before .before .before .before .before .before .before .before .args .tb .now) (record { name = 0; ty = two s (c .before .before .before .before .before .before .before .before .before .args .at + 1) } ∷ []) (paramsIn s (two s (c .before .before .before .before .before .before .before .before .before .args .at + 3)) (c .before .before .before .before .before .before .before .before .before .args .at + 5)) (c .before .before .before .before .before .before .new .result) (c .before .before .register .result) r this a)
 
 pub enter-spec : {M : Type 1} → statement M
 enter-spec =

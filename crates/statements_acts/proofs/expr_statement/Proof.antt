@@ -15,35 +15,35 @@ use Rattle.statements_acts.proofs.put_unused.Reads as put-unused-reads
 use Rattle.statements_acts.proofs.unused_callee.Reads as unused-callee-reads
 use Rattle.image_writing.proofs.copy_bytes.Reads as copy-bytes-reads
 
--- src/lib.rt:270:17
+-- src/lib.rt:269:17
 add-value : tie.Need-add-value
 add-value c = search needs
 
--- src/lib.rt:271:9
+-- src/lib.rt:270:9
 unused-callee-requires : tie.Need-unused-callee-requires
 unused-callee-requires c κs =
-    let a = c .before .before .before .before .before .before .args in
-    let small : Bytes (a .s .now) = λ k. omega (arith, c .before .before .before .before .before .shared-slice-known .given k) in
-    let q = c .before .before .before .before .before .before .pre in
+    let a = c .before .before .before .before .before .args in
+    let small : Bytes (a .s .now) = λ k. omega (arith, c .before .before .before .before .shared-slice-known .given k) in
+    let q = c .before .before .before .before .before .pre in
     let r = expr-reach (a .s .now) small (a .p) (a .end) (q .2) (q .3) in
     (q .0, omega arith)
 
--- src/lib.rt:272:9
+-- src/lib.rt:271:9
 copy-bytes-requires : tie.Need-copy-bytes-requires
 copy-bytes-requires c κs =
-    let a = c .before .before .before .before .before .before .before .before .args in
-    let small : Bytes (a .s .now) = λ k. omega (arith, c .before .before .before .before .before .before .before .shared-slice-known .given k) in
-    let q = c .before .before .before .before .before .before .before .before .pre in
+    let a = c .before .before .before .before .before .before .before .args in
+    let small : Bytes (a .s .now) = λ k. omega (arith, c .before .before .before .before .before .before .shared-slice-known .given k) in
+    let q = c .before .before .before .before .before .before .before .pre in
     let w = room-of (q .1) in
     let r = expr-reach (a .s .now) small (a .p) (a .end) (q .2) (q .3) in
     (omega arith, omega arith, w .0, omega arith)
 
--- src/lib.rt:273:9
+-- src/lib.rt:272:9
 put-unused-requires : tie.Need-put-unused-requires
 put-unused-requires c κs =
     let at-copy-bytes = c .before .before .before .before in
     let at-unused-callee = at-copy-bytes .before .before in
-    let at-shared-slice-known = at-unused-callee .before .before .before .before .before .before in
+    let at-shared-slice-known = at-unused-callee .before .before .before .before .before in
     let start = at-shared-slice-known .before in
     let a = start .args in
     let small : Bytes (a .s .now) = λ k. omega (arith, at-shared-slice-known .shared-slice-known .given k) in
@@ -55,13 +55,13 @@ put-unused-requires c κs =
     let y = at-unused-callee .unused-callee .ensures .0 in
     (omega arith, omega arith, omega arith, omega arith)
 
--- src/lib.rt:274:9
+-- src/lib.rt:273:9
 copy-bytes-requires-2 : tie.Need-copy-bytes-requires-2
 copy-bytes-requires-2 c κs =
     let at-put-unused = c .before .before .before .before .before in
     let at-copy-bytes = at-put-unused .before .before .before .before .before in
     let at-unused-callee = at-copy-bytes .before .before in
-    let at-shared-slice-known = at-unused-callee .before .before .before .before .before .before in
+    let at-shared-slice-known = at-unused-callee .before .before .before .before .before in
     let start = at-shared-slice-known .before in
     let a = start .args in
     let small : Bytes (a .s .now) = λ k. omega (arith, at-shared-slice-known .shared-slice-known .given k) in
@@ -74,7 +74,7 @@ copy-bytes-requires-2 c κs =
     let ly = head-room (eqb (at-unused-callee .unused-callee .result) 0) (four (a .s .now) (a .p .at + 1)) in
     (omega arith, r .1, w .0, omega arith)
 
--- src/lib.rt:285:9
+-- src/lib.rt:284:9
 deleted-identifier-requires : tie.Need-deleted-identifier-requires
 deleted-identifier-requires c κs = search needs
 
@@ -92,7 +92,7 @@ returns c =
     let at-put-unused = c .before .before .before .before .before .before .before .before .before in
     let at-copy-bytes = at-put-unused .before .before .before .before .before in
     let at-unused-callee = at-copy-bytes .before .before in
-    let at-shared-slice-known = at-unused-callee .before .before .before .before .before .before in
+    let at-shared-slice-known = at-unused-callee .before .before .before .before .before in
     let start = at-shared-slice-known .before in
     let a = start .args in
     let small : Bytes (a .s .now) = λ k. omega (arith, at-shared-slice-known .shared-slice-known .given k) in

@@ -1,7 +1,7 @@
 use mathlib.Core.Path.{sym, _∙_}
 use native.Mathlib.Omega.{arith}
 use denote.Ref.{now}
-use Rattle.expressions_effects.proofs.Laws.{within}
+use Rattle.image_body.proofs.Walking.{within}
 use Rattle.statements_acts.proofs.Views.{name-ident, name-this, name-none}
 use borrow.Author.Needs.{needs}
 use Rattle.statements_acts.proofs.name_in.Statement.{statement}

@@ -1,7 +1,8 @@
 use Rattle.rules.specs.State.{alive}
 use mathlib.Core.List.{[]}
 use mathlib.Core.Path.{refl}
-use Rattle.statements_acts.proofs.Ends.{tabled, acts-ends}
+use Rattle.tables_lookup.proofs.Lent.{tablesOf, said, names-within, names-said}
+use Rattle.statements_acts.proofs.Ends.{acts-ends}
 use Rattle.statements_acts.proofs.Lent.{holds-lent, acts-along}
 use Rattle.statements_acts.proofs.Acts.{tag-there, variable-tag, plain-tag}
 use mathlib.Core.Path.{sym, _∙_}
@@ -17,113 +18,139 @@ use Rattle.statements_acts.proofs.expr_statement.Reads as expr-statemen
 use Rattle.statements_acts.proofs.plain_statement.Reads as plain-statement-reads
 use Rattle.statements_acts.proofs.variable_statement.Reads as variable-statement-reads
 
--- src/lib.rt:670:15
+-- src/lib.rt:667:15
 shared-slice-read-tag : tie.Need-shared-slice-read-tag
-shared-slice-read-tag c = tag-there (c .before .before .before .before .before .before .before .before .pre .3)
+shared-slice-read-tag c = tag-there (c .before .before .before .before .before .before .pre .3)
 
--- src/lib.rt:672:9
+-- src/lib.rt:669:9
 either-return-requires : tie.Need-either-return-requires
 either-return-requires c κs = search needs
 
--- src/lib.rt:672:9
+-- src/lib.rt:669:9
 same-length : tie.Need-same-length
 same-length c = search needs
 
--- src/lib.rt:672:9
+-- src/lib.rt:669:9
 same-length-2 : tie.Need-same-length-2
 same-length-2 c = search needs
 
--- src/lib.rt:672:9
+-- src/lib.rt:669:9
 returns : tie.Need-returns
 returns c =
     let at-either-return = c .before .before .before .before in
-    let start = at-either-return .before .before .before .before .before .before .before .before .before .before .before .before in
+    let start = at-either-return .before .before .before .before .before .before .before .before .before .before in
     let a = start .args in
     (λ T h g m σ o. acts-along (holds-lent (a .ln .now) (a .lt .now) (a .ld .now) g (a .n) σ o) (at-either-return .either-return .ensures .0 T g (a .n) m (a .warns .now)), at-either-return .either-return .ensures .1)
 
--- src/lib.rt:675:9
+-- src/lib.rt:672:9
 expr-statement-requires : tie.Need-expr-statement-requires
 expr-statement-requires c κs = search needs
 
--- src/lib.rt:675:9
+-- src/lib.rt:672:9
 same-length-3 : tie.Need-same-length-3
 same-length-3 c = search needs
 
--- src/lib.rt:675:9
+-- src/lib.rt:672:9
 same-length-4 : tie.Need-same-length-4
 same-length-4 c = search needs
 
--- src/lib.rt:675:9
+-- src/lib.rt:672:9
 returns-2 : tie.Need-returns-2
 returns-2 c =
     let at-expr-statement = c .before .before .before .before in
-    let start = at-expr-statement .before .before .before .before .before .before .before .before .before .before .before .before .before in
+    let start = at-expr-statement .before .before .before .before .before .before .before .before .before .before .before in
     let a = start .args in
     let r = at-expr-statement .expr-statement in
-    (λ T h g m σ o. r .ensures .0 T (record { types = h .types; structs = h .structs }) σ (a .lefts .now), (r .ensures .1, acts-ends (r .ensures .0 (tabled (a .s .now) (a .ns .now) (a .ts .now) (a .xs .now)) (record { types = refl; structs = refl }) [] [])))
+    (λ T h g m σ o. r .ensures .0 T h σ (a .lefts .now), (r .ensures .1, acts-ends (r .ensures .0 (tablesOf (a .s .now) (a .tb .now)) (said (a .s .now) (a .tb .now)) [] [])))
 
--- src/lib.rt:678:9
+-- src/lib.rt:674:17
+shared-slice-read-names : tie.Need-shared-slice-read-names
+shared-slice-read-names c = search needs
+
+-- src/lib.rt:674:17
+cast-names : tie.Need-cast-names
+cast-names c = search needs
+
+-- src/lib.rt:674:17
+add-names : tie.Need-add-names
+add-names c = search needs
+
+-- src/lib.rt:675:14
+sub-ns : tie.Need-sub-ns
+sub-ns c = search needs
+
+-- src/lib.rt:675:14
+part-ns-start : tie.Need-part-ns-start
+part-ns-start c = search needs
+
+-- src/lib.rt:675:14
+part-ns-end : tie.Need-part-ns-end
+part-ns-end c = search needs
+
+-- src/lib.rt:677:9
 assign-statement-requires : tie.Need-assign-statement-requires
-assign-statement-requires c κs = search needs
+assign-statement-requires c κs =
+    let q = c .before .before .before .before .before .before .before .before .before .before .before .before .pre in
+    (names-within (q .0 .filled), q .1, q .2, q .3, c .before .if3 .taken)
 
--- src/lib.rt:678:9
+-- src/lib.rt:677:9
 same-length-5 : tie.Need-same-length-5
 same-length-5 c = search needs
 
--- src/lib.rt:678:9
+-- src/lib.rt:677:9
 returns-3 : tie.Need-returns-3
 returns-3 c =
     let start = c .before .before .before .before .before .before .before .before .before .before .before .before .before .before .before in
     let a = start .args in
     let e = c .before .before .assign-statement .ensures in
-    (λ T h g m σ o. acts-along (holds-lent (a .ln .now) (a .lt .now) (a .ld .now) g (a .n) σ o) (e .0 T (h .names) (a .ld .now) g m (a .warns .now) (a .lefts .now)), e .1)
+    (λ T h g m σ o. acts-along (holds-lent (a .ln .now) (a .lt .now) (a .ld .now) g (a .n) σ o) (e .0 T (names-said h) (a .ld .now) g m (a .warns .now) (a .lefts .now)), e .1)
 
--- src/lib.rt:680:8
+-- src/lib.rt:679:8
 is-variable-requires : tie.Need-is-variable-requires
 is-variable-requires c κs = search needs
 
--- src/lib.rt:681:9
+-- src/lib.rt:680:9
 variable-statement-requires : tie.Need-variable-statement-requires
 variable-statement-requires c κs =
     let start = c .before .before .before .before .before .before .before .before .before .before .before .before .before .before in
     let q = start .pre in
     let t = variable-tag _ (sym (c .before .before .is-variable .ensures) ∙ c .before .if4 .taken) in
-    (q .0 .names, q .1, q .2, q .3, t .0, t .1)
+    (names-within (q .0 .filled), q .1, q .2, q .3, t .0, t .1)
 
--- src/lib.rt:681:9
+-- src/lib.rt:680:9
 same-length-6 : tie.Need-same-length-6
 same-length-6 c = search needs
 
--- src/lib.rt:681:9
+-- src/lib.rt:680:9
 returns-4 : tie.Need-returns-4
 returns-4 c =
     let start = c .before .before .before .before .before .before .before .before .before .before .before .before .before .before .before .before .before in
     let a = start .args in
     let e = c .before .before .variable-statement .ensures in (
-      λ T h g m σ o. acts-along (holds-lent (a .ln .now) (a .lt .now) (a .ld .now) g (a .n) σ o) (e .0 T (h .names) (a .ld .now) g (a .warns .now) (a .lefts .now)),
-      (e .1, acts-ends (e .0 (tabled (a .s .now) (a .ns .now) (a .ts .now) (a .xs .now)) refl [] (λ i. alive) [] [])),
+      λ T h g m σ o. acts-along (holds-lent (a .ln .now) (a .lt .now) (a .ld .now) g (a .n) σ o) (e .0 T (names-said h) (a .ld .now) g (a .warns .now) (a .lefts .now)),
+      (e .1, acts-ends (e .0 (tablesOf (a .s .now) (a .tb .now)) (names-said (said (a .s .now) (a .tb .now))) [] (λ i. alive) [] [])),
     )
 
--- src/lib.rt:683:5
+-- src/lib.rt:682:5
 plain-statement-requires : tie.Need-plain-statement-requires
 plain-statement-requires c κs =
-    let at-if2 = c .before .before .before .before in
+    let at-if2 = c .before .before .before .before .before .before in
     let at-if1 = at-if2 .before in
-    let start = at-if1 .before .before .before .before .before .before .before .before .before in
+    let start = at-if1 .before .before .before .before .before .before .before in
     let q = start .pre in
     (q .2, q .3, plain-tag _ (at-if1 .if1 .left) (at-if2 .if2 .left) (c .before .before .before .if3 .left) (sym (c .before .before .is-variable .ensures) ∙ c .before .if4 .left))
 
--- src/lib.rt:647:1
+-- src/lib.rt:646:1
 same-length-7 : tie.Need-same-length-7
 same-length-7 c = search needs
 
--- src/lib.rt:647:1
+-- src/lib.rt:646:1
 returns-5 : tie.Need-returns-5
 returns-5 c =
     let start = c .before .before .before .before .before .before .before .before .before .before .before .before .before .before .before .before .before in
     let a = start .args in
     let r = c .before .before .plain-statement in
-    (λ T h g m σ o. r .ensures .0 T σ (a .warns .now) (a .lefts .now), (r .ensures .1, acts-ends (r .ensures .0 (tabled (a .s .now) (a .ns .now) (a .ts .now) (a .xs .now)) [] [] [])))
+    (λ T h g m σ o. r .ensures .0 T σ (a .warns .now) (a .lefts .now), (r .ensures .1, acts-ends (r .ensures .0 (tablesOf (a .s .now) (a .tb .now)) [] [] [])))
 
 pub statement-spec : {M : Type 1} → statement M
 statement-spec =
@@ -138,6 +165,12 @@ statement-spec =
     same-length-3
     same-length-4
     returns-2
+    shared-slice-read-names
+    cast-names
+    add-names
+    sub-ns
+    part-ns-start
+    part-ns-end
     assign-statement-requires
     same-length-5
     returns-3

@@ -11,6 +11,7 @@ use Rattle.image_body.proofs.node_at.Reads as node-at-reads
 use Rattle.image_body.proofs.strip_noop_unary.Reads as strip-noop-unary-reads
 use Rattle.image_fields.proofs.peek_two.Reads as peek-two-reads
 use Rattle.tables_lookup.proofs.should_auto_delete.Reads as should-auto-delete-reads
+use Rattle.tables_lookup.proofs.auto_deleted.Reads as auto-deleted-reads
 
 -- src/lib.rt:123:9
 strip-noop-unary-requires : tie.Need-strip-noop-unary-requires
@@ -26,29 +27,29 @@ enum-known-callee c = search needs
 
 -- src/lib.rt:125:9
 returns : tie.Need-returns
-returns c = (omega arith, λ T h. no-call-at (now (c .before .before .before .before .before .before .args .s)) (c .before .before .before .before .before .before .args .at) _ (c .before .before .strip-noop-unary .ensures) (c .before .node-at .ensures) (c .match .keys2) T)
+returns c = (omega arith, λ T h. no-call-at (now (c .before .before .before .before .before .args .s)) (c .before .before .before .before .before .args .at) _ (c .before .before .strip-noop-unary .ensures) (c .before .node-at .ensures) (c .match .keys2) T)
 
 -- src/lib.rt:127:66
 add-peek-two : tie.Need-add-peek-two
 add-peek-two c =
-    let a = c .before .before .before .before .before .before .before .before .args in
+    let a = c .before .before .before .before .before .before .before .args in
     let i = callee-in (a .s .now) (a .at) _ (c .before .before .before .before .strip-noop-unary .ensures) (c .before .before .before .node-at .ensures) (c .before .callee .given .1) in
     let u = i .2 in
-    let v = c .before .before .before .before .before .before .before .before .pre .1 in
+    let v = c .before .before .before .before .before .before .before .pre .1 in
     omega arith
 
--- src/lib.rt:127:46
+-- src/lib.rt:127:40
 peek-two-requires : tie.Need-peek-two-requires
 peek-two-requires c κs =
-    let a = c .before .before .before .before .before .before .before .before .args in
+    let a = c .before .before .before .before .before .before .before .args in
     let i = callee-in (a .s .now) (a .at) _ (c .before .before .before .before .strip-noop-unary .ensures) (c .before .before .before .node-at .ensures) (c .before .callee .given .1) in
     let u = i .2 in
-    let v = c .before .before .before .before .before .before .before .before .pre .1 in
+    let v = c .before .before .before .before .before .before .before .pre .1 in
     omega arith
 
 -- src/lib.rt:127:8
-should-auto-delete-requires : tie.Need-should-auto-delete-requires
-should-auto-delete-requires c κs = (c .before .before .before .before .before .before .before .before .before .pre .0 .types, c .before .before .before .before .before .before .before .before .before .pre .0 .structs, c .before .before .before .before .before .before .before .before .before .pre .0 .lower)
+auto-deleted-requires : tie.Need-auto-deleted-requires
+auto-deleted-requires c κs = search needs
 
 -- src/lib.rt:128:9
 returns-2 : tie.Need-returns-2
@@ -56,13 +57,13 @@ returns-2 c =
     let at-callee = c .before .before .before .before in
     let at-node-at = at-callee .before .before in
     let at-strip-noop-unary = at-node-at .before in
-    let start = at-strip-noop-unary .before .before .before .before in
+    let start = at-strip-noop-unary .before .before .before in
     let a = start .args in
     let strip = at-strip-noop-unary .strip-noop-unary in
     let i = callee-in (a .s .now) (a .at) _ (strip .ensures) (at-node-at .node-at .ensures) (at-callee .callee .given .1) in
     let u = i .1 in
     let v = i .2 in
-    (omega arith, λ T h e next st. callee-at (a .s .now) (a .at) _ (strip .ensures) (at-node-at .node-at .ensures) (at-callee .callee .given .1) T (auto-is (a .s .now) (a .ts .now) (a .xs .now) T h _ _ (c .before .before .peek-two .ensures .0) (c .before .should-auto-delete .ensures)) e next st (c .if1 .taken))
+    (omega arith, λ T h e next st. callee-at (a .s .now) (a .at) _ (strip .ensures) (at-node-at .node-at .ensures) (at-callee .callee .given .1) T (auto-is T _ _ (c .before .before .peek-two .ensures .0) (c .before .auto-deleted .ensures (a .s .now) T (start .pre .0) h)) e next st (c .if1 .taken))
 
 -- src/lib.rt:118:1
 returns-3 : tie.Need-returns-3
@@ -70,9 +71,9 @@ returns-3 c =
     let at-callee = c .before .before .before .before in
     let at-node-at = at-callee .before .before in
     let at-strip-noop-unary = at-node-at .before in
-    let start = at-strip-noop-unary .before .before .before .before in
+    let start = at-strip-noop-unary .before .before .before in
     let a = start .args in
-    (omega arith, λ T h e next st. kept-at (a .s .now) (a .at) _ (at-strip-noop-unary .strip-noop-unary .ensures) (at-node-at .node-at .ensures) (at-callee .callee .given .1) T (auto-is (a .s .now) (a .ts .now) (a .xs .now) T h _ _ (c .before .before .peek-two .ensures .0) (c .before .should-auto-delete .ensures)) e next st (c .if1 .left))
+    (omega arith, λ T h e next st. kept-at (a .s .now) (a .at) _ (at-strip-noop-unary .strip-noop-unary .ensures) (at-node-at .node-at .ensures) (at-callee .callee .given .1) T (auto-is T _ _ (c .before .before .peek-two .ensures .0) (c .before .auto-deleted .ensures (a .s .now) T (start .pre .0) h)) e next st (c .if1 .left))
 
 pub unused-callee-spec : {M : Type 1} → statement M
 unused-callee-spec =
@@ -84,6 +85,6 @@ unused-callee-spec =
     returns
     add-peek-two
     peek-two-requires
-    should-auto-delete-requires
+    auto-deleted-requires
     returns-2
     returns-3)

@@ -15,54 +15,54 @@ use Rattle.statements_acts.proofs.statement.Reads as statement-reads
 use Rattle.statements_changes.proofs.told.Reads as told-reads
 use Rattle.statements_changes.proofs.turn_of.Reads as turn-of-reads
 
--- src/lib.rt:169:15
+-- src/lib.rt:166:15
 shared-slice-read-tag : tie.Need-shared-slice-read-tag
-shared-slice-read-tag c = let r = c .before .before .before .before .before .before .before .before .before .pre in tag-inside _ _ (c .before .before .before .before .before .before .before .before .before .args .c) (r .3) (r .4) (r .5) .0
+shared-slice-read-tag c = let r = c .before .before .before .before .before .before .before .pre in tag-inside _ _ (c .before .before .before .before .before .before .before .args .c) (r .3) (r .4) (r .5) .0
 
--- src/lib.rt:173:9
+-- src/lib.rt:170:9
 told-requires : tie.Need-told-requires
 told-requires c κs = search needs
 
--- src/lib.rt:174:9
+-- src/lib.rt:171:9
 statement-requires : tie.Need-statement-requires
 statement-requires c κs =
-    let start = c .before .before .before .before .before .before .before .before .before .before .before .before .before in
+    let start = c .before .before .before .before .before .before .before .before .before .before .before in
     let r = start .pre in
     let e = c .before .before .before .told .ensures in
     (r .0, r .1, within-told e (r .3 .steady .inside), front-told _ _ _ _ e (front-there _ _ (start .args .c) (r .3) (r .4) (r .5)))
 
--- src/lib.rt:176:9
+-- src/lib.rt:173:9
 told-requires-2 : tie.Need-told-requires-2
 told-requires-2 c κs = search needs
 
--- src/lib.rt:179:18
+-- src/lib.rt:176:18
 sub-turn-of : tie.Need-sub-turn-of
 sub-turn-of c =
-    let start = c .before .before .before .before .before .before .before .before .before .before .before .before .before .before .before .before .before .before .before .before .before .before .before in
+    let start = c .before .before .before .before .before .before .before .before .before .before .before .before .before .before .before .before .before .before .before .before .before in
     let r = start .pre in let l = r .3 .steady .within (r .4) .some in omega arith
 
--- src/lib.rt:179:5
+-- src/lib.rt:176:5
 turn-of-requires : tie.Need-turn-of-requires
 turn-of-requires c κs = search needs
 
--- src/lib.rt:143:1
+-- src/lib.rt:142:1
 same-length : tie.Need-same-length
 same-length c = search needs
 
--- src/lib.rt:143:1
+-- src/lib.rt:142:1
 same-length-2 : tie.Need-same-length-2
 same-length-2 c = search needs
 
--- src/lib.rt:143:1
+-- src/lib.rt:142:1
 same-length-3 : tie.Need-same-length-3
 same-length-3 c = search needs
 
--- src/lib.rt:143:1
+-- src/lib.rt:142:1
 returns : tie.Need-returns
 returns c =
     let at-statement = c .before .before .before .before .before .before .before .before .before .before in
     let at-told = at-statement .before .before .before .before in
-    let at-shared-slice-known = at-told .before .before .before .before .before .before .before .before .before in
+    let at-shared-slice-known = at-told .before .before .before .before .before .before .before in
     let start = at-shared-slice-known .before in
     let a = start .args in
     let r = start .pre in

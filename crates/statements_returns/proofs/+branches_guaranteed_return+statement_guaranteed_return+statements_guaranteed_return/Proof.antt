@@ -19,7 +19,7 @@ use Rattle.image_fields.proofs.peek.Reads as peek-reads
 use Rattle.image_fields.proofs.two_at.Reads as two-at-reads
 use Rattle.statements_returns.proofs.both.Reads as both-reads
 use Rattle.statements_returns.proofs.front_at.Reads as front-at-reads
-use Rattle.statements_returns.proofs.wide16.Reads as wide16-reads
+use Rattle.image_fields.proofs.wide16.Reads as wide16-reads
 use Rattle.statements_returns.proofs.+branches_guaranteed_return+statement_guaranteed_return+statements_guaranteed_return.{statement}
 use Rattle.statements_returns.proofs.+branches_guaranteed_return+statement_guaranteed_return+statements_guaranteed_return.Tie.{close}
 

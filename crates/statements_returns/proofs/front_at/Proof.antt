@@ -1,4 +1,3 @@
-use Rattle.image_body.specs.Stmt.{headBytes, valueFlag, valueCount, typeWidth}
 use Rattle.statements_returns.proofs.Fronts.{front-made}
 use borrow.Author.Needs.{needs}
 use Rattle.statements_returns.proofs.front_at.Statement.{statement}
@@ -10,17 +9,11 @@ shared-slice-read-tag c = search needs
 wide-requires : tie.Need-wide-requires
 wide-requires c κs = search needs
 
-array-read-wide : tie.Need-array-read-wide
-array-read-wide c = search needs
+value-flag-requires : tie.Need-value-flag-requires
+value-flag-requires c κs = search needs
 
-wide-requires-2 : tie.Need-wide-requires-2
-wide-requires-2 c κs = search needs
-
-array-read-wide-2 : tie.Need-array-read-wide-2
-array-read-wide-2 c = search needs
-
-wide-requires-3 : tie.Need-wide-requires-3
-wide-requires-3 c κs = search needs
+head-bytes-requires : tie.Need-head-bytes-requires
+head-bytes-requires c κs = search needs
 
 add-head : tie.Need-add-head
 add-head c = search needs
@@ -28,30 +21,23 @@ add-head c = search needs
 flag-at-requires : tie.Need-flag-at-requires
 flag-at-requires c κs = search needs
 
-array-read-wide-3 : tie.Need-array-read-wide-3
-array-read-wide-3 c = search needs
+value-count-requires : tie.Need-value-count-requires
+value-count-requires c κs = search needs
 
-wide-requires-4 : tie.Need-wide-requires-4
-wide-requires-4 c κs = search needs
+add-t11 : tie.Need-add-t11
+add-t11 c = search needs
 
-add-t20 : tie.Need-add-t20
-add-t20 c = search needs
+cast-t12 : tie.Need-cast-t12
+cast-t12 c = search needs
 
-cast-t21 : tie.Need-cast-t21
-cast-t21 c = search needs
+add-t13 : tie.Need-add-t13
+add-t13 c = search needs
 
-add-t22 : tie.Need-add-t22
-add-t22 c = search needs
-
-array-read-wide-4 : tie.Need-array-read-wide-4
-array-read-wide-4 c = search needs
-
-wide-requires-5 : tie.Need-wide-requires-5
-wide-requires-5 c κs = search needs
+type-width-requires : tie.Need-type-width-requires
+type-width-requires c κs = search needs
 
 returns : tie.Need-returns
-unfolding headBytes valueFlag valueCount typeWidth
-returns c = front-made (c .before .before .before .before .before .before .before .before .args .s .now) (c .before .before .before .before .before .before .before .before .args .at) (c .before .before .before .before .before .wide .ensures .0) (c .before .wide4 .ensures .0) (c .before .before .before .wide3 .ensures .0) (c .before .before .before .before .wide2 .ensures .0) (c .before .before .flag-at .ensures .0) (c .wide5 .ensures .0)
+returns c = front-made (c .before .before .before .before .before .before .before .before .args .s .now) (c .before .before .before .before .before .before .before .before .args .at) (c .before .before .before .before .before .wide .ensures .0) (c .before .value-count .ensures .0) (c .before .before .before .head-bytes .ensures .0) (c .before .before .before .before .value-flag .ensures .0) (c .before .before .flag-at .ensures .0) (c .type-width .ensures .0)
 
 pub front-at-spec : {M : Type 1} → statement M
 front-at-spec =
@@ -59,17 +45,13 @@ front-at-spec =
     (tie.spec
     shared-slice-read-tag
     wide-requires
-    array-read-wide
-    wide-requires-2
-    array-read-wide-2
-    wide-requires-3
+    value-flag-requires
+    head-bytes-requires
     add-head
     flag-at-requires
-    array-read-wide-3
-    wide-requires-4
-    add-t20
-    cast-t21
-    add-t22
-    array-read-wide-4
-    wide-requires-5
+    value-count-requires
+    add-t11
+    cast-t12
+    add-t13
+    type-width-requires
     returns)

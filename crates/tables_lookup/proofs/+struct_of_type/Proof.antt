@@ -54,6 +54,9 @@ struct-of-type-mul-at t c = search needs
 struct-of-type-shared-slice-read-at : (t : ℕ) → struct-of-type-lts.Need-shared-slice-read-at (struct-of-type-claims t) (struct-of-type-at t) struct-of-type.Post
 struct-of-type-shared-slice-read-at t c = search needs
 
+struct-of-type-cast-at : (t : ℕ) → struct-of-type-lts.Need-cast-at (struct-of-type-claims t) (struct-of-type-at t) struct-of-type.Post
+struct-of-type-cast-at t c = let lt : _<_ (c .before .before .before .before .before .args .ty) (length (now (c .before .before .before .before .before .args .types))) = c .before .if1 .left in let h = c .before .before .before .before .before .pre .1 .0 _ lt in omega arith
+
 struct-of-type-peek-requires : (t : ℕ) → struct-of-type-lts.Need-peek-requires (struct-of-type-claims t) (struct-of-type-at t) struct-of-type.Post
 struct-of-type-peek-requires t c κs = search needs
 
@@ -101,6 +104,7 @@ pub +struct-of-type-spec : {M : Type 1} → statement M
     (struct-of-type-returns t)
     (struct-of-type-mul-at t)
     (struct-of-type-shared-slice-read-at t)
+    (struct-of-type-cast-at t)
     (struct-of-type-peek-requires t)
     (struct-of-type-add-peek-two t)
     (struct-of-type-peek-two-requires t)

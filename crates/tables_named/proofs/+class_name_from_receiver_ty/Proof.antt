@@ -52,6 +52,9 @@ class-name-from-receiver-ty-mul-at t c = search needs
 class-name-from-receiver-ty-shared-slice-read-at : (t : ℕ) → class-name-from-receiver-ty-lts.Need-shared-slice-read-at (class-name-from-receiver-ty-claims t) (class-name-from-receiver-ty-at t) class-name-from-receiver-ty.Post
 class-name-from-receiver-ty-shared-slice-read-at t c = search needs
 
+class-name-from-receiver-ty-cast-at : (t : ℕ) → class-name-from-receiver-ty-lts.Need-cast-at (class-name-from-receiver-ty-claims t) (class-name-from-receiver-ty-at t) class-name-from-receiver-ty.Post
+class-name-from-receiver-ty-cast-at t c = omega (arith, c .shared-slice-known3 .given (c .before .before .before .before .args .ty))
+
 class-name-from-receiver-ty-peek-requires : (t : ℕ) → class-name-from-receiver-ty-lts.Need-peek-requires (class-name-from-receiver-ty-claims t) (class-name-from-receiver-ty-at t) class-name-from-receiver-ty.Post
 class-name-from-receiver-ty-peek-requires t c κs = search needs
 
@@ -84,6 +87,7 @@ pub +class-name-from-receiver-ty-spec : {M : Type 1} → statement M
     (class-name-from-receiver-ty-returns t)
     (class-name-from-receiver-ty-mul-at t)
     (class-name-from-receiver-ty-shared-slice-read-at t)
+    (class-name-from-receiver-ty-cast-at t)
     (class-name-from-receiver-ty-peek-requires t)
     (class-name-from-receiver-ty-add-peek-two t)
     (class-name-from-receiver-ty-peek-two-requires t)

@@ -38,6 +38,12 @@ returns c = placing-stop _ _ _ (c .before .before .before .before .before .loop 
 enum-known-name : tie.Need-enum-known-name Inv-loop μ-loop
 enum-known-name c = search needs
 
+cast-structs : tie.Need-cast-structs Inv-loop μ-loop
+cast-structs c = let inv = c .before .before .before .before .before .loop .inv .0 in
+    let g = struct-read (c .before .before .before .read-struct .ensures (inv .0) (inv .2)) (c .before .name .given .1) in
+    let l = struct-in _ _ _ _ _ _ (g .1) .inside in
+    omega (arith, c .before .before .before .before .before .before .before .before .before .pre .3)
+
 mul-structs : tie.Need-mul-structs Inv-loop μ-loop
 mul-structs c = search needs
 
@@ -76,6 +82,7 @@ fill-structs-spec =
     same-length
     returns
     enum-known-name
+    cast-structs
     mul-structs
     slice-write-structs
     add-i

@@ -18,7 +18,7 @@ enum-known-n : tie.Need-enum-known-n
 enum-known-n c = search needs
 
 fill-structs-requires : tie.Need-fill-structs-requires
-fill-structs-requires c κs = let g = field-ok (number-ok (c .before .before .before .before .field .ensures) (c .before .before .n .given .1)) .small in (omega arith, c .before .before .before .before .before .before .before .before .pre .1, c .before .before .before .before .before .before .before .before .pre .2)
+fill-structs-requires c κs = let g = field-ok (number-ok (c .before .before .before .before .field .ensures) (c .before .before .n .given .1)) .small in let pre = c .before .before .before .before .before .before .before .before .pre in (omega arith, pre .1, pre .2, pre .3)
 
 returns : tie.Need-returns
 unfolding structsAt

@@ -1,4 +1,5 @@
 use Prim.Native.Nat.{_-_}
+use native.Mathlib.Omega.{arith}
 use borrow.Author.Tests.{eq-eqb, ne-eqb}
 use borrow.Author.Needs.{needs}
 use Rattle.tables_signatures.proofs.rises.Statement.{statement}
@@ -13,11 +14,17 @@ mul-a c = search needs
 shared-slice-read-a : tie.Need-shared-slice-read-a
 shared-slice-read-a c = search needs
 
+cast-a : tie.Need-cast-a
+cast-a c = omega (arith, c .shared-slice-known3 .given (c .before .before .before .before .args .last))
+
 mul-b : tie.Need-mul-b
 mul-b c = search needs
 
 shared-slice-read-b : tie.Need-shared-slice-read-b
 shared-slice-read-b c = search needs
+
+cast-b : tie.Need-cast-b
+cast-b c = omega (arith, c .shared-slice-known4 .given (c .before .before .before .before .before .args .name))
 
 below-name-requires : tie.Need-below-name-requires
 below-name-requires c κs = (c .before .before .before .before .before .pre .2 _ (c .before .before .before .before .before .pre .0), c .before .before .before .before .before .pre .2 _ (c .before .before .before .before .before .pre .1))
@@ -32,7 +39,9 @@ rises-spec =
     returns
     mul-a
     shared-slice-read-a
+    cast-a
     mul-b
     shared-slice-read-b
+    cast-b
     below-name-requires
     returns-2)

@@ -1,24 +1,34 @@
-use Prim.Native.Nat.{ℕ, _-_, _≤_, _<_}
+use Prim.Native.Nat.{_-_, _≤_}
 use mathlib.Core.Path.{_≡_, sym, _∙_, subst}
 use native.Mathlib.Omega.{arith}
-use borrow.Author.Needs.{needs}
-use lib.ListN.{getD}
-use denote.Ref.{now}
-use mathlib.Core.Bool.{false}
 use borrow.Author.Count.{below-more}
-use Rattle.tables.specs.Name.{nameOf, sameBytes}
+use borrow.Author.Needs.{needs}
+use denote.Ref.{now}
 use Rattle.tables.proofs.Names.{none-among, some-among}
+use Rattle.tables.proofs.Keys.{Others, others-all, others-start, others-next}
 use Rattle.tables.proofs.name.repeated_name.Statement.{statement}
 use Rattle.tables.proofs.name.repeated_name.Tie as tie
 
 abbrev Inv-loop : tie.InvT-loop
-Inv-loop s starts i p j₀ j = (j ≤ i) × ((k : ℕ) → k < j → sameBytes (nameOf s (getD starts k 0)) (nameOf s p) ≡ false)
+Inv-loop s starts keys i key p j₀ j = (j ≤ i) × Others s starts p j
 
 abbrev μ-loop : tie.MeasureT-loop
-μ-loop s starts i p j₀ j = i - j
+μ-loop s starts keys i key p j₀ j = i - j
+
+has-key-requires : tie.Need-has-key-requires Inv-loop μ-loop
+has-key-requires c κs = search needs
+
+returns : tie.Need-returns Inv-loop μ-loop
+returns c = let pre = c .before .before .before .before .before .pre in
+    none-among _ _ _ _ (pre .0) (others-all _ _ _ _ _ _ (pre .5) (pre .3) (pre .1) (c .before .has-key .ensures) (c .if1 .taken))
+
+next-key-requires : tie.Need-next-key-requires Inv-loop μ-loop
+next-key-requires c κs = search needs
 
 loop-holds : tie.Need-loop-holds Inv-loop μ-loop
-loop-holds c = (omega arith, λ k lt. absurd (omega arith))
+loop-holds c = let pre = c .before .before .before .before .before .before .pre in
+    let next = c .next-key .ensures in
+    (next .1, others-start _ _ _ _ _ _ (pre .5) (pre .3) (next .1) (next .3))
 
 mul-q : tie.Need-mul-q Inv-loop μ-loop
 mul-q c = search needs
@@ -26,24 +36,36 @@ mul-q c = search needs
 shared-slice-read-q : tie.Need-shared-slice-read-q Inv-loop μ-loop
 shared-slice-read-q c = search needs
 
+cast-q : tie.Need-cast-q Inv-loop μ-loop
+cast-q c = omega (arith, c .shared-slice-known4 .given (c .before .before .loop .j))
+
 same-name-requires : tie.Need-same-name-requires Inv-loop μ-loop
-same-name-requires c κs = (c .before .before .before .before .before .pre .2 _ (c .before .loop-test .taken), c .before .before .before .before .before .pre .1)
+same-name-requires c κs = let pre = c .before .before .before .before .before .before .before .before .before .pre in
+    let l = pre .4 _ (c .before .loop-test .taken) in (omega arith, omega arith)
 
-returns : tie.Need-returns Inv-loop μ-loop
-returns c = some-among _ _ _ _ (c .before .before .before .before .loop .j) (c .before .before .before .before .before .before .before .pre .0) (c .before .before .before .loop-test .taken) (sym (c .before .same-name .ensures) ∙ c .if1 .taken)
+returns-2 : tie.Need-returns-2 Inv-loop μ-loop
+returns-2 c = some-among _ _ _ _ (c .before .before .before .before .loop .j) (c .before .before .before .before .before .before .before .before .before .before .before .pre .0) (c .before .before .before .loop-test .taken) (sym (c .before .same-name .ensures) ∙ c .if2 .taken)
 
-add-j : tie.Need-add-j Inv-loop μ-loop
-add-j c = search needs
+add-next-key : tie.Need-add-next-key Inv-loop μ-loop
+add-next-key c = search needs
+
+next-key-requires-2 : tie.Need-next-key-requires-2 Inv-loop μ-loop
+next-key-requires-2 c κs = search needs
 
 loop-less : tie.Need-loop-less Inv-loop μ-loop
 loop-less c = search needs
 
 loop-again : tie.Need-loop-again Inv-loop μ-loop
-loop-again c = (omega arith, below-more _ _ (c .before .before .before .before .loop .inv .1) (sym (c .before .same-name .ensures) ∙ c .if1 .left))
+loop-again c = let pre = c .before .before .before .before .before .before .before .before .before .before .before .before .pre in
+    let at-loop = c .before .before .before .before .before in
+    let next = c .next-key2 .ensures in
+    let all = below-more _ _ (at-loop .loop .inv .1) (sym (c .before .before .same-name .ensures) ∙ c .before .if2 .left) in
+    (next .1, others-next _ _ _ _ _ _ (pre .5) (pre .3) (next .1) (at-loop .loop .j) all (next .3))
 
-returns-2 : tie.Need-returns-2 Inv-loop μ-loop
-returns-2 c = let e : c .before .loop .j ≡ c .before .before .before .before .args .i = omega arith in
-    none-among _ _ _ _ (c .before .before .before .before .pre .0) (subst (λ x. (k : ℕ) → k < x → sameBytes (nameOf (now (c .before .before .before .before .args .s)) (getD (now (c .before .before .before .before .args .starts)) k 0)) (nameOf (now (c .before .before .before .before .args .s)) (c .before .before .before .before .args .p)) ≡ false) e (c .before .loop .inv .1))
+returns-3 : tie.Need-returns-3 Inv-loop μ-loop
+returns-3 c = let start = c .before .before .before .before .before .before .before .before in
+    let e : c .before .loop .j ≡ start .args .i = omega arith in
+    none-among _ _ _ _ (start .pre .0) (subst (Others (now (start .args .s)) (now (start .args .starts)) (start .args .p)) e (c .before .loop .inv .1))
 
 pub repeated-name-spec : {M : Type 1} → statement M
 repeated-name-spec =
@@ -51,12 +73,17 @@ repeated-name-spec =
     (tie.spec
     Inv-loop
     μ-loop
+    has-key-requires
+    returns
+    next-key-requires
     loop-holds
     mul-q
     shared-slice-read-q
+    cast-q
     same-name-requires
-    returns
-    add-j
+    returns-2
+    add-next-key
+    next-key-requires-2
     loop-less
     loop-again
-    returns-2)
+    returns-3)

@@ -3,7 +3,7 @@ use mathlib.Core.Path.{_≡_, refl, sym, _∙_}
 use native.Mathlib.Omega.{arith}
 use borrow.Author.Needs.{needs}
 use lib.ListN.{length, length-set}
-use Rattle.tables.proofs.Types.{Flagging, flagging-start, flagging-stop, flagging-done, flagging-next, type-read, type-fault}
+use Rattle.tables.proofs.Types.{Flagging, flagging-start, flagging-stop, flagging-done, flagging-next, type-read, type-fault, type-in}
 use Rattle.tables.proofs.ty.fill_types.Statement.{statement}
 use Rattle.tables.proofs.ty.fill_types.Tie as tie
 
@@ -39,6 +39,12 @@ generic-flag-requires c κs = search needs
 
 slice-write-flags : tie.Need-slice-write-flags Inv-loop μ-loop
 slice-write-flags c = let h = c .before .before .before .before .before .before .before .loop .inv .0 .high in omega arith
+
+cast-starts : tie.Need-cast-starts Inv-loop μ-loop
+cast-starts c = let inv = c .before .before .before .before .before .before .before .loop .inv .0 in
+    let g = type-read (c .before .before .before .before .before .read-type .ensures (inv .ts) (inv .place .fill .many)) (c .before .before .before .kind .given .1) in
+    let l = type-in _ _ _ _ _ _ (g .1) .inside in
+    omega (arith, c .before .before .before .before .before .before .before .before .before .before .before .pre .2)
 
 mul-starts : tie.Need-mul-starts Inv-loop μ-loop
 mul-starts c = search needs
@@ -80,6 +86,7 @@ fill-types-spec =
     enum-known-kind
     generic-flag-requires
     slice-write-flags
+    cast-starts
     mul-starts
     slice-write-starts
     add-i

@@ -19,7 +19,7 @@ returns : tie.Need-returns
 returns c = types-few _ _ _ _ _ (number-ok (c .before .before .before .before .field .ensures) (c .before .before .n .given .1)) (c .if1 .taken)
 
 fill-types-requires : tie.Need-fill-types-requires
-fill-types-requires c κs = let g = field-ok (number-ok (c .before .before .before .before .before .before .field .ensures) (c .before .before .before .before .n .given .1)) .small in (omega arith, omega arith)
+fill-types-requires c κs = let g = field-ok (number-ok (c .before .before .before .before .before .before .field .ensures) (c .before .before .before .before .n .given .1)) .small in (omega arith, omega arith, omega arith)
 
 returns-2 : tie.Need-returns-2
 returns-2 c = types-none _ _ _ _ _ (number-wrong (c .before .before .before .field .ensures) (c .before .f .given .1))
