@@ -1,0 +1,4 @@
+-- Rows by computation, then what holds of every page.
+pub mod Rows
+pub mod Shape
+pub mod Reading
