@@ -15,7 +15,7 @@
  * valid for its length; what is written to must overlap neither the image nor any other memory lent in the same call. The calls hold
  * no state, allocate nothing and keep no pointer: threads may call them at one time, each with memory of its own to write to.
  *
- * Machine stack: give a thread that calls them 1 MB. Measured (bench/memory.c), ownership_pass takes up to 163,240 bytes and
+ * Machine stack: give a thread that calls them 1 MB. Measured (bench/memory.c), ownership_pass takes up to 224,312 bytes and
  * ownership_room 124,424. Nothing proves a bound, and a stack that is too small ends the process.
  *
  * An image of n bytes without faults 1 to 13 has, with m = n - 28 and rounded down, at most m / 7 errors, m / 21 warnings and 8 * m

@@ -76,11 +76,12 @@ pub fn all() -> Vec<(String, Image)> {
 }
 
 /// Around the sizes of the memory that the library has of its own: for images of at most 512 bytes 1,024 bytes, 8 errors, 17 entries of the
-/// other lists and rows for 32 joined states; for images of at most 2,048 bytes 4,096 bytes, 32 entries a list and rows for 128; for longer
-/// ones 65,536 bytes, 512 entries and rows for 1,472. Where one does not reach, the next is tried.
+/// other lists and rows for 32 joined states; for images of at most 2,048 bytes 4,096 bytes, 32 entries a list and rows for 128; for images
+/// of at most 16,384 bytes 32,768 bytes, 256 entries and rows for 512; for longer ones 65,536 bytes, 512 entries and rows for 1,472. Where
+/// one does not reach, the next is tried.
 pub fn own_memory() -> Vec<(String, Image)> {
     let mut list: Vec<(String, Image)> = vec![];
-    for total in (510..515).chain(2_046..2_051) {
+    for total in (510..515).chain(2_046..2_051).chain(16_382..16_387) {
         list.push((format!("{total} bytes"), long(total)));
     }
     // 16 parameters of one name, given up in two branches, so that each has two places; then ifs with else in one another
@@ -92,17 +93,18 @@ pub fn own_memory() -> Vec<(String, Image)> {
         }
         list.push((format!("joined states, ifs {deep} deep"), body(&[V; 16], [vec![gone(22), gone(23)], inner].concat())));
     }
-    for n in [7, 8, 9, 16, 17, 18, 31, 32, 33, 511, 512, 513] {
+    for n in [7, 8, 9, 16, 17, 18, 31, 32, 33, 255, 256, 257, 511, 512, 513] {
         let errors = (0..n).map(|i| run(21, ident(i as SpanNo, V))).collect();
         list.push((format!("{n} errors, own memory"), body(&[V], [vec![deletion(20, V)], errors].concat())));
         let warnings = (0..n).map(|i| run(i as SpanNo, call(21, T, literal(), vec![]))).collect();
         list.push((format!("{n} warnings, own memory"), body(&[], warnings)));
         list.push((format!("{n} left behind, own memory"), body(&[V], (0..n).map(|i| back(i as SpanNo)).collect())));
     }
-    // 32 locals and two returns of a literal: 96 deletes
-    for total in 4_090..4_102 {
-        let mut i = body(&[], [locals(32), vec![give(20, literal()); 3]].concat());
-        let length = write(&i).bytes.len() + 21 * 32 * 4;
+    // 32 locals and returns of a literal: 32 deletes before each
+    for total in (4_090..4_102).chain(32_762..32_774) {
+        let returns = if total < 8_192 { 3 } else { 40 };
+        let mut i = body(&[], [locals(32), vec![give(20, literal()); returns]].concat());
+        let length = write(&i).bytes.len() + 21 * 32 * (returns + 1);
         i.names.extend((0..(total - length) / 60).map(|n| format!("{n:059}").into_bytes()));
         let rest = (total - length) % 60;
         i.names.extend((rest > 1).then(|| vec![b'x'; rest - 1]));
@@ -111,13 +113,14 @@ pub fn own_memory() -> Vec<(String, Image)> {
     list
 }
 
-/// The deepest that is accepted: 12 blocks, in each an expression 24 deep, and 64 locals, by each way to nest; short of 2,048 bytes and
-/// over, and with a local whose type is inline arrays as deep as they go.
+/// The deepest that is accepted: 12 blocks, in each an expression 24 deep, and 64 locals, by each way to nest; short of 2,048 bytes, over
+/// them and over 16,384, each of which has memory of its own size, and with a local whose type is inline arrays as deep as they go.
 pub fn deepest() -> Vec<(String, Image)> {
     let mut list: Vec<(String, Image)> = vec![];
     for (label, way) in [("blocks", 0), ("then", 1), ("else", 2), ("loops", 3), ("each in turn", 4)] {
-        for (size, lets, arrays) in [("short", 4, 0), ("long", 64, 0), ("deep type", 64, 253)] {
-            let tables = body(&[V, W], vec![]);
+        for (size, lets, arrays, more) in [("short", 4, 0, 0), ("long", 64, 0, 0), ("deep type", 64, 253, 0), ("longest", 64, 253, 300)] {
+            let mut tables = body(&[V, W], vec![]);
+            tables.names.extend((0..more).map(|n| format!("{n:059}").into_bytes()));
             let mut types = tables.types.clone();
             (0..arrays).for_each(|_| types.push(Ty::Array(if types.len() == 3 { T } else { types.len() as TyNo - 1 })));
             let last = set(29, W, if arrays == 0 { T } else { types.len() as TyNo - 1 }, literal());
