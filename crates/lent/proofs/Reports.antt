@@ -15,7 +15,18 @@ use Rattle.rules.specs.Report.{Report as Reported, error, warning, left, errors
 use Rattle.rules.specs.Verdict.{entryOf, entriesOf, answerOf}
 use Rattle.lent.specs.declared.Report.{Report}
 use Rattle.lent.proofs.Records.{plenty}
-use Rattle.lent.specs.Records.{recordAt, records, recordOf, recordsOf, tooFew, Writes}
+use Rattle.lent.specs.Records.{recordAt, records, tooFew, Writes}
+
+-- the record of an error of the rules: its other places, unused ones 0
+abbrev pub recordOf : ℕ → ℕ → ℕ → List ℕ → Report
+recordOf k p h ps = record { kind = k; place = p; hint = h; count = length ps; places = take 8 (ps ++ replicate 8 0) }
+
+-- the records of the errors among what the rules report
+abbrev pub recordsOf : List Reported → List Report
+recordsOf [] = []
+recordsOf (error k p h ps ∷ rs) = recordOf k p h ps ∷ recordsOf rs
+recordsOf (warning s o ∷ rs) = recordsOf rs
+recordsOf (left s n ∷ rs) = recordsOf rs
 
 -- 14 exactly where there are too few structs or numbers, and then nothing changes
 pub too-few : (ns : List ℕ) (n : ℕ) (old new : List Report) (fault : ℕ) → Writes ns n old new fault

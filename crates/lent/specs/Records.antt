@@ -4,8 +4,7 @@ use mathlib.Core.Path.{_≡_}
 use mathlib.Core.Bool.{Bool, cond, _||_}
 use mathlib.Core.List.{List, [], _∷_, _++_}
 use lib.Dec.{ltb}
-use lib.ListN.{length, getD, take, drop, replicate}
-use Rattle.rules.specs.Report.{Report as Reported, error, warning, left}
+use lib.ListN.{length, getD, drop}
 use Rattle.lent.specs.declared.Report.{Report}
 
 -- the record of error i, of its 12 numbers
@@ -32,14 +31,3 @@ tooFew ns n old = ltb (length old) n || ltb (length ns) (12 * n)
 pub record Writes (ns : List ℕ) (n : ℕ) (old new : List Report) (fault : ℕ) : Type 0 where
   pub answer : fault ≡ cond (tooFew ns n old) 14 0
   pub structs : new ≡ cond (tooFew ns n old) old (records ns n ++ drop n old)
-
--- the record of an error of the rules: its other places, unused ones 0
-abbrev pub recordOf : ℕ → ℕ → ℕ → List ℕ → Report
-recordOf k p h ps = record { kind = k; place = p; hint = h; count = length ps; places = take 8 (ps ++ replicate 8 0) }
-
--- the records of the errors among what the rules report
-abbrev pub recordsOf : List Reported → List Report
-recordsOf [] = []
-recordsOf (error k p h ps ∷ rs) = recordOf k p h ps ∷ recordsOf rs
-recordsOf (warning s o ∷ rs) = recordsOf rs
-recordsOf (left s n ∷ rs) = recordsOf rs

@@ -27,11 +27,11 @@ returns c = refused-read (c .before .before .before .before .before .before .bef
 size-for-requires : tie.Need-size-for-requires
 size-for-requires c κs = search needs
 
--- src/lib.rt:44:39
+-- src/lib.rt:44:37
 slice-aggregate-verdict : tie.Need-slice-aggregate-verdict
 slice-aggregate-verdict c = search needs
 
--- src/lib.rt:44:44
+-- src/lib.rt:44:42
 first-env-requires : tie.Need-first-env-requires
 first-env-requires c κs = search needs
 

@@ -11,83 +11,83 @@ Inv-loop a b i₀ i = Unit {0}
 abbrev μ-loop : tie.MeasureT-loop
 μ-loop a b i₀ i = 64 - i
 
--- src/main.rt:158:9
+-- src/main.rt:163:9
 returns : tie.Need-returns Inv-loop μ-loop
 returns c = search needs
 
--- src/main.rt:161:9
+-- src/main.rt:166:9
 returns-2 : tie.Need-returns-2 Inv-loop μ-loop
 returns-2 c = search needs
 
--- src/main.rt:164:5
+-- src/main.rt:169:5
 loop-holds : tie.Need-loop-holds Inv-loop μ-loop
 loop-holds c = search needs
 
--- src/main.rt:165:12
+-- src/main.rt:170:12
 mul-if3 : tie.Need-mul-if3 Inv-loop μ-loop
 mul-if3 c = search needs
 
--- src/main.rt:165:12
+-- src/main.rt:170:12
 element-copy-out-if3 : tie.Need-element-copy-out-if3 Inv-loop μ-loop
 element-copy-out-if3 c = search needs
 
--- src/main.rt:165:26
+-- src/main.rt:170:26
 mul-if3-2 : tie.Need-mul-if3-2 Inv-loop μ-loop
 mul-if3-2 c = search needs
 
--- src/main.rt:165:26
+-- src/main.rt:170:26
 element-copy-out-if3-2 : tie.Need-element-copy-out-if3-2 Inv-loop μ-loop
 element-copy-out-if3-2 c = search needs
 
--- src/main.rt:166:13
+-- src/main.rt:171:13
 returns-3 : tie.Need-returns-3 Inv-loop μ-loop
 returns-3 c = search needs
 
--- src/main.rt:168:12
+-- src/main.rt:173:12
 mul-if4 : tie.Need-mul-if4 Inv-loop μ-loop
 mul-if4 c = search needs
 
--- src/main.rt:168:12
+-- src/main.rt:173:12
 element-copy-out-if4 : tie.Need-element-copy-out-if4 Inv-loop μ-loop
 element-copy-out-if4 c = search needs
 
--- src/main.rt:168:26
+-- src/main.rt:173:26
 mul-if4-2 : tie.Need-mul-if4-2 Inv-loop μ-loop
 mul-if4-2 c = search needs
 
--- src/main.rt:168:26
+-- src/main.rt:173:26
 element-copy-out-if4-2 : tie.Need-element-copy-out-if4-2 Inv-loop μ-loop
 element-copy-out-if4-2 c = search needs
 
--- src/main.rt:169:13
+-- src/main.rt:174:13
 returns-4 : tie.Need-returns-4 Inv-loop μ-loop
 returns-4 c = search needs
 
--- src/main.rt:171:12
+-- src/main.rt:176:12
 element-copy-out-if5 : tie.Need-element-copy-out-if5 Inv-loop μ-loop
 element-copy-out-if5 c = search needs
 
--- src/main.rt:171:27
+-- src/main.rt:176:27
 element-copy-out-if5-2 : tie.Need-element-copy-out-if5-2 Inv-loop μ-loop
 element-copy-out-if5-2 c = search needs
 
--- src/main.rt:172:13
+-- src/main.rt:177:13
 returns-5 : tie.Need-returns-5 Inv-loop μ-loop
 returns-5 c = search needs
 
--- src/main.rt:174:9
+-- src/main.rt:179:9
 add-i : tie.Need-add-i Inv-loop μ-loop
 add-i c = search needs
 
--- src/main.rt:164:5
+-- src/main.rt:169:5
 loop-less : tie.Need-loop-less Inv-loop μ-loop
 loop-less c = search needs
 
--- src/main.rt:164:5
+-- src/main.rt:169:5
 loop-again : tie.Need-loop-again Inv-loop μ-loop
 loop-again c = search needs
 
--- src/main.rt:156:1
+-- src/main.rt:161:1
 returns-6 : tie.Need-returns-6 Inv-loop μ-loop
 returns-6 c = search needs
 
