@@ -5,8 +5,9 @@ use native.Mathlib.Omega.{arith}
 use mathlib.Core.Path.{_≡_, refl, sym, ap, _∙_, subst}
 use mathlib.Core.Bool.{Bool, true, false}
 use mathlib.Core.List.{List}
-use mathlib.Core.Logic.{inl, inr}
+use mathlib.Core.Logic.{inl, inr, ⊎-elim}
 use lib.ListN.{length}
+use Rattle.image_fields.proofs.Tests.{less}
 use Rattle.tables.specs.Tables.{Tables}
 use Rattle.rules.specs.State.{State as Status}
 use Rattle.rules.specs.Stack.{Stack as Scope}
@@ -19,15 +20,17 @@ use Rattle.statements_acts.specs.Act.{Within, Grows as Further}
 use Rattle.scope_stack.specs.declared.Locals.{Locals}
 use Rattle.scope_stack.specs.declared.States.{States}
 use Rattle.scope_stack.specs.View.{rowOf, view, Sound}
-use Rattle.scope_stack.specs.Rows.{Copied, Copies}
-use Rattle.scope_stack.proofs.Scopes.{view-same, rowed-same, view-copied, rowed-copied, nested-view}
+use Rattle.scope_rows.specs.Rows.{Copied, Copies}
+use Rattle.scope_stack.proofs.Scopes.{nested-view}
+use Rattle.scope_rows.proofs.Elsewhere.{view-same, rowed-same, view-copied, rowed-copied}
 use Rattle.statements_changes.specs.Turns.{retold}
-use Rattle.blocks_laws.specs.Walks.{BlockWalks}
+use Rattle.blocks_laws.specs.Walks.{Walked, BlockWalks}
 use Rattle.blocks_laws.specs.Ends.{Merges}
 use Rattle.blocks_ends.specs.declared.Env.{Env}
-use Rattle.blocks_ends.specs.Ends.{placeIn, faultIn, sureIn, walkedIn, behindOf, Below, RowsStand, Branches, MergesIn}
+use Rattle.blocks_ends.specs.Ends.{placeIn, faultIn, sureIn, walkedIn}
+use Rattle.blocks_merge.specs.Merges.{behindOf, Below, RowsStand, Branches, MergesIn, MergesElse}
 use Rattle.blocks.specs.Blocks.{Enters, Comes, blockRows, stmtRows, ElseMerges}
-use Rattle.blocks_ends.proofs.Numbers.{rows-few}
+use Rattle.blocks_ends.proofs.Numbers.{rows-few, no-fault}
 use Rattle.blocks.proofs.Standing.{below-both}
 use Rattle.blocks.proofs.Ending.{fault-walks}
 
@@ -124,9 +127,9 @@ module _ (env r : Env) (at : ℕ) (is : r ≡ movedOf env at) where
   pub branches-at : {n : ℕ} {t u v : States} {rows : List ℕ} → Branches n t u v rows (env .cur) (env .width) at → Branches n t u v rows (env .cur) (env .width) (r .cur)
   branches-at {n} {t} {u} {v} {rows} h = subst (λ (x : Env). Branches n t u v rows (env .cur) (env .width) (x .cur)) (sym is) h
 
-  pub merges-at : {x y : Bool} {n : ℕ} {t u v : States} {rows pl : List ℕ} {o : States} {rows′ pl′ : List ℕ} → MergesIn x y n t u v rows (env .cur) (env .width) (r .cur) pl o rows′ pl′
-      → MergesIn x y n t u v rows (env .cur) (env .width) at pl o rows′ pl′
-  merges-at {x} {y} {n} {t} {u} {v} {rows} {pl} {o} {rows′} {pl′} h = subst (λ (z : Env). MergesIn x y n t u v rows (env .cur) (env .width) (z .cur) pl o rows′ pl′) is h
+  pub merges-at : {x : Bool} {n : ℕ} {t u v : States} {rows pl : List ℕ} {o : States} {rows′ pl′ : List ℕ} → MergesElse x n t u v rows (env .cur) (env .width) (r .cur) pl o rows′ pl′
+      → MergesElse x n t u v rows (env .cur) (env .width) at pl o rows′ pl′
+  merges-at {x} {n} {t} {u} {v} {rows} {pl} {o} {rows′} {pl′} h = subst (λ (z : Env). MergesElse x n t u v rows (env .cur) (env .width) (z .cur) pl o rows′ pl′) is h
 
   -- what a branch's block is asked
   pub block-asked : {s tb : List ℕ} {l : Locals} {t : States} {rows : List ℕ} {p : Place} (nodes pl : List ℕ) → Enters s tb r l t rows p → BlockThere s (env .left) (p .at)
@@ -179,10 +182,10 @@ module _ (s tb : List ℕ) (env : Env) (l : Locals) (t first : States) (rows pl 
     whole : Below b rows rows₂
     whole = below-both b b rows rows₁ rows₂ (omega arith) (branch-below s tb env l t rows (placeIn pl) h b c) (come .below)
 
-    pub else-below : Below (env .cur) rows rows₂
+    else-below : Below (env .cur) rows rows₂
     else-below = let f = few s tb env l t rows (placeIn pl) h in below-less (env .cur) b rows rows₂ (omega arith) whole
 
-    pub else-least : faultIn pl₂ ≡ 254 → length rows < stmtRows (env .cur) (env .left)
+    else-least : faultIn pl₂ ≡ 254 → length rows < stmtRows (env .cur) (env .left)
     else-least z =
         let q = come .short z in
         let r : length rows₁ ≡ length rows = c .rest .room in
@@ -214,7 +217,7 @@ module _ (s tb : List ℕ) (env : Env) (l : Locals) (t first : States) (rows pl 
           (branch-view s tb env l t rows (placeIn pl) h b c yes) walks
 
       -- its fault
-      pub else-fault : 0 < faultIn pl₂ → ElseMerges T s (env .left) (12 - env .left) (sureIn pl) (view l t rows (env .cur) (env .width)) (view l first rows a (env .width)) (placeIn pl) m
+      else-fault : 0 < faultIn pl₂ → ElseMerges T s (env .left) (12 - env .left) (sureIn pl) (view l t rows (env .cur) (env .width)) (view l first rows a (env .width)) (placeIn pl) m
           (walkedIn pl₂ (view l other rows₂ (env .cur) (env .width))) m₂
       else-fault lt = record {
         w = walkedIn pl₂ (view l other rows₂ (env .cur) (env .width));
@@ -224,7 +227,7 @@ module _ (s tb : List ℕ) (env : Env) (l : Locals) (t first : States) (rows pl 
       }
 
       -- or the merge behind it
-      pub else-merges : faultIn pl₂ ≡ 0 → {r : States} {rows₃ pl₃ : List ℕ} → MergesIn (sureIn pl) (sureIn pl₂) (l .count) t first other rows₂ (env .cur) (env .width) b pl₂ r rows₃ pl₃
+      else-merges : faultIn pl₂ ≡ 0 → {r : States} {rows₃ pl₃ : List ℕ} → MergesIn (sureIn pl) (sureIn pl₂) (l .count) t first other rows₂ (env .cur) (env .width) b pl₂ r rows₃ pl₃
           → (faultIn pl₃ ≡ 254 → ⊥)
           → ElseMerges T s (env .left) (12 - env .left) (sureIn pl) (view l t rows (env .cur) (env .width)) (view l first rows a (env .width)) (placeIn pl) m
           (walkedIn pl₃ (view l r rows₃ (env .cur) (env .width))) m₂
@@ -238,7 +241,7 @@ module _ (s tb : List ℕ) (env : Env) (l : Locals) (t first : States) (rows pl 
             (record { fault = g .fault reach l refl; place = g .place; locals = λ x. g .locals x l refl }));
       }
 
-    pub else-comes : faultIn pl₂ ≡ 0 → {r : States} {rows₃ pl₃ : List ℕ} {x y : Bool} → MergesIn x y (l .count) t first other rows₂ (env .cur) (env .width) b pl₂ r rows₃ pl₃
+    else-comes : faultIn pl₂ ≡ 0 → {r : States} {rows₃ pl₃ : List ℕ} {x y : Bool} → MergesIn x y (l .count) t first other rows₂ (env .cur) (env .width) b pl₂ r rows₃ pl₃
         → Comes s (env .cur) (env .width) (stmtRows (env .cur) (env .left)) l rows (placeIn pl) r rows₃ pl₃
     else-comes z {r} {rows₃} {pl₃} g = record {
       room = g .room;
@@ -253,3 +256,36 @@ module _ (s tb : List ℕ) (env : Env) (l : Locals) (t first : States) (rows pl 
       within = λ q. subst (Within s) (sym (g .place)) (come .within z);
       grows = λ q. subst (λ (x : Place). Further s (retold (placeIn pl) 0) (retold x 0)) (sym (g .place)) (come .grows z);
     }
+
+    -- whatever the merge is told
+    module _ {x : Bool} {r : States} {rows₃ pl₃ : List ℕ} (g : MergesElse x (l .count) t first other rows₂ (env .cur) (env .width) b pl₂ r rows₃ pl₃) where
+      pub merged-comes : Comes s (env .cur) (env .width) (stmtRows (env .cur) (env .left)) l rows (placeIn pl) r rows₃ pl₃
+      merged-comes =
+          ⊎-elim
+          (λ (q : 0 < faultIn pl₂). let e = g .faulty q in
+          subst (λ (z : List ℕ). Comes s (env .cur) (env .width) (stmtRows (env .cur) (env .left)) l rows (placeIn pl) r rows₃ z) (sym (e .2))
+          (subst (λ (z : List ℕ). Comes s (env .cur) (env .width) (stmtRows (env .cur) (env .left)) l rows (placeIn pl) r z pl₂) (sym (e .1))
+          (comes-faulty s (env .cur) (env .width) (stmtRows (env .cur) (env .left)) l rows (placeIn pl) r rows₂ pl₂ (come .room) q else-below else-least)))
+          (λ (q : faultIn pl₂ ≤ 0). else-comes (no-fault q) (g .merges (no-fault q)))
+          (less 0 (faultIn pl₂))
+
+      reach-first : (faultIn pl₃ ≡ 254 → ⊥) → faultIn pl₂ ≡ 254 → ⊥
+      reach-first reach z = reach (ap faultIn (g .faulty (omega arith) .2) ∙ z)
+
+    module _ (T : Tables) (m m₂ : Memory) where
+      abbrev Left : Walked → Type 0
+      Left v = ElseMerges T s (env .left) (12 - env .left) (sureIn pl) (view l t rows (env .cur) (env .width)) (view l first rows a (env .width)) (placeIn pl) m v m₂
+
+      pub else-merged : {r : States} {rows₃ pl₃ : List ℕ} → MergesElse (sureIn pl) (l .count) t first other rows₂ (env .cur) (env .width) b pl₂ r rows₃ pl₃
+          → ((faultIn pl₂ ≡ 254 → ⊥) → BlockWalks T s (env .left) (suc (12 - env .left)) (view l t rows₁ b (env .width)) (placeIn pl) m (walkedIn pl₂ (view l other rows₂ b (env .width))) m₂)
+          → (faultIn pl₃ ≡ 254 → ⊥)
+          → ElseMerges T s (env .left) (12 - env .left) (sureIn pl) (view l t rows (env .cur) (env .width)) (view l first rows a (env .width)) (placeIn pl) m (walkedIn pl₃ (view l r rows₃ (env .cur) (env .width))) m₂
+      else-merged {r} {rows₃} {pl₃} g walks reach =
+          let w = walks (reach-first g reach) in
+          ⊎-elim
+          (λ (q : 0 < faultIn pl₂). let e = g .faulty q in
+          subst (λ (z : List ℕ). Left (walkedIn z (view l r rows₃ (env .cur) (env .width)))) (sym (e .2))
+          (subst (λ (z : List ℕ). Left (walkedIn pl₂ (view l r z (env .cur) (env .width)))) (sym (e .1))
+          (subst (λ (z : States). Left (walkedIn pl₂ (view l z rows₂ (env .cur) (env .width)))) (sym (e .0)) (else-fault T m m₂ w q))))
+          (λ (q : faultIn pl₂ ≤ 0). else-merges T m m₂ w (no-fault q) (g .merges (no-fault q)) reach)
+          (less 0 (faultIn pl₂))

@@ -3,13 +3,12 @@
 use Prim.Native.Nat.{ℕ, suc, _+_, _-_, _≤_, _<_}
 use native.Mathlib.Omega.{arith}
 use mathlib.Core.Path.{_≡_, refl, sym, ap, _∙_, subst}
-use mathlib.Core.Bool.{Bool, false, _&&_}
+use mathlib.Core.Bool.{false}
 use mathlib.Core.List.{List}
-use lib.ListN.{length, getD}
+use lib.ListN.{length}
 use Rattle.image_fields.specs.Number.{two, four}
 use Rattle.image_fields.specs.Bytes.{Bytes, fourBytes}
 use Rattle.tables.specs.Tables.{Tables}
-use Rattle.rules.specs.Questions.{auto}
 use Rattle.rules.specs.State.{State as Status}
 use Rattle.rules.specs.Stack.{shape, pop, Stack as Scope}
 use Rattle.tables_lookup.specs.Lent.{Says}
@@ -23,14 +22,10 @@ use Rattle.statements_acts.specs.declared.Place.{Place}
 use Rattle.statements_acts.specs.Act.{Within, Grows as Further}
 use Rattle.scope_stack.specs.declared.Locals.{Locals}
 use Rattle.scope_stack.specs.declared.States.{States}
-use Rattle.scope_stack.specs.Word.{wordOf}
-use Rattle.scope_stack.specs.View.{view, stateAt, rowOf, entryAt, dropAt, Kept, Held, Rowed, Nested, Leaves}
+use Rattle.scope_stack.specs.View.{view, Kept, Held, Nested, Leaves}
 use Rattle.scope_stack.proofs.Scopes.{Extends, leaves-pop, sound-leave, nested-view}
 use Rattle.scope_stack.proofs.Frames.{nested-deeper}
-use Rattle.scope_stack.proofs.Words.{word-same}
-use Rattle.scope_stack.proofs.Marked.{lives-at}
-use Rattle.scope_stack.proofs.Stores.{leaves-none}
-use Rattle.statements_acts.specs.Marks.{lent, dropIn, Marked}
+use Rattle.statements_acts.specs.Marks.{lent}
 use Rattle.statements_changes.specs.declared.Cursor.{Cursor}
 use Rattle.statements_changes.specs.declared.Turn.the-variants.{Over, Blocks}
 use Rattle.statements_changes.specs.Turns.{retold}
@@ -40,7 +35,8 @@ use Rattle.blocks_laws.specs.Ends.{Ends}
 use Rattle.blocks_laws.proofs.Heads.{stmts-in, head-fault, head-walks, depth-inner}
 use Rattle.blocks_ends.specs.declared.Env.{Env}
 use Rattle.blocks_laws.specs.Places.{headed}
-use Rattle.blocks_ends.specs.Ends.{placeIn, faultIn, walkedIn, innerOf, Below, EndThere, Ended}
+use Rattle.blocks_ends.specs.Ends.{placeIn, faultIn, walkedIn, innerOf, EndThere, Ended}
+use Rattle.blocks_merge.specs.Merges.{Below}
 use Rattle.blocks.specs.Blocks.{Enters, Comes}
 use Rattle.blocks.proofs.Standing.{Turned, below-both, blocks-fault}
 
@@ -56,16 +52,6 @@ pub fault-walks : {T : Tables} {s : List ℕ} {left d : ℕ} {σ : Scope Status}
     → BlockWalks T s left d σ p m r n′
 fault-walks w r lt e h = record { walks = λ t deep b n read. let g = h .walks t deep b n read in let f = e ∙ g .0 in (f, λ z. let q = ap numberOf z in absurd (omega arith)) }
 
--- nothing is left where no local was registered
-pub leaves-still : (d : ℕ) (outer l : Locals) (t : States) → Extends d outer l → l .count ≤ outer .count → Held t → Leaves (outer .count) (l .count) t t
-leaves-still d outer l t e le h = subst (λ (n : ℕ). Leaves n (l .count) t t) (let m = e .most in omega arith) (leaves-none (l .count) t h)
-
--- the deletes of a block's end go by the mark
-pub marked-view : (T : Tables) (l : Locals) (t : States) (rows : List ℕ) (cur width mark : ℕ) → Rowed (l .count) t rows cur width → mark ≡ wordOf (l .count) (dropAt T l t)
-    → Marked T (l .types) (stateAt t rows cur width) (l .count) mark
-marked-view T l t rows cur width mark h e =
-    e ∙ word-same (l .count) (dropAt T l t) (dropIn T (l .types) (stateAt t rows cur width))
-    (λ i li. ap (λ (b : Bool). b && auto T (getD (l .types) i 0)) (sym (lives-at rows width (rowOf cur width i) (entryAt t i) (h .known i))))
 
 module _ (s tb : List ℕ) (small : Bytes s) (e : Env) (left : ℕ) (low : 0 < left) (high : left ≤ 12) (el : e .left ≡ left - 1) (start : Place) (outer : Locals) (t₀ : States)
     (rows₀ out₁ errs₀ warns₀ lefts₀ : List ℕ) (within : Within s start) (there : BlockThere s left (start .at)) (out₀ : List ℕ)

@@ -23,7 +23,8 @@ use Rattle.rules.specs.Rules.{states, register}
 use Rattle.rules.specs.Walk.{tooMany}
 use Rattle.scope_state.specs.Kinds.{said, put}
 use Rattle.tables_lookup.specs.Lent.{Lent, Says}
-use Rattle.expressions_scan.specs.States.{stateAt, AllKept}
+use Rattle.scope_state.specs.Locals.{stateIn}
+use Rattle.expressions_scan.specs.States.{AllKept}
 use Rattle.expressions_scan.specs.declared.Env.{Env as Scanning}
 use Rattle.image_writing.specs.Memory.{Memory, memory}
 use Rattle.statements_returns.specs.Returns.{BlockThere}
@@ -49,7 +50,8 @@ use Rattle.blocks_laws.proofs.Turns.{all-start, all-rest}
 use Rattle.blocks_laws.proofs.Heads.{head-grows, stmts-in}
 use Rattle.blocks_ends.specs.declared.Env.{Env}
 use Rattle.blocks_laws.specs.Places.{headed}
-use Rattle.blocks_ends.specs.Ends.{placeIn, faultIn, walkedIn, Below}
+use Rattle.blocks_ends.specs.Ends.{placeIn, faultIn, walkedIn}
+use Rattle.blocks_merge.specs.Merges.{Below}
 use Rattle.blocks.specs.Blocks.{Enters, Comes}
 
 -- the same place, but for its errors
@@ -167,7 +169,7 @@ module _ (s tb : List ℕ) (e : Env) (start : Place) (outer : Locals) (t₀ : St
   abbrev Answers : List ℕ → List ℕ → List ℕ → List ℕ → List ℕ → List ℕ → Locals → States → Cursor → List ℕ → List ℕ → List ℕ → List ℕ → List ℕ → Cursor → Turn → Scanning → Type 0
   Answers rows nodes out errs warns lefts l t c nodes′ out′ errs′ warns′ lefts′ c′ turn here =
       ((T : Tables) → Says s tb T → (σ : Scope Status)
-      → Lends T (here .mark) (l .names) (l .types) (l .depths) (stateAt (t .kinds) (t .firsts) rows (here .cur) (here .width)) (here .locals) σ
+      → Lends T (here .mark) (l .names) (l .types) (l .depths) (stateIn (t .kinds) (t .firsts) rows (here .cur) (here .width)) (here .locals) σ
       → (n : ℕ) (τ : Scope Status) (q : Place) (m : Memory)
       → Stood T s (here .left) (12 - here .left) n τ q m nodes c σ (memory out errs warns lefts)
       → After T s (here .left) (12 - here .left) n τ q m nodes′ c′ σ (memory out′ errs′ warns′ lefts′) turn)

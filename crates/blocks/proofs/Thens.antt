@@ -23,7 +23,7 @@ use Rattle.statements_acts.specs.Act.{Within, Grows as Further}
 use Rattle.scope_stack.specs.declared.Locals.{Locals}
 use Rattle.scope_stack.specs.declared.States.{States}
 use Rattle.scope_stack.specs.View.{rowOf, view, Nested}
-use Rattle.scope_stack.specs.Rows.{Copies}
+use Rattle.scope_rows.specs.Rows.{Copies}
 use Rattle.statements_changes.specs.Turns.{retold}
 use Rattle.blocks_laws.specs.Walks.{Walked, BlockWalks, IfWalks, LoopWalks, TagThere, TagWalks, blocked}
 use Rattle.blocks_laws.proofs.Wrotes.{grows-both, grows-none, within-on}
@@ -31,7 +31,8 @@ use Rattle.blocks_laws.specs.Ends.{Merges}
 use Rattle.blocks_laws.proofs.Ifs.{flag-grows, else-none, else-block, then-there, if-first, loop-first, loop-walks, else-there, if-second, if-walks}
 use Rattle.blocks_laws.proofs.Branches.{ElseThere}
 use Rattle.blocks_ends.specs.declared.Env.{Env}
-use Rattle.blocks_ends.specs.Ends.{placeIn, faultIn, sureIn, walkedIn, Loops, Flags, Below, RowsStand, Branches, MergesIn}
+use Rattle.blocks_ends.specs.Ends.{placeIn, faultIn, sureIn, walkedIn, Loops, Flags}
+use Rattle.blocks_merge.specs.Merges.{Below, RowsStand, Branches, MergesIn}
 use Rattle.blocks.specs.Blocks.{Enters, Comes, blockRows, stmtRows, ElseMerges}
 use Rattle.blocks.proofs.Standing.{below-both}
 use Rattle.blocks.proofs.Ending.{fault-walks}
@@ -56,6 +57,9 @@ tag-of tag e ne =
 
 pub seven-of : (tag : ℕ) → (tag ≡ 7) ⊎ (tag ≡ 8) → (tag ≡ 8 → ⊥) → tag ≡ 7
 seven-of tag which ne = ⊎-elim (λ (q : tag ≡ 7). q) (λ (q : tag ≡ 8). absurd (ne q)) which
+
+pub not-eight : {tag : ℕ} → tag ≡ 7 → tag ≡ 8 → ⊥
+not-eight e f = omega arith
 
 -- whatever stands behind the first block, its fault is told
 pub told-either : {s out pl : List ℕ} {flag : ℕ} {out′ pl′ : List ℕ} (tag : ℕ) → (tag ≡ 7) ⊎ (tag ≡ 8) → (tag ≡ 8 → Loops out pl flag out′ pl′) → ((tag ≡ 8 → ⊥) → Flags s out pl flag out′ pl′)

@@ -18,7 +18,8 @@ use Rattle.statements_changes.specs.Turns.{retold}
 use Rattle.blocks_laws.specs.Walks.{Walked, BlockWalks}
 use Rattle.blocks_laws.specs.Ends.{Merges}
 use Rattle.blocks_ends.specs.declared.Env.{Env}
-use Rattle.blocks_ends.specs.Ends.{placeIn, faultIn, Below}
+use Rattle.blocks_ends.specs.Ends.{placeIn, faultIn}
+use Rattle.blocks_merge.specs.Merges.{Below}
 
 -- a walk may begin at a place with a stack, where so much depth is left for blocks
 pub record Enters (s tb : List ℕ) (env : Env) (l : Locals) (t : States) (rows : List ℕ) (p : Place) : Type 0 where

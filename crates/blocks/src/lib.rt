@@ -10,14 +10,13 @@ ghost use Rattle.tables_lookup.specs.Lent.{Says};
 ghost use Rattle.image_writing.specs.Memory.{memory};
 ghost use Rattle.statements_returns.specs.Returns.{BlockThere};
 ghost use Rattle.scope_stack.specs.View.{rowOf, view};
-ghost use Rattle.statements_acts.specs.Marks.{lent};
 ghost use Rattle.blocks_laws.specs.Walks.{TagThere, TagWalks, BlockWalks, blocked};
-ghost use Rattle.blocks_ends.specs.Ends.{placeIn, faultIn, sureIn, walkedIn, RowsStand};
+ghost use Rattle.blocks_ends.specs.Ends.{placeIn, faultIn, sureIn, walkedIn};
+ghost use Rattle.blocks_merge.specs.Merges.{RowsStand};
 ghost use Rattle.blocks.specs.Blocks.{Enters, Comes, blockRows, stmtRows, ElseMerges};
 use blocks_ends::Env;
 use scope_stack::Locals;
 use scope_stack::States;
-use statements_acts::Named;
 use statements_acts::Place;
 use statements_changes::Cursor;
 use statements_changes::Turn;
@@ -47,28 +46,13 @@ fn transform_else(
 {
     let n = l.count;
     let sure = pl[9] == 1;
-    let b = blocks_ends::behind(blocks_ends::behind(env, n), n);
-    if !scope_stack::copy_rows(&st.kinds, n, rows, env.cur, b.cur, env.width) {
+    let b = blocks_merge::behind(blocks_merge::behind(env, n), n);
+    if !blocks_merge::branch_rows(&st.kinds, n, rows, env, b.cur) {
         pl[8] = 254;
         return st;
     }
     let other = transform_block(s, tb, b, l, st, rows, nodes, out, errs, warns, lefts, pl);
-    if 0 < pl[8] {
-        return other;
-    }
-    let else_sure = pl[9] == 1;
-    blocks_ends::merge_control_flow_states(
-        sure,
-        else_sure,
-        st,
-        first,
-        other,
-        n,
-        rows,
-        env,
-        b.cur,
-        pl,
-    )
+    blocks_merge::merge_else(sure, st, first, other, n, rows, env, b.cur, pl)
 }
 
 // The blocks of a statement of a tag.
@@ -98,8 +82,8 @@ fn transform_blocks(
         return transform_block(s, tb, env, l, st, rows, nodes, out, errs, warns, lefts, pl);
     }
     let n = l.count;
-    let a = blocks_ends::behind(env, n);
-    if !scope_stack::copy_rows(&st.kinds, n, rows, env.cur, a.cur, env.width) {
+    let a = blocks_merge::behind(env, n);
+    if !blocks_merge::branch_rows(&st.kinds, n, rows, env, a.cur) {
         pl[8] = 254;
         return st;
     }
@@ -124,8 +108,7 @@ fn transform_blocks(
             pl,
         );
     }
-    let sure = pl[9] == 1;
-    blocks_ends::merge_control_flow_states(sure, false, st, first, st, n, rows, env, env.cur, pl)
+    blocks_merge::merge_first(st, first, n, rows, env, pl)
 }
 
 // A block, with so much depth left: the one loop that owns the stack.
@@ -158,11 +141,10 @@ pub fn transform_block(
     let mut c = blocks_ends::head(s, start, out);
     loop {
         let mark = scope_stack::drop_word(st.words, l.dtors);
-        let here = blocks_ends::scanning(e, l.count, mark);
         let r = statements_changes::next_change(
             s,
             tb,
-            here,
+            blocks_ends::scanning(e, l.count, mark),
             &l.names,
             &l.types,
             &l.depths,
@@ -177,7 +159,6 @@ pub fn transform_block(
             lefts,
         );
         c = r.cursor;
-        let p = c.place;
         let turn = r.turn;
         match turn {
             Turn::Nothing => {}
@@ -186,7 +167,7 @@ pub fn transform_block(
                     s,
                     env.left,
                     start,
-                    p,
+                    c.place,
                     &l.names,
                     &l.types,
                     &l.depths,
@@ -194,16 +175,13 @@ pub fn transform_block(
                     out,
                     pl,
                 );
-                if outer.count < l.count {
-                    st = st.leave(outer.count, l.count);
-                }
-                return st;
+                return st.leave(outer.count, l.count);
             }
             Turn::Mark(name, kind, place, only_alive) => {
                 st = st.mark(&l.names, &l.depths, l.count, name, kind, place, only_alive);
             }
             Turn::Register(name, ty) => {
-                if env.limit <= l.count {
+                if blocks_ends::full(env, l.count) {
                     pl[8] = 12;
                     return st;
                 }
@@ -218,7 +196,7 @@ pub fn transform_block(
                 }
             }
             Turn::Blocks(tag) => {
-                blocks_ends::put_place(pl, p, false);
+                blocks_ends::put_place(pl, c.place, false);
                 st = transform_blocks(
                     s,
                     tb,
@@ -237,7 +215,7 @@ pub fn transform_block(
                 if 0 < pl[8] {
                     return st;
                 }
-                c = statements_changes::between(c.left, blocks_ends::place_in(&*pl), Named::Nobody);
+                c = blocks_ends::resumed(c.left, &*pl);
             }
         }
     }

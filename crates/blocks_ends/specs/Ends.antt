@@ -1,27 +1,19 @@
 -- What the code before, between and behind blocks requires and does; the numbers of a walk are lent.
 use Prim.Native.Nat.{ℕ, _+_, _-_, _≤_, _<_}
 use mathlib.Core.Path.{_≡_}
-use mathlib.Core.Bool.{Bool, false, not, _&&_}
+use mathlib.Core.Bool.{Bool, false}
 use mathlib.Core.List.{List, [], _∷_}
-use mathlib.Core.Logic.{_⊎_}
 use lib.Dec.{eqb}
 use lib.ListN.{length, getD}
 use Rattle.image_fields.specs.Number.{two, four}
 use Rattle.image_fields.specs.Bytes.{fourBytes}
-use Rattle.tables.specs.Limits.{version1}
 use Rattle.rules.specs.State.{State as Status}
 use Rattle.rules.specs.Stack.{Stack as Scope}
-use Rattle.rules.specs.Rules.{states, joins, merge}
-use Rattle.rules.specs.Walk.{tooWide}
 use Rattle.image_writing.specs.Stored.{Stored}
 use Rattle.statements_returns.specs.Returns.{StmtThere}
-use Rattle.statements_steps.specs.Own.{numberOf}
 use Rattle.statements_acts.specs.declared.Named.the-variants.{Nobody}
 use Rattle.statements_acts.specs.declared.Place.{Place}
 use Rattle.statements_acts.specs.Act.{Within}
-use Rattle.scope_stack.specs.declared.Locals.{Locals}
-use Rattle.scope_stack.specs.declared.States.{States}
-use Rattle.scope_stack.specs.View.{rowOf, view, Held, Rowed}
 use Rattle.statements_changes.specs.declared.Cursor.{Cursor}
 use Rattle.statements_changes.specs.Turns.{betweenOf}
 use Rattle.blocks_laws.specs.Walks.{Walked}
@@ -48,12 +40,9 @@ pub record Tells (pl : List ℕ) (k : ℕ) (b : Bool) (p : Place) : Type 0 where
   pub sure : sureIn pl ≡ b
   pub place : placeIn pl ≡ p
 
--- the numbers of the walk of a block's statements; of a branch, whose rows stand behind those of n locals
+-- the numbers of the walk of a block's statements
 abbrev pub innerOf : Env → Env
 innerOf env = record { left = env .left - 1; limit = env .limit; width = env .width; cur = env .cur }
-
-abbrev pub behindOf : Env → ℕ → Env
-behindOf env n = record { left = env .left; limit = env .limit; width = env .width; cur = rowOf (env .cur) (env .width) n }
 
 -- the head of the block at a place: its span, and room for its count
 pub record Heads (s : List ℕ) (p : Place) (out : List ℕ) (c : Cursor) (out′ : List ℕ) : Type 0 where
@@ -70,38 +59,6 @@ pub record Flags (s out pl : List ℕ) (r : ℕ) (out′ pl′ : List ℕ) : Typ
   pub flag : r ≡ getD s (placeIn pl .at) 0
   pub stored : Stored out (placeIn pl .written) (r ∷ []) out′ (placeIn pl′ .written)
   pub tells : Tells pl′ (faultIn pl) (sureIn pl) (flagged (placeIn pl) (placeIn pl′ .written))
-
--- rows that are the same below a place
-pub record Below (cur : ℕ) (rows new : List ℕ) : Type 0 where
-  pub room : length new ≡ length rows
-  pub same : (k : ℕ) → k < cur → getD new k 0 ≡ getD rows k 0
-
--- the states of n locals, with their rows
-pub record RowsStand (n : ℕ) (t : States) (rows : List ℕ) (cur width : ℕ) : Type 0 where
-  pub held : Held t
-  pub rowed : Rowed n t rows cur width
-
--- two branches of n locals: the base's rows from cur on, then's behind them, the other's at b, behind both or the base's
-pub record Branches (n : ℕ) (t u v : States) (rows : List ℕ) (cur width b : ℕ) : Type 0 where
-  pub small : n ≤ 64
-  pub wide : width ≡ 8
-  pub base : RowsStand n t rows cur width
-  pub first : RowsStand n u rows (rowOf cur width n) width
-  pub other : RowsStand n v rows b width
-  pub apart : (b ≡ cur) ⊎ (rowOf (rowOf cur width n) width n ≤ b)
-  pub low : (cur < 4294967296) × (b < 4294967296)
-
--- merge_control_flow_states behind two branches, whether each surely returns; 254: the rows do not reach
-pub record MergesIn (x y : Bool) (n : ℕ) (base first other : States) (rows : List ℕ) (cur width b : ℕ) (pl : List ℕ) (r : States) (rows′ pl′ : List ℕ) : Type 0 where
-  pub room : length pl′ ≡ 10
-  pub below : Below cur rows rows′
-  pub place : placeIn pl′ ≡ placeIn pl
-  pub short : faultIn pl′ ≡ 254 → length rows < rowOf (rowOf cur width n) width n
-  pub stands : faultIn pl′ ≡ 0 → RowsStand n r rows′ cur width
-  pub fault : (faultIn pl′ ≡ 254 → ⊥) → (l : Locals) → l .count ≡ n
-      → faultIn pl′ ≡ numberOf (tooWide version1 (not x && not y) (joins states (view l first rows (rowOf cur width n) width) (view l other rows b width)))
-  pub locals : faultIn pl′ ≡ 0 → (l : Locals) → l .count ≡ n
-      → view l r rows′ cur width ≡ merge states x y (view l base rows cur width) (view l first rows (rowOf cur width n) width) (view l other rows b width)
 
 -- what the end of a block requires
 pub record EndThere (s : List ℕ) (left : ℕ) (start p : Place) : Type 0 where

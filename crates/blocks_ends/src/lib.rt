@@ -1,35 +1,30 @@
-// What stands before, between and behind the blocks of a body: a head, a flag, an end, the merge of two branches.
-// Throughout, pl has the place of a walk, its fault and whether it surely returns, rows the places of joined states, and ln, lt and ld are
-// the names, types and depths of the locals, all lent.
+// What stands before, between and behind the blocks of a body: a head, a flag, an end.
+// Throughout, pl has the place of a walk, its fault and whether it surely returns, and ln, lt and ld are the names, types and depths of
+// the locals, all lent.
 ghost use mathlib.Core.Path.{_≡_};
 ghost use mathlib.Core.Bool.{true, false, _&&_};
 ghost use Prim.Native.Nat.{ℕ, suc, _+_, _-_, _*_, _≤_, _<_};
 ghost use lib.Dec.{leb, eqb};
 ghost use lib.ListN.{length, getD};
-ghost use Rattle.image_fields.specs.Number.{two};
 ghost use Rattle.tables.specs.Tables.{Tables};
 ghost use Rattle.rules.specs.State.{State as Status};
 ghost use Rattle.rules.specs.Stack.{pop, Stack as Scope};
 ghost use Rattle.image_writing.specs.Stored.{Stored};
 ghost use Rattle.statements_steps.specs.Drops.{deleteBytes};
 ghost use Rattle.statements_returns.specs.Returns.{StmtThere};
+ghost use Rattle.statements_acts.specs.declared.Named.the-variants.{Nobody};
 ghost use Rattle.statements_acts.specs.Act.{Within};
-ghost use Rattle.scope_stack.specs.View.{rowOf, Known};
-ghost use Rattle.scope_stack.specs.Rows.{Copies};
+ghost use Rattle.statements_changes.specs.Turns.{betweenOf};
 ghost use Rattle.statements_acts.specs.Marks.{lent, Marked};
 ghost use Rattle.blocks_laws.specs.Ends.{LastReturns, tail, Ends};
 ghost use Rattle.blocks_laws.specs.Places.{headed};
-ghost use Rattle.blocks_ends.specs.Ends.{placeIn, faultIn, walkedIn, Tells, innerOf, behindOf, Heads, Loops, Flags, Branches, MergesIn, EndThere, Ended};
-use scope_stack::Locals;
-use scope_stack::States;
+ghost use Rattle.blocks_ends.specs.Ends.{placeIn, walkedIn, Tells, innerOf, Heads, Loops, Flags, EndThere, Ended};
 use scope_state::Depths;
-use scope_state::Kinds;
 use scope_state::Names;
 use scope_state::Types;
 use statements_acts::Named;
 use statements_acts::Place;
 use statements_changes::Cursor;
-use statements_changes::Turn;
 
 // How much depth is left for blocks, how many locals and places there may be, where the rows of this stack begin.
 pub struct Env {
@@ -93,17 +88,11 @@ pub fn inner(env: Env) -> Env
     }
 }
 
-// Those for a branch, whose rows stand behind those of n locals.
-pub fn behind(env: Env, n: usize) -> Env
-    requires { ⌜ (n ≤ 64) × (env .width ≡ 8) × (env .cur < 4294967296) ⌝ }
-    ensures { λ r. ⌜ r ≡ behindOf env n ⌝ }
+// Whether there are as many locals as there may be.
+pub fn full(env: Env, count: usize) -> bool
+    ensures { λ r. ⌜ (r ≡ true → env .limit ≤ count) × (r ≡ false → count < env .limit) ⌝ }
 {
-    Env {
-        left: env.left,
-        limit: env.limit,
-        width: env.width,
-        cur: env.cur + n * (env.width + 1),
-    }
+    env.limit <= count
 }
 
 // Those for the walk up to the next change of a stack of so many locals.
@@ -117,6 +106,13 @@ pub fn scanning(env: Env, count: usize, mark: u64) -> expressions_scan::Env
         cur: env.cur,
         width: env.width,
     }
+}
+
+// The walk goes on behind the blocks of a statement, with so many statements left.
+pub fn resumed(left: usize, pl: &[usize; 10]) -> Cursor
+    ensures { λ r. ⌜ r ≡ betweenOf left (placeIn (now (pl .entry))) Nobody ⌝ }
+{
+    statements_changes::between(left, place_in(pl), Named::Nobody)
 }
 
 // The place behind a block's head, whose count is stored at gap later.
@@ -162,65 +158,6 @@ pub fn then_over(s: &[u8], tag: u8, out: &mut [u8], pl: &mut [usize; 10]) -> u8
     pl[2] = image_writing::put(out, pl[2], flag);
     pl[0] = at + 1;
     flag
-}
-
-// The fault of a join: 13, a place more than the limit; 254, the rows do not reach.
-fn join_fault(told: u8) -> usize
-    ensures { λ r. ⌜ (told ≡ 255 → r ≡ 13) × ((told ≡ 255 → ⊥) → r ≡ told) ⌝ }
-{
-    if told == 255 {
-        return 13;
-    }
-    told as usize
-}
-
-// The rows of n locals, back to where those of the stack begin.
-fn copy_back(kinds: &Kinds, n: usize, rows: &mut [u32], src: usize, cur: usize, width: usize)
-    requires { ⌜ (n ≤ 64) × (width ≡ 8) × ((i : ℕ) → i < n → Known (now rows) width (rowOf src width i) (getD (now kinds) i 0))
-        × ((src ≡ cur → ⊥) → rowOf cur width n ≤ src) × (src < 4294968000) ⌝ }
-    ensures { λ r. ⌜ Copies n width (now (kinds .entry)) (now (rows .entry)) src cur true (now (rows .exit)) ⌝ }
-{
-    if src != cur {
-        scope_stack::copy_rows(kinds, n, rows, src, cur, width);
-    }
-}
-
-// merge_control_flow_states: the states after two branches of n locals, whether each surely returns, the first's rows behind the base's,
-// the other's at b.
-pub fn merge_control_flow_states(
-    then_returns: bool,
-    else_returns: bool,
-    base: States,
-    first: States,
-    other: States,
-    n: usize,
-    rows: &mut [u32],
-    env: Env,
-    b: usize,
-    pl: &mut [usize; 10],
-) -> States
-    requires { ⌜ Branches n base first other (now rows) (env .cur) (env .width) b × (faultIn (now pl) ≡ 0) × (length (now pl) ≡ 10) ⌝ }
-    ensures { λ r. ⌜ MergesIn «then_returns» «else_returns» n base first other (now (rows .entry)) (env .cur) (env .width) b (now (pl .entry)) r (now (rows .exit)) (now (pl .exit)) ⌝ }
-{
-    let a = behind(env, n);
-    if then_returns {
-        if else_returns {
-            return base;
-        }
-        copy_back(&other.kinds, n, rows, b, env.cur, env.width);
-        return other;
-    }
-    if else_returns {
-        copy_back(&first.kinds, n, rows, a.cur, env.cur, env.width);
-        return first;
-    }
-    let mut told = 0;
-    let r = first.join(other, n, rows, a.cur, b, env.width, &mut told);
-    pl[8] = join_fault(told);
-    if told == 0 {
-        copy_back(&r.kinds, n, rows, a.cur, env.cur, env.width);
-    }
-    r
 }
 
 // Whether the last of so many statements, at a position, surely returns.

@@ -2,14 +2,12 @@
 -- Assumes nothing.
 use Prim.Native.Nat.{ℕ, _+_, _≤_}
 use mathlib.Core.Path.{_≡_, refl, sym, ap, _∙_, subst}
-use mathlib.Core.Bool.{Bool, true, false, cond, _||_}
+use mathlib.Core.Bool.{Bool, true, false, cond}
 use mathlib.Core.List.{List, [], _∷_, _++_, append-nil}
-use native.Mathlib.Omega.{arith}
-use lib.Dec.{eqb}
 use Rattle.image_fields.proofs.Tests.{false-true}
 use Rattle.tables.specs.Limits.{version1}
 use Rattle.rules.specs.State.{State as Status, alive, gone, moved, consumed, handState}
-use Rattle.rules.specs.Stack.{Static, local, shape, has, lookup, inFrame, mark, Stack as Scope}
+use Rattle.rules.specs.Stack.{local, shape, has, lookup, inFrame, mark, Stack as Scope}
 use Rattle.rules.specs.Effects.{hand, kill, badMove}
 use Rattle.rules.specs.Rules.{states, applyAll}
 use Rattle.rules.specs.Report.{error, useOf, reportAll}

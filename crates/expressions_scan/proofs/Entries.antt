@@ -1,6 +1,6 @@
 -- The numbers of an error, one after another.
 -- Assumes nothing.
-use Prim.Native.Nat.{ℕ, zero, suc, _+_, _-_, _*_, _≤_, _<_}
+use Prim.Native.Nat.{ℕ, zero, suc, _+_, _-_, _≤_, _<_}
 use mathlib.Core.Path.{_≡_, refl, sym, ap, _∙_, subst}
 use mathlib.Core.Bool.{Bool, true, false, cond}
 use mathlib.Core.List.{List, [], _∷_, _++_, append-assoc, append-nil}
@@ -19,7 +19,8 @@ use Rattle.image_writing.specs.Stored.{Stored}
 use Rattle.image_writing.proofs.Stores.{both-stored}
 use Rattle.scope_state.specs.Kinds.{baseOf, said}
 use Rattle.scope_state.proofs.Uses.{bad-use}
-use Rattle.expressions_scan.specs.States.{lowOf, rowOf, statusOf, Kept}
+use Rattle.scope_state.specs.Locals.{rowAt, statusOf}
+use Rattle.expressions_scan.specs.States.{Kept}
 
 pub entries-append : (xs ys : List Report) → entriesOf version1 (xs ++ ys) ≡ entriesOf version1 xs ++ entriesOf version1 ys
 entries-append [] ys = refl
@@ -79,29 +80,29 @@ past-at (x ∷ xs) zero le = absurd (omega arith)
 past-at (x ∷ xs) (suc i) le = past-at xs i (omega arith)
 
 module _ (rows : List ℕ) (row : ℕ) (inside : row + getD rows row 0 < length rows) where
-  pub row-length : length (rowOf rows row) ≡ getD rows row 0
+  pub row-length : length (rowAt rows row) ≡ getD rows row 0
   row-length = let z = length-drop (row + 1) rows in length-take-le (getD rows row 0) (drop (row + 1) rows) (omega arith)
 
-  pub row-in : (i : ℕ) → i < getD rows row 0 → getD rows (row + 1 + i) 0 ≡ getD (rowOf rows row ++ replicate 8 0) i 0
+  pub row-in : (i : ℕ) → i < getD rows row 0 → getD rows (row + 1 + i) 0 ≡ getD (rowAt rows row ++ replicate 8 0) i 0
   row-in i lt =
       let l = row-length in
-      sym (List·getD-append (rowOf rows row) (replicate 8 0) 0 i (omega arith) ∙ getD-take (getD rows row 0) (drop (row + 1) rows) i 0 lt ∙ getD-drop (row + 1) rows i 0)
+      sym (List·getD-append (rowAt rows row) (replicate 8 0) 0 i (omega arith) ∙ getD-take (getD rows row 0) (drop (row + 1) rows) i 0 lt ∙ getD-drop (row + 1) rows i 0)
 
-  pub row-out : (i : ℕ) → getD rows row 0 ≤ i → _≡_ {A = ℕ} 0 (getD (rowOf rows row ++ replicate 8 0) i 0)
-  row-out i le = let l = row-length in sym (past-at (rowOf rows row) i (omega arith))
+  pub row-out : (i : ℕ) → getD rows row 0 ≤ i → _≡_ {A = ℕ} 0 (getD (rowAt rows row ++ replicate 8 0) i 0)
+  row-out i le = let l = row-length in sym (past-at (rowAt rows row) i (omega arith))
 
-  pub place-stored : {l m o : List ℕ} {n a b i v : ℕ} → i < 8 → v ≡ getD (rowOf rows row ++ replicate 8 0) i 0
-      → Stored l n (take i (rowOf rows row ++ replicate 8 0)) m a → Stored m a (v ∷ []) o b → Stored l n (take (i + 1) (rowOf rows row ++ replicate 8 0)) o b
+  pub place-stored : {l m o : List ℕ} {n a b i v : ℕ} → i < 8 → v ≡ getD (rowAt rows row ++ replicate 8 0) i 0
+      → Stored l n (take i (rowAt rows row ++ replicate 8 0)) m a → Stored m a (v ∷ []) o b → Stored l n (take (i + 1) (rowAt rows row ++ replicate 8 0)) o b
   place-stored {i = i} lt e s t =
-      let z : length (rowOf rows row ++ replicate 8 0) ≡ length (rowOf rows row) + 8 = length-append (rowOf rows row) (replicate 8 0) in
-      stored-eq (sym (take-snoc i (rowOf rows row ++ replicate 8 0) (omega arith))) (both-stored s (stored-eq (ap (λ x. x ∷ []) e) t))
+      let z : length (rowAt rows row ++ replicate 8 0) ≡ length (rowAt rows row) + 8 = length-append (rowAt rows row) (replicate 8 0) in
+      stored-eq (sym (take-snoc i (rowAt rows row ++ replicate 8 0) (omega arith))) (both-stored s (stored-eq (ap (λ x. x ∷ []) e) t))
 
   -- the numbers of an error with the places of a row
   pub row-stored : {l0 l1 l2 l3 l4 l5 : List ℕ} {n a1 a2 a3 a4 at k p : ℕ} → Stored l0 n (k ∷ []) l1 a1 → Stored l1 a1 (p ∷ []) l2 a2 → Stored l2 a2 (0 ∷ []) l3 a3
-      → Stored l3 a3 (getD rows row 0 ∷ []) l4 a4 → Stored l4 a4 (take 8 (rowOf rows row ++ replicate 8 0)) l5 at
-      → Stored l0 n (entryOf version1 (error k p 0 (rowOf rows row))) l5 at
+      → Stored l3 a3 (getD rows row 0 ∷ []) l4 a4 → Stored l4 a4 (take 8 (rowAt rows row ++ replicate 8 0)) l5 at
+      → Stored l0 n (entryOf version1 (error k p 0 (rowAt rows row))) l5 at
   row-stored {l0} {l5 = l5} {n} {at = at} {k} {p} s1 s2 s3 s4 s5 =
-      subst (λ x. Stored l0 n (k ∷ p ∷ 0 ∷ x ∷ take 8 (rowOf rows row ++ replicate 8 0)) l5 at) (sym row-length)
+      subst (λ x. Stored l0 n (k ∷ p ∷ 0 ∷ x ∷ take 8 (rowAt rows row ++ replicate 8 0)) l5 at) (sym row-length)
       (both-stored (both-stored (both-stored (both-stored s1 s2) s3) s4) s5)
 
 pub entry-most : (k p h : ℕ) (ps : List ℕ) → length ps ≤ 8 → {l m : List ℕ} {n r : ℕ} → Stored l n (entryOf version1 (error k p h ps)) m r → r ≤ n + 12
@@ -133,12 +134,10 @@ first-of (suc n) (x ∷ xs) a b = refl
 -- the errors of uses
 module _ (s k f : ℕ) (rows : List ℕ) (row : ℕ) (g : Kept k f rows row) where
   pub use-nothing : k ≡ 0 → [] ≡ entriesOf version1 (badUse s (statusOf k f rows row))
-  unfolding statusOf
   use-nothing e = rw e
 
   -- a place of its own
   pub use-one : 0 < k → k < 8 → entryOf version1 (error k s 0 (f ∷ [])) ≡ entriesOf version1 (badUse s (statusOf k f rows row))
-  unfolding statusOf
   use-one pos lt =
       let q : ltb k 8 ≡ true = lt-ltb k 8 lt in
       let kn : k < 7 = subst (λ b. cond b k (k - 8) < 7) q (g .known) in
@@ -151,18 +150,17 @@ module _ (s k f : ℕ) (rows : List ℕ) (row : ℕ) (g : Kept k f rows row) whe
 
   -- a row
   module _ (le : 8 ≤ k) where
-    row-use : (b : Bool) (ps : List ℕ) → eqb (baseOf (k - 8)) 3 ≡ b → cond b (rowOf rows row) (first (rowOf rows row)) ≡ ps
+    row-use : (b : Bool) (ps : List ℕ) → eqb (baseOf (k - 8)) 3 ≡ b → cond b (rowAt rows row) (first (rowAt rows row)) ≡ ps
         → entryOf version1 (error (k - 8) s 0 ps) ≡ entriesOf version1 (badUse s (statusOf k f rows row))
-    unfolding statusOf
     row-use b ps eb ep =
         let q : ltb k 8 ≡ false = le-ltb k 8 le in
         let kn : k - 8 < 7 = subst (λ b. cond b k (k - 8) < 7) q (g .known) in
         let po : 0 < k - 8 = subst (λ b. 0 < cond b k (k - 8)) q (g .gone le) in
-        let z : badUse s (said (k - 8) (rowOf rows row)) ≡ error (k - 8) s 0 ps ∷ [] = bad-use s (k - 8) (rowOf rows row) kn ∙ rw (ne-eqb (k - 8) 0 (λ z. omega arith), eb) (ap (λ l. error (k - 8) s 0 l ∷ []) ep) in
+        let z : badUse s (said (k - 8) (rowAt rows row)) ≡ error (k - 8) s 0 ps ∷ [] = bad-use s (k - 8) (rowAt rows row) kn ∙ rw (ne-eqb (k - 8) 0 (λ z. omega arith), eb) (ap (λ l. error (k - 8) s 0 l ∷ []) ep) in
         rw q (sym (ap (entriesOf version1) z ∙ append-nil (entryOf version1 (error (k - 8) s 0 ps))))
 
-    pub use-row : true ≡ eqb (baseOf (k - 8)) 3 → entryOf version1 (error (k - 8) s 0 (rowOf rows row)) ≡ entriesOf version1 (badUse s (statusOf k f rows row))
-    use-row e = row-use true (rowOf rows row) (sym e) refl
+    pub use-row : true ≡ eqb (baseOf (k - 8)) 3 → entryOf version1 (error (k - 8) s 0 (rowAt rows row)) ≡ entriesOf version1 (badUse s (statusOf k f rows row))
+    use-row e = row-use true (rowAt rows row) (sym e) refl
 
     pub use-first : false ≡ eqb (baseOf (k - 8)) 3 → entryOf version1 (error (k - 8) s 0 (getD rows (row + 1) 0 ∷ [])) ≡ entriesOf version1 (badUse s (statusOf k f rows row))
     use-first e =

@@ -11,16 +11,16 @@ use Rattle.rules.specs.Stack.{Stack as Scope}
 use Rattle.tables_lookup.specs.Lent.{Says}
 use Rattle.expressions_effects.specs.Asked.{emits}
 use Rattle.tables_lookup.proofs.Lent.{tablesOf, said}
-use Rattle.expressions_steps.specs.Scan.{Stage, Stacked, topOf, Ready, Waits, Goes, nodesAfter, openAfter, fuel}
+use Rattle.expressions_steps.specs.Scan.{Stage, Stacked, Ready, Waits, Goes, nodesAfter, openAfter, fuel}
 use Rattle.expressions_steps.specs.declared.Open.{Open}
 use Rattle.expressions_steps.specs.declared.Step.{Step}
-use Rattle.expressions_steps.proofs.Start.{ready-next, few}
+use Rattle.expressions_steps.proofs.Start.{ready-next}
 use Rattle.expressions_scan.specs.declared.Change.{Change}
-use Rattle.expressions_scan.specs.declared.Change.the-variants.{Nothing, Mark}
+use Rattle.expressions_scan.specs.declared.Change.the-variants.{Nothing}
 use Rattle.expressions_scan.specs.declared.Answer.{Answer}
 use Rattle.expressions_scan.specs.declared.Scanned.{Scanned}
-use Rattle.expressions_scan.specs.States.{Holds}
-use Rattle.expressions_scan.specs.Changes.{applied, Marks, Answers, Small}
+use Rattle.scope_state.specs.Locals.{lent}
+use Rattle.expressions_scan.specs.Changes.{applied, Answers, Small}
 use Rattle.expressions_scan.specs.Resumed.{openOf, opens, Onward, Came, Going}
 use Rattle.expressions_scan.proofs.Nodes.{top-node}
 use Rattle.expressions_scan.proofs.Onward.{onward-none, onward-both, onward-step, onward-as}
@@ -37,20 +37,20 @@ module _ (s tb : List ℕ) (locals : List ℕ) (at : ℕ → Status) (n : ℕ) (
     pub less : fuel s d p ≤ fuel s count pos
     pub room : length new ≡ length errors
     pub ends : (frames : List Stage) (end : ℕ) → Stacked (opens nodes) count frames s pos end → (fs : List Stage) × Stacked (opens ns) d fs s p end
-    pub onward : (T : Tables) → Says s tb T → (σ : Scope Status) → Holds locals at n σ
+    pub onward : (T : Tables) → Says s tb T → (types depths : List ℕ) (σ : Scope Status) → σ ≡ lent locals types depths at n
         → Onward T s (opens nodes) count pos σ errors told (opens ns) d p σ new t
 
   -- what it comes back with
   abbrev pub Stops : List ℕ → List ℕ → Scanned → Type 0
   Stops ns new v =
-      ((T : Tables) → Says s tb T → (σ : Scope Status) → Holds locals at n σ
+      ((T : Tables) → Says s tb T → (types depths : List ℕ) (σ : Scope Status) → σ ≡ lent locals types depths at n
       → Onward T s (opens nodes) count pos σ errors told (opens ns) (v .nodes) (v .at) (applied (v .change) σ) new (v .told)) × Going s (opens nodes) count pos told (opens ns) v
 
   pub stops-as : (ns new : List ℕ) {v w : Scanned} → v ≡ w → Stops ns new w → Stops ns new v
   stops-as ns new e h = subst (Stops ns new) (sym e) h
 
   pub scan-start : Ready s (opens nodes) count pos → Scan nodes count pos errors told
-  scan-start g = record { ready = g; most = omega arith; less = omega arith; room = refl; ends = λ frames end st. (frames, st); onward = λ T sy σ h. onward-none (opens nodes) count pos σ errors told }
+  scan-start g = record { ready = g; most = omega arith; less = omega arith; room = refl; ends = λ frames end st. (frames, st); onward = λ T sy types depths σ h. onward-none (opens nodes) count pos σ errors told }
 
   module _ {ns : List ℕ} {d p : ℕ} {new : List ℕ} {t : ℕ} (w : Scan ns d p new t) (ns′ : List ℕ) (r : Step) (en : opens ns′ ≡ nodesAfter (opens ns) d r)
       (g : (T : Tables) → Says s tb T → Goes T s (opens ns) d p r) where
@@ -69,11 +69,11 @@ module _ (s tb : List ℕ) (locals : List ℕ) (at : ℕ → Status) (n : ℕ) (
         let k = some-goes .steps (z .0) end (z .1) in
         (k .after, subst (λ os. Stacked os (openAfter d r) (k .after) s (r .at) end) (sym en) (k .stacked))
 
-    module _ {newer : List ℕ} {a : Answer} (q : ((σ : Scope Status) → Holds locals at n σ → Answers (emits (r .effect)) σ new t newer a) × Small t new newer a) where
-      step-onward : (T : Tables) → Says s tb T → (σ : Scope Status) → Holds locals at n σ
+    module _ {newer : List ℕ} {a : Answer} (q : ((types depths : List ℕ) → Answers (emits (r .effect)) (lent locals types depths at n) new t newer a) × Small t new newer a) where
+      step-onward : (T : Tables) → Says s tb T → (types depths : List ℕ) (σ : Scope Status) → σ ≡ lent locals types depths at n
           → Onward T s (opens nodes) count pos σ errors told (opens ns′) (openAfter d r) (r .at) (applied (a .change) σ) newer (a .told)
-      step-onward T sy σ h =
-          onward-as (sym en) refl (onward-both (w .onward T sy σ h) (onward-step r a (g T sy) (q .0 σ h)))
+      step-onward T sy types depths σ h =
+          onward-as (sym en) refl (onward-both (w .onward T sy types depths σ h) (onward-step r a (g T sy) (subst (λ x. Answers (emits (r .effect)) x new t newer a) (sym h) (q .0 types depths))))
 
       step-most : a .told + 12 * fuel s (openAfter d r) (r .at) ≤ told + 12 * fuel s count pos
       step-most = let f = some-goes .falls in let m = w .most in let o = q .1 .most in omega arith
@@ -86,12 +86,12 @@ module _ (s tb : List ℕ) (locals : List ℕ) (at : ℕ → Status) (n : ℕ) (
         less = let f = some-goes .falls in let m = w .less in omega arith;
         room = l ∙ w .room;
         ends = step-ends;
-        onward = λ T sy σ h. onward-as refl (ap (λ z. applied z σ) e) (step-onward T sy σ h);
+        onward = λ T sy types depths σ h. onward-as refl (ap (λ z. applied z σ) e) (step-onward T sy types depths σ h);
       }
 
       -- a change: the scan comes back
       pub scan-stop : (c : Change) → a .change ≡ c → ((b f : ℕ) → f < b → Came c (openAfter d r) b f)
-          → ((T : Tables) → Says s tb T → (σ : Scope Status) → Holds locals at n σ
+          → ((T : Tables) → Says s tb T → (types depths : List ℕ) (σ : Scope Status) → σ ≡ lent locals types depths at n
           → Onward T s (opens nodes) count pos σ errors told (opens ns′) (openAfter d r) (r .at) (applied (a .change) σ) newer (a .told))
           × Going s (opens nodes) count pos told (opens ns′) (record { at = r .at; nodes = openAfter d r; told = a .told; change = a .change })
       scan-stop c e came = (
@@ -107,6 +107,6 @@ module _ (s tb : List ℕ) (locals : List ℕ) (at : ℕ → Status) (n : ℕ) (
 
   -- no node is open
   pub scan-end : {ns : List ℕ} {d p : ℕ} {new : List ℕ} {t : ℕ} → d ≤ 0 → Scan ns d p new t
-      → ((T : Tables) → Says s tb T → (σ : Scope Status) → Holds locals at n σ → Onward T s (opens nodes) count pos σ errors told (opens ns) d p σ new t)
+      → ((T : Tables) → Says s tb T → (types depths : List ℕ) (σ : Scope Status) → σ ≡ lent locals types depths at n → Onward T s (opens nodes) count pos σ errors told (opens ns) d p σ new t)
       × Going s (opens nodes) count pos told (opens ns) (record { at = p; nodes = d; told = t; change = Nothing })
   scan-end le w = (w .onward, record { ready = w .ready; ends = w .ends; most = w .most; came = omega arith; marks = tt })

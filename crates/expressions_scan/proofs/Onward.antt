@@ -1,13 +1,11 @@
 -- How a scan goes on: laws that join what it does up to one change with what it does up to the next.
 -- Assumes nothing.
-use Prim.Native.Nat.{ℕ, _-_, _+_, _≤_}
+use Prim.Native.Nat.{ℕ, _-_, _+_}
 use mathlib.Core.Path.{_≡_, refl, sym, ap, _∙_, subst}
-use mathlib.Core.List.{List, [], _∷_, _++_, append-assoc}
-use Rattle.tables.specs.Limits.{version1}
+use mathlib.Core.List.{List, [], _++_, append-assoc}
 use Rattle.tables.specs.Tables.{Tables}
 use Rattle.rules.specs.State.{State as Status}
 use Rattle.rules.specs.Stack.{Stack as Scope}
-use Rattle.rules.specs.Verdict.{entriesOf}
 use Rattle.expressions_effects.specs.Asked.{emits}
 use Rattle.expressions_steps.specs.Scan.{pending, nodesAfter, openAfter, Goes}
 use Rattle.expressions_steps.specs.declared.Open.{Open}
@@ -15,7 +13,7 @@ use Rattle.expressions_steps.specs.declared.Step.{Step}
 use Rattle.image_writing.proofs.Stores.{none-stored, both-stored}
 use Rattle.expressions_scan.specs.declared.Answer.{Answer}
 use Rattle.expressions_scan.specs.Changes.{after, told, applied, Answers}
-use Rattle.expressions_scan.specs.Resumed.{Rest, Onward}
+use Rattle.expressions_scan.specs.Resumed.{Onward}
 use Rattle.expressions_scan.proofs.Entries.{stored-eq, entries-append}
 use Rattle.expressions_scan.proofs.Runs.{after-append, told-append}
 

@@ -1,7 +1,7 @@
 -- Open nodes in a lent array of numbers, and what a scan that goes on from them does up to the next change.
 use Prim.Native.Nat.{ℕ, _+_, _*_, _/_, _%_, _≤_, _<_}
 use mathlib.Core.Path.{_≡_}
-use mathlib.Core.List.{List, [], _∷_, _++_, map}
+use mathlib.Core.List.{List, _++_, map}
 use Rattle.tables.specs.Limits.{version1}
 use Rattle.tables.specs.Tables.{Tables}
 use Rattle.rules.specs.State.{State as Status}

@@ -1,7 +1,6 @@
 // The scan of a statement's values over lent arrays: it reports the errors of their effects and comes back where the stack must
 // change; the caller changes it and has the scan go on. The open nodes stand in a lent array.
 ghost use mathlib.Core.Path.{_≡_};
-ghost use mathlib.Core.Bool.{cond};
 ghost use mathlib.Core.List.{List, [], _∷_, _++_};
 ghost use Prim.Native.Nat.{ℕ, _+_, _*_, _≤_, _<_};
 ghost use lib.Dec.{eqb};
@@ -9,16 +8,17 @@ ghost use lib.ListN.{length, getD, replicate, take};
 ghost use Rattle.tables.specs.Limits.{version1};
 ghost use Rattle.tables.specs.Tables.{Tables};
 ghost use Rattle.rules.specs.State.{State as Status};
-ghost use Rattle.rules.specs.Stack.{lookup, Stack as Scope};
-ghost use Rattle.rules.specs.Report.{error, badUse, useOf};
+ghost use Rattle.rules.specs.Stack.{Stack as Scope};
+ghost use Rattle.rules.specs.Report.{error, badUse};
 ghost use Rattle.rules.specs.Verdict.{entryOf, entriesOf};
 ghost use Rattle.rules.specs.Effects.{uses, hands, gives, moves};
 ghost use Rattle.tables_lookup.specs.Lent.{Lent, Says};
 ghost use Rattle.expressions_effects.specs.Asked.{emits};
 ghost use Rattle.expressions_steps.specs.Scan.{rootOf, topOf, Ready, Goes, nodesAfter, fuel};
 ghost use Rattle.scope_state.specs.Kinds.{baseOf};
+ghost use Rattle.scope_state.specs.Locals.{rowAt, statusOf, stateIn, lent};
 ghost use Rattle.image_writing.specs.Stored.{Stored};
-ghost use Rattle.expressions_scan.specs.States.{rowOf, statusOf, stateAt, Kept, AllKept, Holds, Finds};
+ghost use Rattle.expressions_scan.specs.States.{Kept, AllKept};
 ghost use Rattle.expressions_scan.specs.Changes.{applied, Answers, Small};
 ghost use Rattle.expressions_scan.specs.declared.Change.the-variants.{Nothing};
 ghost use Rattle.expressions_scan.specs.Resumed.{openOf, opens, Onward, Going};
@@ -29,6 +29,7 @@ use image_fields::wide32;
 use scope_state::Firsts;
 use scope_state::Kinds;
 use scope_state::Names;
+use scope_state::find_local;
 use tables_lookup::Found;
 
 // What the stack must do: nothing, or mark a name: its kind (1 to 6), its place, and whether only what is Alive is marked.
@@ -59,22 +60,6 @@ pub struct Scanned {
     pub nodes: usize,
     pub told: usize,
     pub change: Change,
-}
-
-// The number of the newest local of a name.
-pub fn find_local(names: &Names, count: usize, name: u16) -> Found
-    requires { ⌜ count ≤ 64 ⌝ }
-    ensures { λ r. ⌜ Finds (now (names .entry)) count name r ⌝ }
-{
-    let mut i = count;
-    while 0 < i {
-        let j = i - 1;
-        if names[j] == name {
-            return Found::At(j);
-        }
-        i = j;
-    }
-    Found::Nothing
 }
 
 fn put_zeros(list: &mut [u32], at: usize, many: usize) -> usize
@@ -114,7 +99,7 @@ fn put_error(
 // A place of a row of so many, or 0.
 fn place_of(rows: &[u32], row: usize, count: usize, i: usize) -> u32
     requires { ⌜ (row + count < length (now rows)) × (count ≤ 8) × (count ≡ getD (now rows) row 0) × (i < 8) ⌝ }
-    ensures { λ r. ⌜ r ≡ getD (rowOf (now (rows .entry)) row ++ replicate 8 0) i 0 ⌝ }
+    ensures { λ r. ⌜ r ≡ getD (rowAt (now (rows .entry)) row ++ replicate 8 0) i 0 ⌝ }
 {
     if i < count {
         return rows[row + 1 + i];
@@ -125,7 +110,7 @@ fn place_of(rows: &[u32], row: usize, count: usize, i: usize) -> u32
 // The places of a row, with zeros up to 8.
 fn put_places(list: &mut [u32], at: usize, rows: &[u32], row: usize, count: usize) -> usize
     requires { ⌜ (at < 4294967200) × (row + count < length (now rows)) × (count ≤ 8) × (count ≡ getD (now rows) row 0) ⌝ }
-    ensures { λ r. ⌜ Stored (now (list .entry)) at (take 8 (rowOf (now (rows .entry)) row ++ replicate 8 0)) (now (list .exit)) r ⌝ }
+    ensures { λ r. ⌜ Stored (now (list .entry)) at (take 8 (rowAt (now (rows .entry)) row ++ replicate 8 0)) (now (list .exit)) r ⌝ }
 {
     let mut next = at;
     let mut i = 0;
@@ -139,7 +124,7 @@ fn put_places(list: &mut [u32], at: usize, rows: &[u32], row: usize, count: usiz
 // An error with the places of a row.
 fn put_row(list: &mut [u32], n: usize, kind: u8, place: u32, rows: &[u32], row: usize) -> usize
     requires { ⌜ (n < 4294967100) × (row + getD (now rows) row 0 < length (now rows)) × (getD (now rows) row 0 ≤ 8) ⌝ }
-    ensures { λ r. ⌜ Stored (now (list .entry)) n (entryOf version1 (error kind place 0 (rowOf (now (rows .entry)) row))) (now (list .exit)) r ⌝ }
+    ensures { λ r. ⌜ Stored (now (list .entry)) n (entryOf version1 (error kind place 0 (rowAt (now (rows .entry)) row))) (now (list .exit)) r ⌝ }
 {
     let others = rows[row];
     let mut at = image_writing::put_number(list, n, kind as u32);
@@ -210,7 +195,7 @@ fn put_use_of<'a>(
 ) -> usize
     requires { ⌜ AllKept (now kinds) (now firsts) (now rows) cur width n × (i < n) × (told < 4294967100) ⌝ }
     ensures { λ r. ⌜ Stored (now (errors .entry)) told
-        (entriesOf version1 (badUse place (stateAt (now (kinds .entry)) (now (firsts .entry)) (now (rows .entry)) cur width i))) (now (errors .exit)) r × (r ≤ told + 12) ⌝ }
+        (entriesOf version1 (badUse place (stateIn (now (kinds .entry)) (now (firsts .entry)) (now (rows .entry)) cur width i))) (now (errors .exit)) r × (r ≤ told + 12) ⌝ }
 {
     put_use(
         errors,
@@ -238,8 +223,8 @@ fn validate_identifier_use<'a>(
     told: usize,
 ) -> Answer
     requires { ⌜ AllKept (now lk) (now lf) (now rows) cur width n × (told < 4294967100) ⌝ }
-    ensures { λ r. ⌜ ((σ : Scope Status) → Holds (now (ln .entry)) (stateAt (now (lk .entry)) (now (lf .entry)) (now (rows .entry)) cur width) n σ
-        → Answers (uses name place ∷ []) σ (now (errs .entry)) told (now (errs .exit)) r) × Small told (now (errs .entry)) (now (errs .exit)) r ⌝ }
+    ensures { λ r. ⌜ ((types depths : List ℕ)
+        → Answers (uses name place ∷ []) (lent (now (ln .entry)) types depths (stateIn (now (lk .entry)) (now (lf .entry)) (now (rows .entry)) cur width) n) (now (errs .entry)) told (now (errs .exit)) r) × Small told (now (errs .entry)) (now (errs .exit)) r ⌝ }
 {
     match find_local(ln, n, name) {
         Found::At(i) => {
@@ -271,8 +256,8 @@ fn use_and_hand_over<'a>(
     told: usize,
 ) -> Answer
     requires { ⌜ AllKept (now lk) (now lf) (now rows) cur width n × (told < 4294967100) ⌝ }
-    ensures { λ r. ⌜ ((σ : Scope Status) → Holds (now (ln .entry)) (stateAt (now (lk .entry)) (now (lf .entry)) (now (rows .entry)) cur width) n σ
-        → Answers (uses name place ∷ hands name place ∷ []) σ (now (errs .entry)) told (now (errs .exit)) r) × Small told (now (errs .entry)) (now (errs .exit)) r ⌝ }
+    ensures { λ r. ⌜ ((types depths : List ℕ)
+        → Answers (uses name place ∷ hands name place ∷ []) (lent (now (ln .entry)) types depths (stateIn (now (lk .entry)) (now (lf .entry)) (now (rows .entry)) cur width) n) (now (errs .entry)) told (now (errs .exit)) r) × Small told (now (errs .entry)) (now (errs .exit)) r ⌝ }
 {
     match find_local(ln, n, name) {
         Found::At(i) => {
@@ -292,7 +277,7 @@ fn use_and_hand_over<'a>(
 // The consumption of a receiver that is a local.
 fn consume(names: &Names, n: usize, name: u16, place: u32, told: usize) -> Answer
     requires { ⌜ n ≤ 64 ⌝ }
-    ensures { λ r. ⌜ ((at : ℕ → Status) (σ : Scope Status) (old : List ℕ) → Holds (now (names .entry)) at n σ → Answers (gives name place ∷ []) σ old told old r) × ((old : List ℕ) → Small told old old r) ⌝ }
+    ensures { λ r. ⌜ ((types depths : List ℕ) (at : ℕ → Status) (old : List ℕ) → Answers (gives name place ∷ []) (lent (now (names .entry)) types depths at n) old told old r) × ((old : List ℕ) → Small told old old r) ⌝ }
 {
     match find_local(names, n, name) {
         Found::At(_) => Answer {
@@ -329,8 +314,8 @@ fn validate_move(
     told: usize,
 ) -> Answer
     requires { ⌜ (n ≤ 64) × (told < 4294967100) ⌝ }
-    ensures { λ r. ⌜ ((at : ℕ → Status) (σ : Scope Status) → Holds (now (names .entry)) at n σ
-        → Answers (moves name place temp ∷ []) σ (now (errors .entry)) told (now (errors .exit)) r) × Small told (now (errors .entry)) (now (errors .exit)) r ⌝ }
+    ensures { λ r. ⌜ ((types depths : List ℕ) (at : ℕ → Status)
+        → Answers (moves name place temp ∷ []) (lent (now (names .entry)) types depths at n) (now (errors .entry)) told (now (errors .exit)) r) × Small told (now (errors .entry)) (now (errors .exit)) r ⌝ }
 {
     match find_local(names, n, name) {
         Found::At(_) => {
@@ -360,8 +345,8 @@ pub fn effect_on<'a>(
     told: usize,
 ) -> Answer
     requires { ⌜ AllKept (now lk) (now lf) (now rows) cur width n × (told < 4294967100) ⌝ }
-    ensures { λ r. ⌜ ((σ : Scope Status) → Holds (now (ln .entry)) (stateAt (now (lk .entry)) (now (lf .entry)) (now (rows .entry)) cur width) n σ
-        → Answers (emits effect) σ (now (errs .entry)) told (now (errs .exit)) r) × Small told (now (errs .entry)) (now (errs .exit)) r ⌝ }
+    ensures { λ r. ⌜ ((types depths : List ℕ)
+        → Answers (emits effect) (lent (now (ln .entry)) types depths (stateIn (now (lk .entry)) (now (lf .entry)) (now (rows .entry)) cur width) n) (now (errs .entry)) told (now (errs .exit)) r) × Small told (now (errs .entry)) (now (errs .exit)) r ⌝ }
 {
     match effect {
         Effect::Nothing => Answer {
@@ -461,7 +446,8 @@ pub fn scan_on<'a>(
     requires { ⌜ Lent (now s) (now tb) × AllKept (now lk) (now lf) (now rows) (env .cur) (env .width) (env .locals)
         × Ready (now s) (opens (now nodes)) count at × (told + 12 * fuel (now s) count at < 4294967000) ⌝ }
     ensures { λ r. ⌜ ((T : Tables) → Says (now (s .entry)) (now (tb .entry)) T
-        → (σ : Scope Status) → Holds (now (ln .entry)) (stateAt (now (lk .entry)) (now (lf .entry)) (now (rows .entry)) (env .cur) (env .width)) (env .locals) σ
+        → (types depths : List ℕ) (σ : Scope Status)
+        → σ ≡ lent (now (ln .entry)) types depths (stateIn (now (lk .entry)) (now (lf .entry)) (now (rows .entry)) (env .cur) (env .width)) (env .locals)
         → Onward T (now (s .entry)) (opens (now (nodes .entry))) count at σ (now (errs .entry)) told
         (opens (now (nodes .exit))) (r .nodes) (r .at) (applied (r .change) σ) (now (errs .exit)) (r .told))
         × Going (now (s .entry)) (opens (now (nodes .entry))) count at told (opens (now (nodes .exit))) r ⌝ }

@@ -18,7 +18,7 @@ use Rattle.scope_stack.specs.declared.States.{States}
 use Rattle.scope_stack.specs.declared.Entry.{Entry}
 use Rattle.scope_stack.specs.Word.{wordOf}
 use Rattle.scope_stack.specs.View.{stacked, staticAt, entryAt, aliveAt, rowOf, rowAt, saidAt, stateAt, view, depthOf, Known, Held, Rowed, Marks}
-use Rattle.scope_stack.proofs.Stacked.{agree, framed}
+use Rattle.scope_state.proofs.Stacked.{agree, framed}
 use Rattle.scope_stack.proofs.Frames.{mark-frame}
 use Rattle.scope_stack.proofs.Stores.{stored, stored-at, stored-other, stored-held}
 

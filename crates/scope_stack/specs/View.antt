@@ -1,30 +1,24 @@
 -- What Locals, States and the lent rows stand for together, and what every stack of the pass meets.
-use Prim.Native.Nat.{ℕ, zero, suc, _+_, _*_, _-_, _^_, _≤_, _<_}
+use Prim.Native.Nat.{ℕ, _+_, _^_, _≤_, _<_}
 use mathlib.Core.Path.{_≡_}
 use mathlib.Core.Bool.{Bool, cond, _&&_}
 use mathlib.Core.List.{List, [], _∷_}
-use mathlib.Core.Option.{Option, none, some}
-use lib.Dec.{eqb, ltb}
-use lib.ListN.{length, getD, take, drop}
+use lib.Dec.{eqb}
+use lib.ListN.{length, getD}
 use Rattle.tables.specs.Tables.{Tables}
-use Rattle.tables_lookup.specs.declared.Found.{Found}
-use Rattle.tables_lookup.specs.declared.Found.the-variants.{At, Nothing}
 use Rattle.rules.specs.Questions.{auto}
 use Rattle.rules.specs.State.{State as Status}
-use Rattle.rules.specs.Stack.{Static, Local, local, Shape, lookup, mark, Stack as Scope}
-use Rattle.scope_state.specs.Kinds.{said}
+use Rattle.rules.specs.Stack.{Static, local, Shape, mark, Stack as Scope}
+use Rattle.scope_state.specs.Locals.{staticIn, statusOf, stateIn, lent}
+unfoldable pub use Rattle.scope_state.specs.Locals.{stacked}
+pub use Rattle.scope_state.specs.Locals.{rowOf, rowAt}
 use Rattle.scope_stack.specs.declared.Locals.{Locals}
 use Rattle.scope_stack.specs.declared.States.{States}
 use Rattle.scope_stack.specs.declared.Entry.{Entry}
 use Rattle.scope_stack.specs.Word.{wordOf}
 
--- the first n locals, newest first: what they are, and what is said of them
-unfoldable pub stacked : ℕ → (ℕ → Static) → (ℕ → Status) → Scope Status
-stacked zero f g = []
-stacked (suc n) f g = local (f n) (g n) ∷ stacked n f g
-
 abbrev pub staticAt : Locals → ℕ → Static
-staticAt l i = record { name = getD (l .names) i 0; ty = getD (l .types) i 0; depth = getD (l .depths) i 0 }
+staticAt l = staticIn (l .names) (l .types) (l .depths)
 
 abbrev pub entryAt : States → ℕ → Entry
 entryAt t i = record { kind = getD (t .kinds) i 0; first = getD (t .firsts) i 0 }
@@ -32,24 +26,16 @@ entryAt t i = record { kind = getD (t .kinds) i 0; first = getD (t .firsts) i 0 
 abbrev pub aliveAt : States → ℕ → Bool
 aliveAt t i = eqb (getD (t .kinds) i 0) 0
 
--- where the row of local i begins in the rows that begin at cur
-abbrev pub rowOf : ℕ → ℕ → ℕ → ℕ
-rowOf cur width i = cur + i * (width + 1)
-
--- a row: its count, then its places
-abbrev pub rowAt : List ℕ → ℕ → List ℕ
-rowAt rows at = take (getD rows at 0) (drop (at + 1) rows)
-
--- the state of an entry whose row begins at `at`: one place beside the kind, or, 8 more, several in the row
+-- the state of an entry whose row begins at `at`
 abbrev pub saidAt : List ℕ → ℕ → Entry → Status
-saidAt rows at e = cond (ltb (e .kind) 8) (said (e .kind) (e .first ∷ [])) (said (e .kind - 8) (rowAt rows at))
+saidAt rows at e = statusOf (e .kind) (e .first) rows at
 
 abbrev pub stateAt : States → List ℕ → ℕ → ℕ → ℕ → Status
-stateAt t rows cur width i = saidAt rows (rowOf cur width i) (entryAt t i)
+stateAt t = stateIn (t .kinds) (t .firsts)
 
 -- the rules' stack
 abbrev pub view : Locals → States → List ℕ → ℕ → ℕ → Scope Status
-view l t rows cur width = stacked (l .count) (staticAt l) (stateAt t rows cur width)
+view l t rows cur width = lent (l .names) (l .types) (l .depths) (stateAt t rows cur width) (l .count)
 
 -- a row of two places or more, all within the rows
 pub record Row (rows : List ℕ) (width at : ℕ) : Type 0 where
@@ -108,20 +94,6 @@ Nested d (s ∷ Γ) = (s .depth ≤ d) × Nested (s .depth) Γ
 abbrev pub depthOf : ℕ → Scope Status → ℕ
 depthOf n [] = 0
 depthOf n (local s a ∷ σ) = cond (eqb (s .name) n) (s .depth) (depthOf n σ)
-
-abbrev pub Below : Found → ℕ → Type 0
-Below Nothing n = Unit {0}
-Below (At i) n = i < n
-
--- the local that was found
-abbrev pub foundIn : Locals → (ℕ → Status) → Found → Option (Local Status)
-foundIn l g Nothing = none
-foundIn l g (At i) = some (local (staticAt l i) (g i))
-
--- the number of the newest local of a name, whatever is said of the locals
-pub record Finds (n : ℕ) (l : Locals) (g : ℕ → Status) (r : Found) : Type 0 where
-  pub is : lookup n (stacked (l .count) (staticAt l) g) ≡ foundIn l g r
-  pub below : Below r (l .count)
 
 -- one local more
 pub record Grows (l : Locals) (name ty depth : ℕ) (dtor : Bool) (r : Locals) : Type 0 where

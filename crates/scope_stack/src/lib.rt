@@ -12,18 +12,12 @@ ghost use Rattle.scope_state.specs.Kinds.{said, put};
 ghost use Rattle.scope_stack.specs.declared.Locals.{Locals};
 ghost use Rattle.scope_stack.specs.declared.States.{States};
 ghost use Rattle.scope_stack.specs.Word.{wordOf, Top, Newest};
-ghost use Rattle.scope_stack.specs.View.{stacked, staticAt, depthOf, Kept, Held, Rowed, Drops, Finds, Grows, Marks, Named, Leaves, dropAt};
-ghost use Rattle.scope_state.specs.View.{listed, stateOf, Roomy, Made};
-ghost use Rattle.scope_stack.specs.View.{rowAt, saidAt, Known};
-ghost use Rattle.scope_stack.specs.Rows.{Wrote, Loads, Alike, JoinsAt, Branches, JoinsAll, Copied, Copies};
+ghost use Rattle.scope_stack.specs.View.{stacked, staticAt, depthOf, Kept, Held, Drops, Grows, Marks, Named, Leaves, dropAt};
 use scope_state::Depths;
 use scope_state::Firsts;
 use scope_state::Kinds;
 use scope_state::Names;
-use scope_state::Places;
-use scope_state::State;
 use scope_state::Types;
-use tables_lookup::Found;
 
 // The locals registered, oldest first: the first count of each array. A bit of dtors for each whose type has a destructor.
 pub struct Locals {
@@ -46,22 +40,6 @@ pub struct States {
 pub struct Entry {
     pub kind: u8,
     pub first: u32,
-}
-
-// find_local: the number of the newest local of a name.
-pub fn find_local(names: &Names, count: usize, name: u16) -> Found
-    requires { ⌜ count ≤ 64 ⌝ }
-    ensures { λ r. ⌜ ((l : Locals) (g : ℕ → Status) → l .names ≡ now (names .entry) → l .count ≡ count → Finds name l g r) ⌝ }
-{
-    let mut i = count;
-    while 0 < i {
-        let j = i - 1;
-        if names[j] == name {
-            return Found::At(j);
-        }
-        i = j;
-    }
-    Found::Nothing
 }
 
 // The depth of the newest local of a name, or 0.
@@ -104,7 +82,7 @@ fn bit(i: usize) -> u64
 }
 
 // The word with bit i set or cleared.
-fn with_bit(w: u64, i: usize, on: bool) -> u64
+pub fn with_bit(w: u64, i: usize, on: bool) -> u64
     requires { ⌜ i < 64 ⌝ }
     ensures { λ r. ⌜ ((p : ℕ → Bool) → w ≡ wordOf 64 p → r ≡ wordOf 64 (λ k. cond (eqb k i) «on» (p k))) ⌝ }
 {
@@ -235,46 +213,6 @@ impl States {
         }
         self
     }
-
-    // The states after two branches of n locals, this one then's with its rows at a, the other's at b. Told: 0, or 255 where a state has
-    // too many places, or 254 where the rows end before a row that is needed.
-    pub fn join(
-        mut self,
-        other: States,
-        n: usize,
-        rows: &mut [u32],
-        a: usize,
-        b: usize,
-        width: usize,
-        told: &mut u8,
-    ) -> States
-        requires { ⌜ Branches n width self other (now rows) a b ⌝ }
-        ensures { λ r. ⌜ JoinsAll n width self other (now (rows .entry)) a b r (now (rows .exit)) (now (told .exit)) ⌝ }
-    {
-        *told = 0;
-        let mut i = 0;
-        while i < n {
-            let k = self.kinds[i];
-            let f = self.firsts[i];
-            let x = Entry { kind: k, first: f };
-            let l = other.kinds[i];
-            let g = other.firsts[i];
-            let y = Entry { kind: l, first: g };
-            if differ(x, y) {
-                let row = i * (width + 1);
-                let z = join_at(x, y, rows, a + row, b + row, width);
-                if 15 <= z.kind {
-                    *told = z.kind;
-                    return self;
-                }
-                self.kinds[i] = z.kind;
-                self.firsts[i] = z.first;
-                self.words = with_bit(self.words, i, z.kind == 0);
-            }
-            i += 1;
-        }
-        self
-    }
 }
 
 // Whether some local of the name in the frame of a depth is not Alive: then its registration marks it Alive.
@@ -298,151 +236,4 @@ pub fn needs_revival<'a>(
         m = without(m, k);
     }
     false
-}
-
-fn wide(x: u8) -> usize
-    ensures { λ r. ⌜ r ≡ x ⌝ }
-{
-    x as usize
-}
-
-fn read_row(rows: &[u32], row: usize) -> Places
-    requires { ⌜ (getD (now rows) row 0 ≤ 8) × (row + getD (now rows) row 0 < length (now rows)) ⌝ }
-    ensures { λ r. ⌜ (listed r ≡ rowAt (now (rows .entry)) row) × Roomy r × (r .count ≡ getD (now (rows .entry)) row 0) ⌝ }
-{
-    let n = rows[row] as usize;
-    let start = row + 1;
-    let mut list = [0; 8];
-    let mut j = 0;
-    while j < n {
-        list[j] = rows[start + j];
-        j += 1;
-    }
-    let count = n as u8;
-    Places {
-        count: count,
-        list: list,
-    }
-}
-
-fn write_row(rows: &mut [u32], row: usize, p: Places)
-    requires { ⌜ Roomy p × (row + p .count < length (now rows)) ⌝ }
-    ensures { λ r. ⌜ Wrote (now (rows .entry)) row (listed p) (now (rows .exit)) ⌝ }
-{
-    let n = wide(p.count);
-    let start = row + 1;
-    let mut j = 0;
-    while j < n {
-        rows[start + j] = p.list[j];
-        j += 1;
-    }
-    rows[row] = p.count as u32;
-}
-
-// A state as the crate scope_state has it.
-fn load(rows: &[u32], e: Entry, row: usize) -> State
-    requires { ⌜ Loads (now rows) row (e .kind) ⌝ }
-    ensures { λ r. ⌜ (stateOf r ≡ saidAt (now (rows .entry)) row e) × Made (r .kind) (r .places) ⌝ }
-{
-    let k = e.kind;
-    if k == 0 {
-        return State::alive();
-    }
-    if k < 8 {
-        return State::at(k, e.first);
-    }
-    let p = read_row(rows, row);
-    State {
-        kind: k - 8,
-        places: p,
-    }
-}
-
-// Whether two states need a join.
-fn differ(x: Entry, y: Entry) -> bool
-    ensures { λ r. ⌜ (r ≡ false → Alike x y) ⌝ }
-{
-    let k = x.kind;
-    if k != y.kind {
-        return true;
-    }
-    if k == 0 {
-        return false;
-    }
-    if 8 <= k {
-        return true;
-    }
-    x.first != y.first
-}
-
-// What two branches say of one local, with their rows; a joined row goes to the first's.
-fn join_at(x: Entry, y: Entry, rows: &mut [u32], row: usize, more: usize, width: usize) -> Entry
-    requires { ⌜ Known (now rows) width row (x .kind) × Known (now rows) width more (y .kind) × (width ≤ 8) × (row + width < 2 ^ 64) ⌝ }
-    ensures { λ r. ⌜ JoinsAt width x y (now (rows .entry)) row more r (now (rows .exit)) ⌝ }
-{
-    let a = load(&*rows, x, row);
-    let b = load(&*rows, y, more);
-    let r = a.join(b);
-    if !r.ok {
-        return Entry {
-            kind: 255,
-            first: 0,
-        };
-    }
-    let s = r.state;
-    let p = s.places;
-    let many = wide(p.count);
-    if width < many {
-        return Entry {
-            kind: 255,
-            first: 0,
-        };
-    }
-    let first = p.list[0];
-    if many < 2 {
-        return Entry {
-            kind: s.kind,
-            first: first,
-        };
-    }
-    if rows.len() <= row + width {
-        return Entry {
-            kind: 254,
-            first: 0,
-        };
-    }
-    write_row(rows, row, p);
-    let kind = s.kind + 8;
-    Entry {
-        kind: kind,
-        first: first,
-    }
-}
-
-// The rows of n locals, from a place to another; or false, where the rows end before one that is needed.
-pub fn copy_rows(
-    kinds: &Kinds,
-    n: usize,
-    rows: &mut [u32],
-    src: usize,
-    dst: usize,
-    width: usize,
-) -> bool
-    requires { ⌜ Copied n width (now kinds) (now rows) src dst ⌝ }
-    ensures { λ r. ⌜ Copies n width (now (kinds .entry)) (now (rows .entry)) src dst r (now (rows .exit)) ⌝ }
-{
-    let mut i = 0;
-    while i < n {
-        if 8 <= kinds[i] {
-            let row = i * (width + 1);
-            let to = dst + row;
-            if rows.len() <= to + width {
-                return false;
-            }
-            let p = read_row(&*rows, src + row);
-            write_row(rows, to, p);
-        }
-        i += 1;
-    }
-    true
 }

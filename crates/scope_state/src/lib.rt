@@ -2,12 +2,15 @@
 ghost use mathlib.Core.Path.{_≡_};
 ghost use mathlib.Core.Bool.{cond, _&&_};
 ghost use mathlib.Core.List.{[], _∷_, _++_};
-ghost use Prim.Native.Nat.{_<_};
+ghost use Prim.Native.Nat.{_≤_, _<_};
 ghost use lib.Dec.{eqb};
 ghost use Rattle.image_fields.specs.Table.{member};
 ghost use Rattle.rules.specs.State.{alive, placesEq, combine as combined, joinState};
 ghost use Rattle.scope_state.specs.Kinds.{said, baseOf, conditional as conditionalOf, family as familyOf};
 ghost use Rattle.scope_state.specs.View.{listed, stateOf, Roomy, Made, Fits, Joins};
+ghost use Rattle.scope_state.specs.Locals.{Finds};
+use image_fields::wide;
+use tables_lookup::Found;
 
 // A number for each local; how many a stack may have stands here alone.
 pub type Names = [u16; 64];
@@ -43,10 +46,20 @@ pub struct NextState {
     pub state: State,
 }
 
-fn wide(x: u8) -> usize
-    ensures { λ r. ⌜ r ≡ x ⌝ }
+// The number of the newest local of a name.
+pub fn find_local(names: &Names, count: usize, name: u16) -> Found
+    requires { ⌜ count ≤ 64 ⌝ }
+    ensures { λ r. ⌜ Finds (now (names .entry)) count name r ⌝ }
 {
-    x as usize
+    let mut i = count;
+    while 0 < i {
+        let j = i - 1;
+        if names[j] == name {
+            return Found::At(j);
+        }
+        i = j;
+    }
+    Found::Nothing
 }
 
 impl Places {

@@ -19,13 +19,12 @@ use Rattle.rules.specs.State.{State as Status, isAlive}
 use Rattle.rules.specs.Rules.{states, Drop, dropOf, collect, dropNewest, dropNamed}
 use Rattle.image_writing.specs.Stored.{Stored}
 use Rattle.statements_acts.proofs.Laws.{Rest, rest-start, rest-step, rest-end, count-step, count-end}
-use Rattle.scope_stack.specs.declared.Locals.{Locals}
 use Rattle.scope_stack.specs.Word.{wordOf, Top, Newest}
-use Rattle.scope_stack.specs.View.{foundIn, Finds}
 use Rattle.scope_stack.proofs.Words.{top-below, top-rest, word-zero}
-use Rattle.scope_stack.proofs.Stacked.{stacked-more, stacked-none}
+use Rattle.scope_state.specs.Locals.{foundIn, Finds}
+use Rattle.scope_state.proofs.Stacked.{stacked-more, stacked-none}
 use Rattle.statements_acts.specs.Marks.{staticIn, lent, dropIn}
-use Rattle.statements_acts.proofs.Lent.{localsOf, found-is}
+use Rattle.statements_acts.proofs.Lent.{found-as}
 
 -- the numbers of what is left behind at a span
 abbrev pub leftNumbers : ℕ → List Drop → List ℕ
@@ -156,10 +155,9 @@ module _ (T : Tables) (names types depths : List ℕ) (g : ℕ → Status) (q : 
           (rest-end f old at (some′ k) out place (some′ (h .n)) (h .rest) (some′ k) refl (ap f e ∙ fn), count-end (length (some′ k)) put (some′ (h .n)) (h .many) e)
 
 -- no local of the name, or its newest local
-module _ (T : Tables) (names types depths : List ℕ) (g : ℕ → Status) (k p n s : ℕ) (r : Found)
-    (f : (l : Locals) (g : ℕ → Status) → l .names ≡ names → l .count ≡ k → Finds n l g r) where
-  drop-is : (x : Found) → r ≡ x → dropNamed states T p (called n s) (lent names types depths g k) ≡ dropNewest states T p n (foundIn (localsOf names types depths k) g x)
-  drop-is x e = ap (dropNewest states T p n) (found-is names k n f types depths g ∙ ap (foundIn (localsOf names types depths k) g) e)
+module _ (T : Tables) (names types depths : List ℕ) (g : ℕ → Status) (k p n s : ℕ) (r : Found) (f : Finds names k n r) where
+  drop-is : (x : Found) → r ≡ x → dropNamed states T p (called n s) (lent names types depths g k) ≡ dropNewest states T p n (foundIn names types depths g x)
+  drop-is x e = ap (dropNewest states T p n) (found-as f types depths g e)
 
   pub assign-none : r ≡ Nothing → dropNamed states T p (called n s) (lent names types depths g k) ≡ []
   assign-none e = drop-is Nothing e

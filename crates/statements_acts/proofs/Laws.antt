@@ -3,14 +3,12 @@
 use Prim.Native.Nat.{ℕ, suc, _+_}
 use mathlib.Core.Path.{_≡_, sym, ap, _∙_, subst}
 use mathlib.Core.Bool.{Bool, true, not}
-use mathlib.Core.List.{List, [], _∷_, _++_, map, append-nil}
+use mathlib.Core.List.{List, [], _∷_, _++_, append-nil}
 use native.Mathlib.Omega.{arith}
 use lib.Dec.{eqb}
 use lib.ListN.{length}
 use Rattle.image_fields.specs.Bytes.{fourBytes}
 use Rattle.tables.specs.Tables.{Tables}
-use Rattle.tables.specs.Ty.{typeIn}
-use Rattle.tables.specs.Signature.{structIn}
 use Rattle.tables_lookup.specs.Ty.{shouldAutoDelete}
 use Rattle.image_encoding.specs.Body.{encodeExpr}
 use Rattle.rules.specs.Questions.{auto}

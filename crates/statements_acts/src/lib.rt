@@ -29,7 +29,7 @@ ghost use Rattle.statements_acts.specs.Drops.{admitted};
 ghost use Rattle.statements_acts.specs.declared.Which.the-variants.{All};
 ghost use Rattle.statements_acts.specs.Act.{namedOf, takenIn, FrontThere, Within, Grows, ActsThere};
 ghost use Rattle.statements_acts.specs.Parts.{deletedName, deleteOf, reviveOf, takesOver, noPut, sparing, relisted, Copied, WarnsAt, Untouched};
-ghost use Rattle.statements_acts.specs.Marks.{HoldsAll, lent, Marked, EndsThere};
+ghost use Rattle.statements_acts.specs.Marks.{lent, Marked, EndsThere};
 use expressions_effects::name_at;
 use expressions_effects::span_at;
 use image_body::Node;
@@ -151,7 +151,7 @@ fn takes<'a>(
     if temp == name {
         return false;
     }
-    let found = scope_stack::find_local(ln, n, temp);
+    let found = scope_state::find_local(ln, n, temp);
     let Found::At(i) = found else {
         return false;
     };
@@ -205,7 +205,7 @@ fn consumed_compiler_temp_from_assign<'a>(
         → (ld : List ℕ) (g : ℕ → Status) → (e : Expr) (next : ℕ) → Stands e (now (s .entry)) value next
         → (σ : Scope Status) → takenIn r σ ≡ applyAll states (takeFrom T (shape (lent (now (ln .entry)) (now (lt .entry)) ld g n)) name (staticOf name (shape (lent (now (ln .entry)) (now (lt .entry)) ld g n))) e) σ) ⌝ }
 {
-    let found = scope_stack::find_local(ln, n, name);
+    let found = scope_state::find_local(ln, n, name);
     let Found::At(i) = found else {
         return Named::Nobody;
     };
@@ -470,7 +470,7 @@ pub fn put_assign_drop<'a>(
         → Stored (now (out .entry)) at (deleteBytes (dropNamed states T span (called name 0) (lent (now (names .entry)) (now (tys .entry)) depths g count))) (now (out .exit)) (r .at)
         × (r .count ≡ length (dropNamed states T span (called name 0) (lent (now (names .entry)) (now (tys .entry)) depths g count)))) ⌝ }
 {
-    let Found::At(i) = scope_stack::find_local(names, count, name) else {
+    let Found::At(i) = scope_state::find_local(names, count, name) else {
         return Put { at: at, count: 0 };
     };
     if !scope_stack::has_bit(mark, i) {
@@ -655,8 +655,8 @@ pub fn statement<'a>(
 ) -> Act
     requires { ⌜ Lent (now s) (now tb) × (n ≤ 64) × Within (now s) p × FrontThere (now s) (p .at) end ⌝ }
     ensures { λ a. ⌜ ((T : Tables) → Says (now (s .entry)) (now (tb .entry)) T
-        → (g : ℕ → Status) → Marked T (now (lt .entry)) g n mark → (σ : Scope Status) → HoldsAll (now (ln .entry)) (now (lt .entry)) (now (ld .entry)) g n σ
-        → ActsThere T (now (s .entry)) σ p (now (out .entry)) (now (warns .entry)) (now (lefts .entry)) a (now (out .exit)) (now (warns .exit)) (now (lefts .exit))) ⌝ }
+        → (g : ℕ → Status) → Marked T (now (lt .entry)) g n mark
+        → ActsThere T (now (s .entry)) (lent (now (ln .entry)) (now (lt .entry)) (now (ld .entry)) g n) p (now (out .entry)) (now (warns .entry)) (now (lefts .entry)) a (now (out .exit)) (now (warns .exit)) (now (lefts .exit))) ⌝ }
     ensures { λ a. ⌜ Grows (now (s .entry)) p (a .place) × EndsThere (now (s .entry)) (p .at) (a .place .at) ⌝ }
 {
     let at = p.at;

@@ -24,7 +24,7 @@ use Rattle.statements_acts.specs.declared.Act.{Act}
 use Rattle.statements_acts.specs.Act.{changeIn, takenIn, Acts, ActsThere}
 use Rattle.statements_steps.specs.Statement.{frontSize, settle}
 use Rattle.statements_steps.proofs.Whole.{valuesOf, valued, ownFault, ownAfter, restOf}
-use Rattle.statements_steps.specs.Own.{numberOf, blocksFault}
+use Rattle.statements_steps.specs.Own.{numberOf}
 use Rattle.statements_steps.proofs.Plain.{blockless-fault, few-locals, length-shape}
 use Rattle.image_writing.specs.Memory.{Memory, memory}
 use Rattle.blocks_laws.specs.Walks.{Walked, StmtsWalk, BlocksWalk, TagWalks, LeadsAll, blocked}

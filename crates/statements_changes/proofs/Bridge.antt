@@ -1,34 +1,26 @@
 -- The stack of the crate scope_stack, as the walk up to the next change is lent it.
 -- Assumes nothing.
-use Prim.Native.Nat.{ℕ, zero, suc, _+_, _-_, _*_, _≤_, _<_}
-use mathlib.Core.Path.{_≡_, refl, sym, ap, _∙_, subst}
-use mathlib.Core.Bool.{Bool, true, false, cond, _&&_}
-use mathlib.Core.List.{List, [], _∷_}
+use Prim.Native.Nat.{ℕ, _≤_, _<_}
+use mathlib.Core.Path.{_≡_, refl, sym, ap, _∙_}
+use mathlib.Core.Bool.{Bool, true, false, _&&_}
+use mathlib.Core.List.{List}
 use mathlib.Core.Logic.{⊎-elim}
 use borrow.Author.Tests.{lt-ltb, le-ltb}
 use native.Mathlib.Omega.{arith}
-use lib.Dec.{ltb, eqb}
-use lib.ListN.{length, getD}
+use lib.Dec.{ltb}
+use lib.ListN.{getD}
 use Rattle.image_fields.proofs.Tests.{less}
 use Rattle.tables.specs.Tables.{Tables}
 use Rattle.rules.specs.Questions.{auto}
-use Rattle.rules.specs.State.{State as Status, isAlive}
-use Rattle.rules.specs.Stack.{Stack as Scope}
-use Rattle.scope_state.specs.Kinds.{said}
-use Rattle.expressions_scan.specs.States.{lowOf, statusOf, stateAt, Kept, AllKept}
+use Rattle.expressions_scan.specs.States.{lowOf, Kept, AllKept}
 use Rattle.scope_stack.specs.declared.Locals.{Locals}
 use Rattle.scope_stack.specs.declared.States.{States}
 use Rattle.scope_stack.specs.Word.{wordOf}
-use Rattle.scope_stack.specs.View as split
-use Rattle.scope_stack.specs.View.{stacked, staticAt, entryAt, rowOf, rowAt, view, dropAt, Known, Rowed, Sound}
+use Rattle.scope_stack.specs.View.{entryAt, rowOf, stateAt, view, dropAt, Rowed, Sound}
 use Rattle.scope_stack.proofs.Words.{word-same}
 use Rattle.scope_stack.proofs.Marked.{lives-at}
-use Rattle.statements_acts.specs.Marks.{HoldsAll, dropIn, Marked}
+use Rattle.statements_acts.specs.Marks.{dropIn, Marked}
 use Rattle.statements_changes.specs.Turns.{Lends}
-
-by-low : (b : Bool) (k j : ℕ) (x y : List ℕ) → said (cond b k j) (cond b x y) ≡ cond b (said k x) (said j y)
-by-low true k j x y = refl
-by-low false k j x y = refl
 
 low-of : (k : ℕ) → k < 15 → (k < 9 → k < 7) → (lowOf k < 7) × (8 ≤ k → 0 < lowOf k)
 low-of k h s =
@@ -37,33 +29,23 @@ low-of k h s =
     (λ (l : 8 ≤ k). let e : ltb k 8 ≡ false = le-ltb k 8 l in let m : k < 9 → ⊥ = λ z. (let y = s z in omega arith) in rw e (omega arith, λ z. ⊎-elim (λ (q : k < 9). absurd (m q)) (λ (q : 9 ≤ k). omega arith) (less k 9)))
     (less k 8)
 
+-- the mark that drop_word gives is the one that is lent
+pub marked-view : (T : Tables) (l : Locals) (t : States) (rows : List ℕ) (cur width mark : ℕ) → Rowed (l .count) t rows cur width → mark ≡ wordOf (l .count) (dropAt T l t)
+    → Marked T (l .types) (stateAt t rows cur width) (l .count) mark
+marked-view T l t rows cur width mark h e =
+    e ∙ word-same (l .count) (dropAt T l t) (dropIn T (l .types) (stateAt t rows cur width))
+    (λ i li. ap (λ (b : Bool). b && auto T (getD (l .types) i 0)) (sym (lives-at rows width (rowOf cur width i) (entryAt t i) (h .known i))))
+
 module _ (l : Locals) (t : States) (rows : List ℕ) (cur width : ℕ) where
-  abbrev states′ : ℕ → Status
-  states′ = stateAt (t .kinds) (t .firsts) rows cur width
-
-  pub state-same : (i : ℕ) → states′ i ≡ split.stateAt t rows cur width i
-  unfolding statusOf
-  state-same i = by-low (ltb (getD (t .kinds) i 0) 8) (getD (t .kinds) i 0) (getD (t .kinds) i 0 - 8) (getD (t .firsts) i 0 ∷ []) (rowAt rows (rowOf cur width i))
-
-  holds-first : (n : ℕ) → HoldsAll (l .names) (l .types) (l .depths) states′ n (stacked n (staticAt l) (split.stateAt t rows cur width))
-  unfolding HoldsAll stacked
-  holds-first zero = tt
-  holds-first (suc n) = (refl, refl, refl, sym (state-same n), holds-first n)
-
-  -- the mark that drop_word gives is the one that is lent
   pub lends-view : (T : Tables) (mark : ℕ) → Rowed (l .count) t rows cur width → mark ≡ wordOf (l .count) (dropAt T l t)
-      → Lends T mark (l .names) (l .types) (l .depths) states′ (l .count) (view l t rows cur width)
-  lends-view T mark h e = record {
-    held = holds-first (l .count);
-    marked = e ∙ word-same (l .count) (dropAt T l t) (dropIn T (l .types) states′)
-        (λ i li. ap (λ (b : Bool). b && auto T (getD (l .types) i 0)) (sym (ap isAlive (state-same i) ∙ lives-at rows width (rowOf cur width i) (entryAt t i) (h .known i))));
-  }
+      → Lends T mark (l .names) (l .types) (l .depths) (stateAt t rows cur width) (l .count) (view l t rows cur width)
+  lends-view T mark h e = record { held = refl; marked = marked-view T l t rows cur width mark h e }
 
   -- what the walk asks of states and rows
   pub kept-view : Sound l t rows cur width → cur < 4294967296 → width ≤ 8 → AllKept (t .kinds) (t .firsts) rows cur width (l .count)
   kept-view s lc lw = record { few = s .kept .small; narrow = omega arith; low = lc; kept = one }
     where
-      one : (i : ℕ) → i < l .count → Kept (getD (t .kinds) i 0) (getD (t .firsts) i 0) rows (cur + i * (width + 1))
+      one : (i : ℕ) → i < l .count → Kept (getD (t .kinds) i 0) (getD (t .firsts) i 0) rows (rowOf cur width i)
       one i li =
           let k = s .rowed .known i in
           let z = low-of (getD (t .kinds) i 0) (k .kind) (k .single) in

@@ -1,9 +1,8 @@
 -- The values of a statement: their scan begins, and goes on.
 -- Assumes nothing.
-use Prim.Native.Nat.{ℕ, _-_, _≤_, _<_}
-use native.Mathlib.Omega.{arith}
-use mathlib.Core.Path.{_≡_, refl, sym, ap, _∙_, subst}
-use mathlib.Core.Bool.{Bool, true, false}
+use Prim.Native.Nat.{ℕ, _-_, _<_}
+use mathlib.Core.Path.{_≡_, sym, subst}
+use mathlib.Core.Bool.{true, false}
 use mathlib.Core.List.{List}
 use Rattle.image_fields.proofs.Tests.{false-true}
 use Rattle.tables.specs.Tables.{Tables}
@@ -11,8 +10,7 @@ use Rattle.rules.specs.State.{State as Status}
 use Rattle.rules.specs.Stack.{Stack as Scope}
 use Rattle.expressions_steps.specs.Scan.{rootOf, topOf}
 use Rattle.statements_returns.specs.Front.{frontAt}
-use Rattle.statements_acts.specs.declared.Named.{Named}
-use Rattle.statements_acts.specs.declared.Named.the-variants.{Nobody, Called}
+use Rattle.statements_acts.specs.declared.Named.the-variants.{Nobody}
 use Rattle.statements_acts.specs.declared.Place.{Place}
 use Rattle.statements_acts.specs.Act.{takenIn}
 use Rattle.image_writing.specs.Memory.{Memory, memory}
@@ -20,7 +18,7 @@ use Rattle.blocks_laws.specs.Walks.{LeadsAll}
 use Rattle.expressions_scan.specs.Resumed.{opens, Onward}
 use Rattle.expressions_scan.proofs.Onward.{onward-none, onward-both}
 use Rattle.statements_changes.specs.declared.Cursor.{Cursor}
-use Rattle.statements_changes.specs.Turns.{retold, betweenOf, withinOf, Midst, Stood}
+use Rattle.statements_changes.specs.Turns.{retold, withinOf, Stood}
 
 module _ (T : Tables) (s : List ℕ) (left d all : ℕ) (σ₀ : Scope Status) (p₀ : Place) (m₀ : Memory) where
   module _ (ns : List ℕ) (c : Cursor) (σ : Scope Status) (out errs warns lefts : List ℕ) (g : Stood T s left d all σ₀ p₀ m₀ ns c σ (memory out errs warns lefts)) where

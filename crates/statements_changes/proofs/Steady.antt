@@ -17,7 +17,6 @@ use Rattle.rules.specs.State.{State as Status}
 use Rattle.rules.specs.Stack.{Stack as Scope}
 use Rattle.expressions_steps.specs.Scan.{fuel}
 use Rattle.expressions_steps.proofs.Start.{finished}
-use Rattle.statements_returns.specs.Front.{frontAt}
 use Rattle.statements_returns.specs.Returns.{StmtThere}
 use Rattle.statements_returns.proofs.Surely.{stmt-there}
 use Rattle.statements_steps.specs.Statement.{frontSize}
@@ -30,7 +29,7 @@ use Rattle.statements_acts.specs.declared.Change.the-variants as change
 use Rattle.statements_acts.specs.declared.Place.{Place}
 use Rattle.statements_acts.specs.declared.Act.{Act}
 use Rattle.statements_acts.specs.Act.{FrontThere, Within, Grows, ActsThere}
-use Rattle.blocks_laws.specs.Walks.{StmtsThere, TagThere, blocked}
+use Rattle.blocks_laws.specs.Walks.{StmtsThere, blocked}
 use Rattle.blocks_laws.proofs.Wrotes.{within-on}
 use Rattle.blocks_laws.proofs.Values.{ValuesAt, values-in, front-end}
 use Rattle.blocks_laws.proofs.Tags.{tag-there, no-blocks}
@@ -173,6 +172,10 @@ front-told s p q end e f = subst (λ (x : Place). FrontThere s (x .at) end) (sym
 pub acts-told : {T : Tables} {s : List ℕ} {σ : Scope Status} {p q : Place} {out warns lefts out₁ warns₁ lefts₁ : List ℕ} {a : Act} → q ≡ p
     → ActsThere T s σ q out warns lefts a out₁ warns₁ lefts₁ → ActsThere T s σ p out warns lefts a out₁ warns₁ lefts₁
 acts-told {T} {s} {σ} {p} {q} {out} {warns} {lefts} {out₁} {warns₁} {lefts₁} {a} e h = subst (λ (x : Place). ActsThere T s σ x out warns lefts a out₁ warns₁ lefts₁) e h
+
+pub acts-of : {T : Tables} {s : List ℕ} {σ τ : Scope Status} {p : Place} {out warns lefts out₁ warns₁ lefts₁ : List ℕ} {a : Act} → σ ≡ τ
+    → ActsThere T s τ p out warns lefts a out₁ warns₁ lefts₁ → ActsThere T s σ p out warns lefts a out₁ warns₁ lefts₁
+acts-of {T} {s} {σ} {τ} {p} {out} {warns} {lefts} {out₁} {warns₁} {lefts₁} {a} e h = subst (λ (x : Scope Status). ActsThere T s x p out warns lefts a out₁ warns₁ lefts₁) (sym e) h
 
 pub grows-told : {s : List ℕ} {p q z : Place} → q ≡ p → Grows s q z → Grows s p z
 grows-told {s} {p} {q} {z} e h = subst (λ (x : Place). Grows s x z) e h

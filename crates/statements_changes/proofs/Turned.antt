@@ -5,7 +5,7 @@ use native.Mathlib.Omega.{arith}
 use mathlib.Core.Path.{_≡_, refl, sym, ap, _∙_, subst}
 use mathlib.Core.Bool.{Bool, true, false}
 use mathlib.Core.List.{List, [], _∷_}
-use lib.ListN.{length, getD}
+use lib.ListN.{length}
 use Rattle.image_fields.proofs.Tests.{false-true}
 use Rattle.tables.specs.Tables.{Tables}
 use Rattle.rules.specs.State.{State as Status}
@@ -18,7 +18,7 @@ use Rattle.statements_returns.specs.Front.{frontAt}
 use Rattle.statements_acts.specs.declared.Named.{Named}
 use Rattle.statements_acts.specs.declared.Named.the-variants.{Nobody, Called}
 use Rattle.statements_acts.specs.declared.Place.{Place}
-use Rattle.statements_acts.specs.Act.{takenIn, Within, Grows}
+use Rattle.statements_acts.specs.Act.{takenIn, Grows}
 use Rattle.image_writing.specs.Memory.{Memory, memory}
 use Rattle.blocks_laws.specs.Walks.{LeadsAll}
 use Rattle.blocks_laws.proofs.Values.{front-walkable, front-inside}
@@ -27,15 +27,15 @@ use Rattle.expressions_scan.specs.declared.Scanned.{Scanned}
 use Rattle.expressions_scan.specs.declared.Change.{Change}
 use Rattle.expressions_scan.specs.declared.Change.the-variants as change
 use Rattle.expressions_scan.specs.Changes.{applied, Marks}
-use Rattle.expressions_scan.specs.Resumed.{opens, Onward, Came as CameTo, Going}
+use Rattle.expressions_scan.specs.Resumed.{opens, Came as CameTo, Going}
 use Rattle.expressions_scan.proofs.Nodes.{length-opens}
 use Rattle.statements_changes.specs.declared.Turn.{Turn}
 use Rattle.statements_changes.specs.declared.Turn.the-variants.{Nothing, Over, Mark}
 use Rattle.statements_changes.specs.declared.Cursor.{Cursor}
 use Rattle.statements_changes.specs.declared.Came.{Came}
 use Rattle.tables_lookup.specs.Lent.{Says}
-use Rattle.statements_changes.specs.Turns.{Lends, retold, betweenOf, withinOf, Stood, After, Steady, SomeSteady, Fit, owes, ahead}
-use Rattle.statements_changes.proofs.Midst.{stood-begin, stood-on}
+use Rattle.statements_changes.specs.Turns.{Lends, retold, betweenOf, withinOf, Stood, After, Steady, Fit, owes, ahead}
+use Rattle.statements_changes.proofs.Midst.{stood-begin}
 use Rattle.statements_changes.proofs.Steady.{next-there}
 
 -- what the start of a scan leaves

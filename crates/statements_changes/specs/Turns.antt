@@ -1,17 +1,16 @@
 -- Statements of a block walked over lent arrays up to the next change of the stack.
-use Prim.Native.Nat.{ℕ, zero, suc, _+_, _-_, _*_, _≤_, _<_}
+use Prim.Native.Nat.{ℕ, _+_, _*_, _≤_, _<_}
 use mathlib.Core.Path.{_≡_}
-use mathlib.Core.Bool.{Bool, true, false, cond}
+use mathlib.Core.Bool.{true, false, cond}
 use mathlib.Core.List.{List, [], _∷_}
 use mathlib.Core.Option.{none}
-use lib.ListN.{getD}
 use Rattle.image_fields.specs.Parsed.{ok}
 use Rattle.tables.specs.Limits.{version1}
 use Rattle.tables.specs.Tables.{Tables}
 use Rattle.image_body.specs.Expr.{Scope as Reading, Exprs}
 use Rattle.image_body.specs.Stmt.{Tree, stmtsAt}
 use Rattle.rules.specs.State.{State as Status}
-use Rattle.rules.specs.Stack.{local, mark, Stack as Scope}
+use Rattle.rules.specs.Stack.{mark, Stack as Scope}
 use Rattle.rules.specs.Rules.{states, register}
 use Rattle.rules.specs.Walk.{tooMany, walkFault}
 use Rattle.expressions_steps.specs.Scan.{Stage, Stacked, Ready, fuel, rootOf, topOf}
@@ -29,15 +28,15 @@ use Rattle.image_writing.specs.Memory.{Memory, memory}
 use Rattle.blocks_laws.specs.Walks.{Walked, LeadsAll, StmtsWalk, StmtsThere, TagThere, TagWalks, blocked}
 use Rattle.expressions_scan.specs.Changes.{Standing}
 use Rattle.expressions_scan.specs.Resumed.{opens, Onward}
-use Rattle.statements_acts.specs.Marks.{HoldsAll, Marked}
+use Rattle.statements_acts.specs.Marks.{lent, Marked}
 use Rattle.statements_changes.specs.declared.Turn.{Turn}
 use Rattle.statements_changes.specs.declared.Turn.the-variants.{Nothing, Over, Mark, Register, Blocks}
 use Rattle.statements_changes.specs.declared.Cursor.{Cursor}
 use Rattle.statements_changes.specs.declared.Came.{Came}
 
--- the first n locals of lent arrays are the stack's, and the mark has those that are deleted where they end
+-- the stack is that of the first n locals of lent arrays, and the mark has those that are deleted where they end
 pub record Lends (T : Tables) (mark : ℕ) (names types depths : List ℕ) (at : ℕ → Status) (n : ℕ) (σ : Scope Status) : Type 0 where
-  pub held : HoldsAll names types depths at n σ
+  pub held : σ ≡ lent names types depths at n
   pub marked : Marked T types at n mark
 
 -- a place with other errors

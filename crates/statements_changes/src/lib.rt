@@ -3,19 +3,17 @@
 ghost use mathlib.Core.Path.{_≡_};
 ghost use mathlib.Core.Bool.{true, false};
 ghost use mathlib.Core.List.{List};
-ghost use Prim.Native.Nat.{ℕ, _+_, _-_, _*_, _≤_, _<_};
-ghost use lib.ListN.{length, getD};
+ghost use Prim.Native.Nat.{ℕ, _+_, _-_, _≤_, _<_};
+ghost use lib.ListN.{length};
 ghost use Rattle.tables.specs.Tables.{Tables};
 ghost use Rattle.tables_lookup.specs.Lent.{Lent, Says};
 ghost use Rattle.rules.specs.State.{State as Status};
 ghost use Rattle.rules.specs.Stack.{Stack as Scope};
-ghost use Rattle.expressions_steps.specs.Scan.{topOf, rootOf};
-ghost use Rattle.statements_returns.specs.Front.{frontAt};
 ghost use Rattle.statements_acts.specs.Act.{Grows};
 ghost use Rattle.image_writing.specs.Memory.{Memory, memory};
 ghost use Rattle.blocks_laws.specs.Walks.{blocked};
-ghost use Rattle.expressions_scan.specs.States.{stateAt, AllKept, Holds};
-ghost use Rattle.expressions_scan.specs.Resumed.{opens};
+ghost use Rattle.scope_state.specs.Locals.{stateIn, lent};
+ghost use Rattle.expressions_scan.specs.States.{AllKept};
 ghost use Rattle.statements_acts.specs.declared.Named.the-variants.{Nobody};
 ghost use Rattle.statements_changes.specs.declared.Turn.the-variants.{Nothing, Over, Mark};
 ghost use Rattle.statements_changes.specs.Turns.{Lends, retold, betweenOf, withinOf, cameOf, Stood, After, Steady, SomeSteady, Fit, ahead};
@@ -251,7 +249,8 @@ fn scanned<'a>(
     requires { ⌜ Lent (now s) (now tb) × AllKept (now lk) (now lf) (now rows) (env .cur) (env .width) (env .locals)
         × Steady (now s) (env .left) (now nodes) c × (c .begun ≡ true) ⌝ }
     ensures { λ r. ⌜ ((T : Tables) → Says (now (s .entry)) (now (tb .entry)) T
-        → (σ : Scope Status) → Holds (now (ln .entry)) (stateAt (now (lk .entry)) (now (lf .entry)) (now (rows .entry)) (env .cur) (env .width)) (env .locals) σ
+        → (types depths : List ℕ) (σ : Scope Status)
+        → σ ≡ lent (now (ln .entry)) types depths (stateIn (now (lk .entry)) (now (lf .entry)) (now (rows .entry)) (env .cur) (env .width)) (env .locals)
         → (all : ℕ) (σ₀ : Scope Status) (p₀ : Place) (m₀ : Memory) (out warns lefts : List ℕ)
         → Stood T (now (s .entry)) (env .left) (12 - env .left) all σ₀ p₀ m₀ (now (nodes .entry)) c σ (memory out (now (errs .entry)) warns lefts)
         → After T (now (s .entry)) (env .left) (12 - env .left) all σ₀ p₀ m₀ (now (nodes .exit)) (r .cursor) σ (memory out (now (errs .exit)) warns lefts) (r .turn)) ⌝ }
@@ -316,7 +315,7 @@ pub fn next_change<'a>(
         × (env .left ≤ 12) × Steady (now s) (env .left) (now nodes) cursor × (length (now nodes) ≡ 26) ⌝ }
     ensures { λ r. ⌜ ((T : Tables) → Says (now (s .entry)) (now (tb .entry)) T
         → (σ : Scope Status)
-        → Lends T (env .mark) (now (ln .entry)) (now (lt .entry)) (now (ld .entry)) (stateAt (now (lk .entry)) (now (lf .entry)) (now (rows .entry)) (env .cur) (env .width)) (env .locals) σ
+        → Lends T (env .mark) (now (ln .entry)) (now (lt .entry)) (now (ld .entry)) (stateIn (now (lk .entry)) (now (lf .entry)) (now (rows .entry)) (env .cur) (env .width)) (env .locals) σ
         → (all : ℕ) (σ₀ : Scope Status) (p₀ : Place) (m₀ : Memory)
         → Stood T (now (s .entry)) (env .left) (12 - env .left) all σ₀ p₀ m₀ (now (nodes .entry)) cursor σ (memory (now (out .entry)) (now (errs .entry)) (now (warns .entry)) (now (lefts .entry)))
         → After T (now (s .entry)) (env .left) (12 - env .left) all σ₀ p₀ m₀ (now (nodes .exit)) (r .cursor) σ (memory (now (out .exit)) (now (errs .exit)) (now (warns .exit)) (now (lefts .exit))) (r .turn)) ⌝ }

@@ -1,8 +1,7 @@
 use Rattle.expressions_scan.proofs.Loop.{Scan, scan-start, scan-next, scan-stop, scan-end, stops-as, some-goes}
-use Rattle.expressions_scan.specs.States.{stateAt}
+use Rattle.scope_state.specs.Locals.{stateIn}
 use Rattle.expressions_steps.proofs.Start.{few}
 use Rattle.expressions_steps.specs.Scan.{fuel}
-use mathlib.Core.Path.{_∙_}
 use native.Mathlib.Omega.{arith}
 use borrow.Author.Needs.{needs}
 use Rattle.expressions_scan.proofs.scan_on.Statement.{statement}
@@ -15,25 +14,25 @@ use Rattle.expressions_scan.proofs.stopped.Reads as stopped-reads
 
 abbrev Inv-loop : tie.InvT-loop
 Inv-loop s tb env ln lk lf rows nodes₀ count at errs₀ told depth₀ p₀ t₀ nodes errs depth p t =
-    Scan s tb ln (stateAt lk lf rows (env .cur) (env .width)) (env .locals) nodes₀ count at errs₀ told nodes depth p errs t
+    Scan s tb ln (stateIn lk lf rows (env .cur) (env .width)) (env .locals) nodes₀ count at errs₀ told nodes depth p errs t
 
 abbrev μ-loop : tie.MeasureT-loop
 μ-loop s tb env ln lk lf rows nodes₀ count at errs₀ told depth₀ p₀ t₀ nodes errs depth p t =
     fuel s depth p
 
--- src/lib.rt:481:5
+-- src/lib.rt:458:5
 loop-holds : tie.Need-loop-holds Inv-loop μ-loop
 loop-holds c = scan-start _ _ _ _ _ _ _ _ _ _ (c .before .before .before .before .pre .2)
 
--- src/lib.rt:482:13
+-- src/lib.rt:459:13
 step-on-requires : tie.Need-step-on-requires Inv-loop μ-loop
 step-on-requires c κs = (c .before .before .before .before .before .before .before .pre .0, c .before .before .loop .inv .ready, c .before .loop-test .taken)
 
--- src/lib.rt:483:17
+-- src/lib.rt:460:17
 sub-depth : tie.Need-sub-depth Inv-loop μ-loop
 sub-depth c = search needs
 
--- src/lib.rt:483:17
+-- src/lib.rt:460:17
 add-depth : tie.Need-add-depth Inv-loop μ-loop
 add-depth c =
     let i = c .before .before .before .before .loop .inv in
@@ -42,7 +41,7 @@ add-depth c =
     let h = some-goes _ _ _ _ _ _ _ _ _ _ i _ (t .result) (t .ensures .1) (t .ensures .0) .held in
     omega arith
 
--- src/lib.rt:489:13
+-- src/lib.rt:466:13
 effect-on-requires : tie.Need-effect-on-requires Inv-loop μ-loop
 effect-on-requires c κs =
     let at-loop = c .before .before .before .before .before in
@@ -52,22 +51,22 @@ effect-on-requires c κs =
     let x = r .3 in
     (r .1, omega arith)
 
--- src/lib.rt:493:13
+-- src/lib.rt:470:13
 enum-told : tie.Need-enum-told Inv-loop μ-loop
 enum-told c = search needs
 
--- src/lib.rt:493:13
+-- src/lib.rt:470:13
 stopped-requires : tie.Need-stopped-requires Inv-loop μ-loop
 stopped-requires c κs = search needs
 
--- src/lib.rt:493:13
+-- src/lib.rt:470:13
 same-length : tie.Need-same-length Inv-loop μ-loop
 same-length c =
     let at-effect-on = c .before .before .before .before .before in
     let at-loop = at-effect-on .before .before .before .before .before .before in
     omega (arith, at-effect-on .effect-on .kept .1 .1 .1 .1 .1 .1 .1 .1 .0, at-loop .loop .inv .room)
 
--- src/lib.rt:493:13
+-- src/lib.rt:470:13
 returns : tie.Need-returns Inv-loop μ-loop
 returns c =
     let at-effect-on = c .before .before .before .before .before in
@@ -75,13 +74,14 @@ returns c =
     let at-loop = at-step-on .before .before .before in
     let i = at-loop .loop .inv in
     let t = at-step-on .step-on in
-    stops-as _ _ _ _ _ _ _ _ _ _ _ _ (c .stopped .ensures)
+    let a = c .before .before .before .before .before .before .before .before .before .before .before .before .before .before .before .before .args in
+    stops-as _ _ (a .ln .now) (stateIn (a .lk .now) (a .lf .now) (a .rows .now) (a .env .cur) (a .env .width)) _ _ _ _ _ _ _ _ (c .stopped .ensures)
     (scan-stop _ _ _ _ _ _ _ _ _ _ i _ (t .result) (t .ensures .1) (t .ensures .0) (at-effect-on .effect-on .ensures) _ (c .before .enum-told .given .1) (λ b f lt. lt))
 
 enum-told-2 : tie.Need-enum-told-2 Inv-loop μ-loop
 enum-told-2 c = search needs
 
--- src/lib.rt:481:5
+-- src/lib.rt:458:5
 loop-less : tie.Need-loop-less Inv-loop μ-loop
 loop-less c =
     let at-step-on = c .before .before .before .before .before .before .before in
@@ -89,7 +89,7 @@ loop-less c =
     let t = at-step-on .step-on in
     some-goes _ _ _ _ _ _ _ _ _ _ (at-loop .loop .inv) _ (t .result) (t .ensures .1) (t .ensures .0) .falls
 
--- src/lib.rt:481:5
+-- src/lib.rt:458:5
 loop-again : tie.Need-loop-again Inv-loop μ-loop
 loop-again c =
     let at-effect-on = c .before .before .before .before in
@@ -99,17 +99,19 @@ loop-again c =
     let e = at-effect-on .effect-on in
     scan-next _ _ _ _ _ _ _ _ _ _ (at-loop .loop .inv) _ (t .result) (t .ensures .1) (t .ensures .0) (e .ensures) (c .enum-told2 .given .1) (e .kept .1 .1 .1 .1 .1 .1 .1 .1 .0)
 
--- src/lib.rt:496:5
+-- src/lib.rt:473:5
 stopped-requires-2 : tie.Need-stopped-requires-2 Inv-loop μ-loop
 stopped-requires-2 c κs = search needs
 
--- src/lib.rt:456:1
+-- src/lib.rt:432:1
 same-length-2 : tie.Need-same-length-2 Inv-loop μ-loop
 same-length-2 c = c .before .before .loop .inv .room
 
--- src/lib.rt:456:1
+-- src/lib.rt:432:1
 returns-2 : tie.Need-returns-2 Inv-loop μ-loop
-returns-2 c = stops-as _ _ _ _ _ _ _ _ _ _ _ _ (c .stopped2 .ensures) (scan-end _ _ _ _ _ _ _ _ _ _ (c .before .loop-test .left) (c .before .before .loop .inv))
+returns-2 c =
+    let a = c .before .before .before .before .before .before .before .args in
+    stops-as _ _ (a .ln .now) (stateIn (a .lk .now) (a .lf .now) (a .rows .now) (a .env .cur) (a .env .width)) _ _ _ _ _ _ _ _ (c .stopped2 .ensures) (scan-end _ _ _ _ _ _ _ _ _ _ (c .before .loop-test .left) (c .before .before .loop .inv))
 
 pub scan-on-spec : {M : Type 1} → statement M
 scan-on-spec =

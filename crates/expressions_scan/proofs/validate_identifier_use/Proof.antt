@@ -1,5 +1,6 @@
 use Rattle.expressions_scan.proofs.Effects.{answers-use}
-use Rattle.expressions_scan.proofs.Finding.{found-below, found-local, found-none, use-some, use-none}
+use Rattle.expressions_scan.proofs.Finding.{use-some, use-none}
+use Rattle.scope_state.proofs.Stacked.{found-below}
 use Rattle.expressions_scan.proofs.Entries.{stored-eq}
 use Rattle.image_writing.proofs.Stores.{none-stored}
 use Rattle.rules.specs.Verdict.{entriesOf}
@@ -11,36 +12,36 @@ use Rattle.expressions_scan.proofs.validate_identifier_use.Statement.{s
 use Rattle.expressions_scan.proofs.validate_identifier_use.Tie as tie
 use Rattle.expressions_scan.proofs.validate_identifier_use.Reads as reads
 use Rattle.expressions_scan.proofs.validate_identifier_use.Lts as lts
-use Rattle.expressions_scan.proofs.find_local.Reads as find-local-reads
+use Rattle.scope_state.proofs.find_local.Reads as find-local-reads
 use Rattle.expressions_scan.proofs.put_use_of.Reads as put-use-of-reads
 
--- src/lib.rt:241:11
+-- src/lib.rt:229:11
 find-local-requires : tie.Need-find-local-requires
 find-local-requires c κs = search needs
 
--- src/lib.rt:242:19
+-- src/lib.rt:230:19
 enum-known-i : tie.Need-enum-known-i
 enum-known-i c = search needs
 
--- src/lib.rt:243:17
+-- src/lib.rt:231:17
 put-use-of-requires : tie.Need-put-use-of-requires
 put-use-of-requires c κs = (c .before .before .before .before .before .before .before .pre .0, found-below (c .before .before .before .before .find-local .ensures) (c .before .before .i .given .1), c .before .before .before .before .before .before .before .pre .1)
 
--- src/lib.rt:251:21
+-- src/lib.rt:239:21
 enum-told : tie.Need-enum-told
 enum-told c = search needs
 
--- src/lib.rt:224:1
+-- src/lib.rt:212:1
 same-length : tie.Need-same-length
 same-length c = search needs
 
--- src/lib.rt:224:1
+-- src/lib.rt:212:1
 returns : tie.Need-returns
-returns c = (λ σ h. answers-use σ (stored-eq (sym (ap (entriesOf version1) (use-some (c .before .before .before .before .before .before .before .find-local .ensures) _ σ h (c .before .before .before .before .before .i .given .1) _))) (c .before .before .put-use-of .ensures .0)), record { most = c .before .before .put-use-of .ensures .1; marks = tt })
+returns c = (λ types depths. answers-use _ (stored-eq (sym (ap (entriesOf version1) (use-some (c .before .before .before .before .before .before .before .find-local .ensures) types depths _ (c .before .before .before .before .before .i .given .1) _))) (c .before .before .put-use-of .ensures .0)), record { most = c .before .before .put-use-of .ensures .1; marks = tt })
 
--- src/lib.rt:224:1
+-- src/lib.rt:212:1
 returns-2 : tie.Need-returns-2
-returns-2 c = (λ σ h. answers-use σ (stored-eq (sym (ap (entriesOf version1) (use-none (c .before .before .find-local .ensures) _ σ h (c .enum-told .given .1) _))) (none-stored _ _)), record { most = omega arith; marks = tt })
+returns-2 c = (λ types depths. answers-use _ (stored-eq (sym (ap (entriesOf version1) (use-none (c .before .before .find-local .ensures) types depths _ (c .enum-told .given .1) _))) (none-stored _ _)), record { most = omega arith; marks = tt })
 
 pub validate-identifier-use-spec : {M : Type 1} → statement M
 validate-identifier-use-spec =

@@ -1,5 +1,5 @@
 use Rattle.statements_acts.proofs.Dropped.{assign-none, assign-kept, assign-drop}
-use Rattle.statements_acts.proofs.Lent.{found-below}
+use Rattle.scope_state.proofs.Stacked.{found-below}
 use Rattle.statements_acts.specs.Marks.{dropIn}
 use Rattle.statements_acts.proofs.Laws.{none-put, one-put}
 use Rattle.image_writing.proofs.Stores.{delete-length}
@@ -12,7 +12,7 @@ use Rattle.statements_acts.proofs.put_assign_drop.Statement.{statement}
 use Rattle.statements_acts.proofs.put_assign_drop.Tie as tie
 use Rattle.statements_acts.proofs.put_assign_drop.Reads as reads
 use Rattle.statements_acts.proofs.put_assign_drop.Lts as lts
-use Rattle.scope_stack.proofs.find_local.Reads as find-local-reads
+use Rattle.scope_state.proofs.find_local.Reads as find-local-reads
 use Rattle.scope_stack.proofs.has_bit.Reads as has-bit-reads
 use Rattle.image_writing.proofs.put_delete.Reads as put-delete-reads
 
@@ -38,14 +38,14 @@ returns c =
 has-bit-requires : tie.Need-has-bit-requires
 has-bit-requires c κs =
     let a = c .before .before .before .before .before .args in
-    let lt = found-below (a .names .now) (a .count) _ (c .before .before .before .find-local .ensures) (c .before .i .given .1) in
+    let lt = found-below (c .before .before .before .find-local .ensures) (c .before .i .given .1) in
     omega (arith, lt, c .before .before .before .before .before .pre .0)
 
 -- src/lib.rt:475:9
 returns-2 : tie.Need-returns-2
 returns-2 c =
     let a = c .before .before .before .before .before .before .before .args in
-    let lt = found-below (a .names .now) (a .count) _ (c .before .before .before .before .before .find-local .ensures) (c .before .before .before .i .given .1) in (
+    let lt = found-below (c .before .before .before .before .before .find-local .ensures) (c .before .before .before .i .given .1) in (
       omega arith,
       omega arith,
       λ T depths g e. none-put _ _ _ (assign-kept T (a .names .now) (a .tys .now) depths g (a .count) (a .span) (a .name) 0 _ (c .before .before .before .before .before .find-local .ensures) (c .before .before .before .i .given .0 .0) (c .before .before .before .i .given .1)
@@ -56,14 +56,14 @@ returns-2 c =
 mul-put-delete : tie.Need-mul-put-delete
 mul-put-delete c =
     let a = c .before .before .before .before .before .before .before .before .args in
-    let lt = found-below (a .names .now) (a .count) _ (c .before .before .before .before .before .before .find-local .ensures) (c .before .before .before .before .i .given .1) in
+    let lt = found-below (c .before .before .before .before .before .before .find-local .ensures) (c .before .before .before .before .i .given .1) in
     omega (arith, lt, c .before .before .before .before .before .before .before .before .pre .0)
 
 -- src/lib.rt:477:56
 element-copy-out-put-delete : tie.Need-element-copy-out-put-delete
 element-copy-out-put-delete c =
     let a = c .before .before .before .before .before .before .before .before .args in
-    let lt = found-below (a .names .now) (a .count) _ (c .before .before .before .before .before .before .find-local .ensures) (c .before .before .before .before .i .given .1) in
+    let lt = found-below (c .before .before .before .before .before .before .find-local .ensures) (c .before .before .before .before .i .given .1) in
     omega (arith, lt, c .before .before .before .before .before .before .before .before .pre .0)
 
 -- src/lib.rt:477:9
@@ -84,7 +84,7 @@ returns-3 c =
     let start = at-find-local .before .before in
     let a = start .args in
     let l : c .before .before .put-delete .result ≡ a .at + 21 = c .before .before .put-delete .ensures .place ∙ ap (λ (k : ℕ). a .at + k) (delete-length _ _ _) in
-    let lt = found-below (a .names .now) (a .count) _ (at-find-local .find-local .ensures) (at-i .i .given .1) in (
+    let lt = found-below (at-find-local .find-local .ensures) (at-i .i .given .1) in (
       omega (arith, l),
       omega arith,
       λ T depths g e. one-put _ _ _ _ _ _ _ _ (assign-drop T (a .names .now) (a .tys .now) depths g (a .count) (a .span) (a .name) 0 _ (at-find-local .find-local .ensures) (at-i .i .given .0 .0) (at-i .i .given .1)

@@ -1,9 +1,7 @@
 use Rattle.rules.specs.State.{alive}
 use mathlib.Core.List.{[]}
-use mathlib.Core.Path.{refl}
 use Rattle.tables_lookup.proofs.Lent.{tablesOf, said, names-within, names-said}
 use Rattle.statements_acts.proofs.Ends.{acts-ends}
-use Rattle.statements_acts.proofs.Lent.{holds-lent, acts-along}
 use Rattle.statements_acts.proofs.Acts.{tag-there, variable-tag, plain-tag}
 use mathlib.Core.Path.{sym, _∙_}
 use borrow.Author.Needs.{needs}
@@ -40,7 +38,7 @@ returns c =
     let at-either-return = c .before .before .before .before in
     let start = at-either-return .before .before .before .before .before .before .before .before .before .before in
     let a = start .args in
-    (λ T h g m σ o. acts-along (holds-lent (a .ln .now) (a .lt .now) (a .ld .now) g (a .n) σ o) (at-either-return .either-return .ensures .0 T g (a .n) m (a .warns .now)), at-either-return .either-return .ensures .1)
+    (λ T h g m. (at-either-return .either-return .ensures .0 T g (a .n) m (a .warns .now)), at-either-return .either-return .ensures .1)
 
 -- src/lib.rt:672:9
 expr-statement-requires : tie.Need-expr-statement-requires
@@ -61,7 +59,7 @@ returns-2 c =
     let start = at-expr-statement .before .before .before .before .before .before .before .before .before .before .before in
     let a = start .args in
     let r = at-expr-statement .expr-statement in
-    (λ T h g m σ o. r .ensures .0 T h σ (a .lefts .now), (r .ensures .1, acts-ends (r .ensures .0 (tablesOf (a .s .now) (a .tb .now)) (said (a .s .now) (a .tb .now)) [] [])))
+    (λ T h g m. r .ensures .0 T h _ (a .lefts .now), (r .ensures .1, acts-ends (r .ensures .0 (tablesOf (a .s .now) (a .tb .now)) (said (a .s .now) (a .tb .now)) [] [])))
 
 -- src/lib.rt:674:17
 shared-slice-read-names : tie.Need-shared-slice-read-names
@@ -103,7 +101,7 @@ returns-3 c =
     let start = c .before .before .before .before .before .before .before .before .before .before .before .before .before .before .before in
     let a = start .args in
     let e = c .before .before .assign-statement .ensures in
-    (λ T h g m σ o. acts-along (holds-lent (a .ln .now) (a .lt .now) (a .ld .now) g (a .n) σ o) (e .0 T (names-said h) (a .ld .now) g m (a .warns .now) (a .lefts .now)), e .1)
+    (λ T h g m. (e .0 T (names-said h) (a .ld .now) g m (a .warns .now) (a .lefts .now)), e .1)
 
 -- src/lib.rt:679:8
 is-variable-requires : tie.Need-is-variable-requires
@@ -127,7 +125,7 @@ returns-4 c =
     let start = c .before .before .before .before .before .before .before .before .before .before .before .before .before .before .before .before .before in
     let a = start .args in
     let e = c .before .before .variable-statement .ensures in (
-      λ T h g m σ o. acts-along (holds-lent (a .ln .now) (a .lt .now) (a .ld .now) g (a .n) σ o) (e .0 T (names-said h) (a .ld .now) g (a .warns .now) (a .lefts .now)),
+      λ T h g m. (e .0 T (names-said h) (a .ld .now) g (a .warns .now) (a .lefts .now)),
       (e .1, acts-ends (e .0 (tablesOf (a .s .now) (a .tb .now)) (names-said (said (a .s .now) (a .tb .now))) [] (λ i. alive) [] [])),
     )
 
@@ -150,7 +148,7 @@ returns-5 c =
     let start = c .before .before .before .before .before .before .before .before .before .before .before .before .before .before .before .before .before in
     let a = start .args in
     let r = c .before .before .plain-statement in
-    (λ T h g m σ o. r .ensures .0 T σ (a .warns .now) (a .lefts .now), (r .ensures .1, acts-ends (r .ensures .0 (tablesOf (a .s .now) (a .tb .now)) [] [] [])))
+    (λ T h g m. r .ensures .0 T _ (a .warns .now) (a .lefts .now), (r .ensures .1, acts-ends (r .ensures .0 (tablesOf (a .s .now) (a .tb .now)) [] [] [])))
 
 pub statement-spec : {M : Type 1} → statement M
 statement-spec =

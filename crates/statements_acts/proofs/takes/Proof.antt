@@ -2,7 +2,8 @@ use mathlib.Core.Path.{sym, _∙_}
 use native.Mathlib.Omega.{arith}
 use Rattle.rules.specs.Stack.{shape}
 use Rattle.statements_acts.specs.Marks.{lent}
-use Rattle.statements_acts.proofs.Lent.{found-below, static-none, static-some}
+use Rattle.statements_acts.proofs.Lent.{static-none, static-some}
+use Rattle.scope_state.proofs.Stacked.{found-below}
 use Rattle.statements_acts.proofs.Taken.{takes-same, takes-none, takes-other, takes-temp, takes-last}
 use borrow.Author.Needs.{needs}
 use Rattle.statements_acts.proofs.takes.Statement.{statement}
@@ -10,7 +11,7 @@ use Rattle.statements_acts.proofs.takes.Tie as tie
 use Rattle.statements_acts.proofs.takes.Reads as reads
 use Rattle.statements_acts.proofs.takes.Lts as lts
 use Rattle.expressions_effects.proofs.is_temp.Reads as is-temp-reads
-use Rattle.scope_stack.proofs.find_local.Reads as find-local-reads
+use Rattle.scope_state.proofs.find_local.Reads as find-local-reads
 
 -- src/lib.rt:149:9
 returns : tie.Need-returns
@@ -34,25 +35,25 @@ enum-told c = search needs
 returns-2 : tie.Need-returns-2
 returns-2 c =
     let a = c .before .before .before .before .before .before .args in
-    λ T e ld g. takes-none T (shape (lent (a .ln .now) (a .lt .now) ld g (a .n))) _ _ _ (static-none (a .ln .now) (a .n) _ (c .before .before .find-local .ensures) (a .lt .now) ld g (c .enum-told .given .1))
+    λ T e ld g. takes-none T (shape (lent (a .ln .now) (a .lt .now) ld g (a .n))) _ _ _ (static-none (c .before .before .find-local .ensures) (a .lt .now) ld g (c .enum-told .given .1))
 
 -- src/lib.rt:155:8
 mul-if2 : tie.Need-mul-if2
 mul-if2 c =
     let a = c .before .before .before .before .before .before .before .args in
-    let b = found-below (a .ln .now) (a .n) _ (c .before .before .before .find-local .ensures) (c .before .found .given .1) in omega arith
+    let b = found-below (c .before .before .before .find-local .ensures) (c .before .found .given .1) in omega arith
 
 -- src/lib.rt:155:8
 element-copy-out-if2 : tie.Need-element-copy-out-if2
 element-copy-out-if2 c =
     let a = c .before .before .before .before .before .before .before .args in
-    let b = found-below (a .ln .now) (a .n) _ (c .before .before .before .find-local .ensures) (c .before .found .given .1) in omega arith
+    let b = found-below (c .before .before .before .find-local .ensures) (c .before .found .given .1) in omega arith
 
 -- src/lib.rt:156:9
 returns-3 : tie.Need-returns-3
 returns-3 c =
     let a = c .before .before .before .before .before .before .before .before .before .args in
-    λ T e ld g. takes-other T (shape (lent (a .ln .now) (a .lt .now) ld g (a .n))) _ _ _ (static-some (a .ln .now) (a .n) _ (c .before .before .before .before .before .find-local .ensures) (a .lt .now) ld g (c .before .before .before .found .given .1)) (c .if2 .taken)
+    λ T e ld g. takes-other T (shape (lent (a .ln .now) (a .lt .now) ld g (a .n))) _ _ _ (static-some (c .before .before .before .before .before .find-local .ensures) (a .lt .now) ld g (c .before .before .before .found .given .1)) (c .if2 .taken)
 
 -- src/lib.rt:158:8
 is-temp-requires : tie.Need-is-temp-requires
@@ -77,7 +78,7 @@ returns-5 c =
     let at-if1 = at-find-local .before in
     let start = at-if1 .before .before .before in
     let a = start .args in
-    λ T e ld g. takes-last T (shape (lent (a .ln .now) (a .lt .now) ld g (a .n))) _ _ _ (at-if1 .if1 .left) (static-some (a .ln .now) (a .n) _ (at-find-local .find-local .ensures) (a .lt .now) ld g (at-found .found .given .1)) (c .before .before .before .if2 .left) (sym (c .before .before .is-temp .ensures T e) ∙ c .before .if3 .left) (c .is-temp2 .ensures T e)
+    λ T e ld g. takes-last T (shape (lent (a .ln .now) (a .lt .now) ld g (a .n))) _ _ _ (at-if1 .if1 .left) (static-some (at-find-local .find-local .ensures) (a .lt .now) ld g (at-found .found .given .1)) (c .before .before .before .if2 .left) (sym (c .before .before .is-temp .ensures T e) ∙ c .before .if3 .left) (c .is-temp2 .ensures T e)
 
 pub takes-spec : {M : Type 1} → statement M
 takes-spec =
