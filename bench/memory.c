@@ -135,12 +135,49 @@ static void records(const char *label, const uint32_t *numbers, size_t n) {
 }
 #endif
 
+/* The page, whatever the lists' lengths: roomy, exactly full, and a byte short: 16, and nothing changed. */
+static uint64_t page(const char *label, const uint8_t *image, size_t length, uint32_t fault) {
+    size_t room = 8 << 20;
+    uint8_t *lent = malloc(room);
+    memset(lent, PAINT, room);
+    uint64_t *written = malloc(sizeof *written), sum = 0;
+    uint32_t answer = ownership_page(image, length, lent, room, written);
+    if (answer != fault && !(fault == 0 && answer == 16))
+        die("page and room differ", label);
+    if (!is_painted(lent + (answer == 0 ? *written : 0), room - (answer == 0 ? *written : 0)))
+        die("changed past the page", label);
+    free(lent);
+    if (answer != 0) {
+        free(written);
+        return 0;
+    }
+    size_t needed = *written;
+    lent = malloc(needed);
+    if (ownership_page(image, length, lent, needed, written) != 0 || *written != needed)
+        die("a page that fits exactly is refused", label);
+    for (size_t i = 0; i < needed; i++)
+        sum = sum * 31 + lent[i];
+    free(lent);
+    if (needed > 0) {
+        lent = malloc(needed - 1);
+        memset(lent, PAINT, needed - 1);
+        if (ownership_page(image, length, lent, needed - 1, written) != 16 || *written != needed)
+            die("a page a byte short, and not 16", label);
+        if (!is_painted(lent, needed - 1))
+            die("a page changed on a refusal", label);
+        free(lent);
+    }
+    free(written);
+    return sum;
+}
+
 /* 1 if the image is accepted; *sum is over what was reported. */
 static int check(const char *label, const uint8_t *image, size_t length, uint64_t *sum) {
     uint64_t *room = malloc(sizeof *room);
     uint32_t fault = ownership_room(image, length, room);
     size_t many[KINDS] = {fault == 0 ? *room : length, 12 * 4096, 2 * 4096, 2 * 4096}, needed[KINDS];
     free(room);
+    *sum += page(label, image, length, fault);
     struct lent l = lend(many);
     uint32_t answer = pass(image, length, &l);
     if (answer != fault && !(fault == 0 && answer == 15))
@@ -168,7 +205,7 @@ static int check(const char *label, const uint8_t *image, size_t length, uint64_
 }
 
 struct job {
-    int entry; /* 0 none, 1 pass, 2 room */
+    int entry; /* 0 none, 1 pass, 2 room, 3 page */
     const uint8_t *image;
     size_t length;
     struct lent *lent;
@@ -181,6 +218,8 @@ static void *work(void *given) {
         pass(j->image, j->length, j->lent);
     if (j->entry == 2)
         ownership_room(j->image, j->length, &j->room);
+    if (j->entry == 3)
+        ownership_page(j->image, j->length, j->lent->memory[0], j->lent->size[0], &j->room);
     return NULL;
 }
 
@@ -217,15 +256,15 @@ static uint8_t *file_of(const char *path, size_t *length) {
 
 /* What was seen of the images so far. */
 struct seen {
-    size_t images, accepted, most[3];
-    char label[3][256];
+    size_t images, accepted, most[4];
+    char label[4][256];
     uint64_t sum;
     uint8_t *stack;
     struct lent roomy;
 };
 
 static void measure(struct seen *s, const char *label, const uint8_t *image, size_t length) {
-    for (int entry = s->images > 0; entry < 3; entry++) {
+    for (int entry = s->images > 0; entry < 4; entry++) {
         struct job j = {entry, image, length, &s->roomy, 0};
         size_t bytes = stack_of(s->stack, &j);
         if (bytes > s->most[entry]) {
@@ -263,8 +302,8 @@ int main(int words, char **word) {
         at += 4 + size;
     }
     if (stack)
-        printf("stack over %zu images: pass %zu bytes (%s), room %zu bytes (%s); besides %zu of the thread itself\n", s.images,
-               s.most[1] - s.most[0], s.label[1], s.most[2] - s.most[0], s.label[2], s.most[0]);
+        printf("stack over %zu images: pass %zu bytes (%s), room %zu bytes (%s), page %zu bytes (%s); besides %zu of the thread itself\n",
+               s.images, s.most[1] - s.most[0], s.label[1], s.most[2] - s.most[0], s.label[2], s.most[3] - s.most[0], s.label[3], s.most[0]);
     else
         printf("%zu images, %zu accepted, exact fits and one short of each kind; sum %016llx\n", s.images, s.accepted,
                (unsigned long long)s.sum);

@@ -1,7 +1,7 @@
 /* Ownership of values in one Atlas77 body: the entries of libownership_pass.a, liblent.a and libimage.a (document 01). docs/IMAGE.md has the bytes
  * of an image and how to read the one given back, docs/REPORTS.md what the lists say.
  *
- * The first two answer 0, accepted, or the number of the first fault:
+ * The first three answer 0, accepted, or the number of the first fault:
  *    1  under 5 bytes, over 65,536, or wrong length    2  version not 1
  *    3  names      4  types      5  structs      6  globals      7  entry: a rule broken, or bytes run out
  *    8  body: unknown byte, number outside its table, a Delete's type not 0, or bytes run out
@@ -9,14 +9,15 @@
  *   12  a 65th local registered at one time    13  a joined state needs a 9th place
  *   14  errors, warnings or left-behind entries outnumber those lent
  *   15  the image does not fit the output lent, or a block would count over 65,535 statements
- * On a fault nothing at all is changed, *room and *totals included.
+ *   16  the page does not fit its buffer
+ * On a fault nothing at all is changed, *room, *totals and *written included.
  *
  * Any bytes may be submitted as an image. Every pointer must be non-null and aligned for its type, also where its length is 0, and
  * valid for its length; what is written to must overlap neither the image nor any other memory lent in the same call. The calls hold
  * no state, allocate nothing and keep no pointer: threads may call them at one time, each with memory of its own to write to.
  *
- * Machine stack: give a thread that calls them 1 MB. Measured (bench/memory.c), ownership_pass takes up to 224,312 bytes and
- * ownership_room 124,424. Nothing proves a bound, and a stack that is too small ends the process.
+ * Machine stack: give a thread that calls them 1 MB. Measured (bench/memory.c), ownership_pass takes up to 226,136 bytes,
+ * ownership_room 126,008 and ownership_page 179,192. Nothing proves a bound, and a stack that is too small ends the process.
  *
  * An image of n bytes without faults 1 to 13 has, with m = n - 28 and rounded down, at most m / 7 errors, m / 21 warnings and 8 * m
  * left-behind entries, and n + 90 * m bytes of output; for 65,536 bytes 9,358, 3,119, 524,064 and 5,961,256. At least 28 bytes stand
@@ -56,6 +57,12 @@ uint32_t ownership_pass(const uint8_t *image, size_t image_len,
  * image_len + 21 * (statements in all blocks + 1) * (registrations + 1), a registration being a Let, a Const, a parameter or `this`.
  * Faults 1 to 13. */
 uint32_t ownership_room(const uint8_t *image, size_t image_len, uint64_t *room);
+
+/* Writes what is reported as a page for people (docs/REPORTS.md): errors, warnings and left-behind entries, however many there are, in
+ * lines of 72 printable bytes and a line feed. On 0 the first *written bytes of page are the page, a multiple of 73, and the rest is
+ * unchanged; with nothing to report it is 0 bytes, which fit a page_len of 0. An entry takes a line, an error with 4 to 6 other places
+ * two, with 7 or 8 three; 73 * (3 * (m / 7) + m / 21 + 8 * m) bytes are always enough. No list is lent. Faults 1 to 13, then 16. */
+uint32_t ownership_page(const uint8_t *image, size_t image_len, uint8_t *page, size_t page_len, uint64_t *written);
 
 /* An error as a record, of its 12 numbers: of the places, the first count. */
 struct ownership_report {

@@ -1,6 +1,7 @@
 //! How long the library's entries take, in one run beside the Rust as published and the Rust with its file answered from memory.
 use crate::adapter::{self, Marks, Numbers, ToHir};
 use crate::answer;
+use crate::boundaries;
 use crate::build::*;
 use crate::image::{self, Block, Image, Name, SpanNo, Stmt, Ty, TyNo};
 use crate::ours::{self, Lent};
@@ -16,6 +17,7 @@ use std::time::Instant;
 struct Times {
     pass: f64,
     room: f64,
+    page: f64,
     published: f64,
     memory: f64,
 }
@@ -25,8 +27,20 @@ const BODIES: u64 = 3;
 
 pub fn beside(runs: usize) {
     println!("ours beside the Rust, {BODIES} bodies of each kind, {runs} runs of each; nanoseconds for each statement, medians");
-    let columns =
-        ["locals", "bytes", "bytes out", "statements", "pass", "room", "published", "from memory", "published/pass", "memory/pass"];
+    let columns = [
+        "locals",
+        "bytes",
+        "bytes out",
+        "statements",
+        "pass",
+        "room",
+        "page",
+        "published",
+        "from memory",
+        "published/pass",
+        "memory/pass",
+        "page/pass",
+    ];
     println!("{}", columns.map(|c| format!("{c:>16}")).concat());
     let mut all = vec![];
     for bytes in [200, 2_000, 20_000, 60_000] {
@@ -51,6 +65,11 @@ pub fn beside(runs: usize) {
     );
     for (half, locals) in [(10_000, 4), (10_000, 16), (10_000, 64), (30_000, 4), (30_000, 16), (30_000, 64)] {
         twice(half, locals, runs);
+    }
+    for (what, i) in boundaries::many_entries() {
+        let mut m = Memory::new(&i);
+        let [pass, page] = [Memory::pass, Memory::page].map(|f| median((0..runs).map(|_| f(&mut m)).collect()));
+        println!("{what}, {} bytes: pass {:.3} ms, page {:.3} ms, {:.2}", m.image.len(), pass / 1e6, page / 1e6, page / pass);
     }
     let mut slow = Memory::new(&deep_types(58_000));
     let [pass, room] = [Memory::pass, Memory::room].map(|f| median((0..runs).map(|_| f(&mut slow)).collect()));
@@ -114,14 +133,16 @@ fn line(locals: usize, bodies: &[Image], runs: usize) -> Vec<Times> {
     let each = |f: fn(&Times) -> f64| format!("{:>16.0}", sum(f) / count as f64);
     let (pass, published, memory) = (sum(|t| t.pass), sum(|t| t.published), sum(|t| t.memory));
     println!(
-        "{locals:>16}{bytes:>16}{out:>16}{:>16}{}{}{}{}{:>16.1}{:>16.1}",
+        "{locals:>16}{bytes:>16}{out:>16}{:>16}{}{}{}{}{}{:>16.1}{:>16.1}{:>16.2}",
         count / bodies.len(),
         each(|t| t.pass),
         each(|t| t.room),
+        each(|t| t.page),
         each(|t| t.published),
         each(|t| t.memory),
         published / pass,
-        memory / pass
+        memory / pass,
+        sum(|t| t.page) / pass
     );
     all
 }
@@ -141,10 +162,11 @@ fn times(image: &Image, runs: usize) -> Times {
     let params = adapter::params(image, &numbers);
     let hir = || ToHir { numbers: &numbers, marks: Marks::default() }.block(&image.body);
     let mut lent = Memory::new(image);
-    let mut lists = [const { vec![] }; 4];
+    let mut lists = [const { vec![] }; 5];
     for _ in 0..runs {
         lists[0].push(lent.pass());
         lists[1].push(lent.room());
+        lists[4].push(lent.page());
         let (mut pass, mut body) = (HirOwnershipPass::new(&arena, &signature), hir());
         let start = Instant::now();
         pass.body(&mut body, &params);
@@ -155,8 +177,8 @@ fn times(image: &Image, runs: usize) -> Times {
         lists[3].push(start.elapsed().as_nanos() as f64);
         probe::taken();
     }
-    let [pass, room, published, memory] = lists.map(median);
-    Times { pass, room, published, memory }
+    let [pass, room, published, memory, page] = lists.map(median);
+    Times { pass, room, page, published, memory }
 }
 
 fn median(mut list: Vec<f64>) -> f64 {
@@ -169,6 +191,7 @@ struct Memory {
     image: Vec<u8>,
     output: Vec<u8>,
     lists: [Vec<u32>; 3],
+    page: Vec<u8>,
 }
 
 impl Memory {
@@ -176,7 +199,7 @@ impl Memory {
         let image = image::write(tree).bytes;
         let mut room = 0;
         assert_eq!(ours::room(&image, &mut room), 0);
-        Memory { image, output: vec![0; room as usize], lists: [1 << 20; 3].map(|n| vec![0; n]) }
+        Memory { image, output: vec![0; room as usize], lists: [1 << 20; 3].map(|n| vec![0; n]), page: vec![0; 1 << 26] }
     }
 
     fn pass(&mut self) -> f64 {
@@ -185,6 +208,15 @@ impl Memory {
         let lent = Lent { output: &mut self.output, errors, warnings, left, totals: &mut totals };
         let start = Instant::now();
         let answer = ours::pass(&self.image, lent);
+        let time = start.elapsed().as_nanos() as f64;
+        assert_eq!(answer, 0);
+        time
+    }
+
+    fn page(&mut self) -> f64 {
+        let mut written = 0;
+        let start = Instant::now();
+        let answer = ours::page(&self.image, &mut self.page, &mut written);
         let time = start.elapsed().as_nanos() as f64;
         assert_eq!(answer, 0);
         time

@@ -215,3 +215,36 @@ fn grown(total: usize) -> Image {
     i.body.statements.extend(vec![Stmt::Break(20); (total - start(n)) / 5]);
     i
 }
+
+/// So many locals, the first of them deleted, and then some statements up to so many times, as far as they fit.
+#[cfg(ours)]
+fn repeated(locals: Name, most: usize, some: impl Fn(Name) -> Vec<Stmt>) -> Image {
+    let mut i = tables();
+    let first = i.names.len() as Name;
+    i.names.extend((0..locals).map(|k| format!("l{k}").into_bytes()));
+    i.body.statements = (0..locals).map(|k| set(30, first + k, T, literal())).collect();
+    i.body.statements.push(deletion(31, first));
+    let room = (65_000 - write(&i).bytes.len()) / (write(&Image { body: block(0, some(first)), ..Image::default() }).bytes.len() - 22);
+    i.body.statements.extend((0..most.min(room)).flat_map(|_| some(first)));
+    i
+}
+
+/// Bodies with up to 10,080 entries: of locals left behind, of errors, of warnings, of all three.
+#[cfg(ours)]
+pub fn many_entries() -> Vec<(String, Image)> {
+    let unused = |l| run(33, call(34, T, ident(35, l), vec![]));
+    vec![
+        ("10,080 locals left behind".into(), repeated(64, 160, |_| vec![back(4_000_000_000)])),
+        ("1,000 locals left behind".into(), repeated(11, 100, |_| vec![back(35)])),
+        ("errors".into(), repeated(1, 10_000, |l| vec![run(33, ident(4_000_000_000, l))])),
+        ("warnings".into(), repeated(1, 10_000, |_| vec![run(33, call(34, T, literal(), vec![]))])),
+        ("all three".into(), repeated(4, 10_000, |l| vec![unused(l), back(36)])),
+    ]
+}
+
+/// A block that would count over 65,535 statements, with errors and warnings: fault 15 of the pass, and a page.
+#[cfg(ours)]
+pub fn uncountable() -> (String, Image) {
+    let some = |l| vec![run(33, call(34, T, ident(35, l), vec![])), give(36, literal())];
+    ("over 65,535 statements and reports".into(), repeated(64, 1_100, some))
+}

@@ -3,6 +3,7 @@
 use crate::answer::{self, Answer, LENT_BYTES, LENT_ENTRIES, Outcome};
 use crate::image::{self, Image};
 use crate::ours::{self, Lent, Report};
+use crate::page::{self, Pages};
 use crate::random::Random;
 use crate::reports::Reports;
 use crate::{boundaries, compare, corners, generator, reader, rules};
@@ -25,6 +26,7 @@ struct Expected {
     warnings: Vec<u32>,
     left: Vec<u32>,
     totals: [u64; 4],
+    page: Vec<u8>,
     /// the least and the most that the room may be
     room: (usize, usize),
 }
@@ -35,7 +37,7 @@ type Sizes = [usize; 4];
 impl Expected {
     fn refused(fault: u8) -> Self {
         let (output, errors, reports, warnings, left) = (vec![], vec![], vec![], vec![], vec![]);
-        Expected { fault, uncountable: false, output, errors, reports, warnings, left, totals: [0; 4], room: (0, 0) }
+        Expected { fault, uncountable: false, output, errors, reports, warnings, left, totals: [0; 4], page: vec![], room: (0, 0) }
     }
 
     fn accepted(a: Answer, most: usize) -> Self {
@@ -50,6 +52,7 @@ impl Expected {
             uncountable: !a.counts_fit,
             totals: [a.output.len(), a.errors.len(), a.warnings.len(), a.lefts.len()].map(|n| n as u64),
             room: (a.output.len(), most),
+            page: page::of(&a),
             output: a.output,
             errors,
             reports: a.errors.iter().map(Report::of).collect(),
@@ -126,6 +129,7 @@ pub struct Differ {
     output: Memory<u8>,
     lists: [Memory<u32>; 3],
     reports: Reports,
+    pages: Pages,
     images: usize,
     bytes: usize,
     accepted: usize,
@@ -141,8 +145,22 @@ impl Differ {
     fn new(seed: u64) -> Self {
         let lists = [Memory::new(), Memory::new(), Memory::new()];
         let random = Random::new(seed ^ 0x5eed);
-        let (output, reports) = (Memory::new(), Reports::new(seed));
-        Differ { random, output, lists, reports, images: 0, bytes: 0, accepted: 0, refused: 0, outside: 0, calls: 0, exact: 0, short: 0 }
+        let (output, reports, pages) = (Memory::new(), Reports::new(seed), Pages::new(seed));
+        Differ {
+            random,
+            output,
+            lists,
+            reports,
+            pages,
+            images: 0,
+            bytes: 0,
+            accepted: 0,
+            refused: 0,
+            outside: 0,
+            calls: 0,
+            exact: 0,
+            short: 0,
+        }
     }
 
     /// What differs, if anything does; `all`: with each way of lending too little, and exactly enough.
@@ -151,6 +169,10 @@ impl Differ {
         self.bytes += bytes.len();
         let expected = self.expected(bytes);
         self.room(bytes, &expected)?;
+        match self.pages.check(bytes, expected.fault, &expected.page, all) {
+            found if !found.is_empty() => return Err(found),
+            _ => {}
+        }
         let slack = self.slack(&expected);
         let fault = self.call(bytes, &expected, slack)?;
         self.accepted += (fault == 0) as usize;
@@ -294,6 +316,7 @@ fn by_hand() -> Vec<(String, Vec<u8>)> {
     let rows = corners::rows().into_iter().map(|r| (r.label.to_string(), r.image));
     let trees = rows.chain([("example".to_string(), corners::example())]).chain(corners::others());
     let trees = trees.chain(boundaries::all()).chain(boundaries::own_memory()).chain(boundaries::deepest());
+    let trees = trees.chain(boundaries::many_entries()).chain([boundaries::uncountable()]);
     trees.map(|(label, tree)| (label, image::write(&tree).bytes)).chain(crate::fault_records()).collect()
 }
 
@@ -313,6 +336,7 @@ impl Differ {
             self.calls
         );
         self.reports.print();
+        self.pages.print();
         println!(
             "{} images, 0 differences: {} accepted, {} refused, {} outside the Rust's domain; {} calls that fit exactly, {} with one kind short",
             self.images, self.accepted, self.refused, self.outside, self.exact, self.short

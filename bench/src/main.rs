@@ -15,6 +15,8 @@ mod image;
 mod mistakes;
 #[cfg(ours)]
 mod ours;
+#[cfg(ours)]
+mod page;
 mod random;
 mod reader;
 #[cfg(ours)]

@@ -17,6 +17,7 @@ unsafe extern "C" {
         totals: *mut u64,
     ) -> u32;
     fn ownership_room(image: *const u8, image_len: usize, room: *mut u64) -> u32;
+    fn ownership_page(image: *const u8, image_len: usize, page: *mut u8, page_len: usize, written: *mut u64) -> u32;
     #[cfg(reports)]
     fn ownership_reports(numbers: *const u32, numbers_len: usize, count: usize, reports: *mut Report, reports_len: usize) -> u32;
 }
@@ -100,4 +101,10 @@ pub fn pass(image: &[u8], lent: Lent<'_>) -> u32 {
 pub fn room(image: &[u8], room: &mut u64) -> u32 {
     // as above
     unsafe { ownership_room(image.as_ptr(), image.len(), room) }
+}
+
+/// 0 or the fault's number.
+pub fn page(image: &[u8], page: &mut [u8], written: &mut u64) -> u32 {
+    // as above
+    unsafe { ownership_page(image.as_ptr(), image.len(), page.as_mut_ptr(), page.len(), written) }
 }

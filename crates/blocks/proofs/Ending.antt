@@ -52,7 +52,6 @@ pub fault-walks : {T : Tables} {s : List ℕ} {left d : ℕ} {σ : Scope Status}
     → BlockWalks T s left d σ p m r n′
 fault-walks w r lt e h = record { walks = λ t deep b n read. let g = h .walks t deep b n read in let f = e ∙ g .0 in (f, λ z. let q = ap numberOf z in absurd (omega arith)) }
 
-
 module _ (s tb : List ℕ) (small : Bytes s) (e : Env) (left : ℕ) (low : 0 < left) (high : left ≤ 12) (el : e .left ≡ left - 1) (start : Place) (outer : Locals) (t₀ : States)
     (rows₀ out₁ errs₀ warns₀ lefts₀ : List ℕ) (within : Within s start) (there : BlockThere s left (start .at)) (out₀ : List ℕ)
     (head : Stored out₀ (start .written) (fourBytes (four s (start .at))) out₁ (start .written + 4)) where

@@ -22,7 +22,7 @@ use Rattle.blocks_ends.specs.Ends.{placeIn, sureIn, walkedIn, Tells, End
 -- the place behind the block that began at a place
 abbrev endedIn : Place → Place → ℕ → Bool → Place
 endedIn start p written fits =
-    record { at = p .at; last = start .last; written = written; errors = p .errors; warnings = p .warnings; lefts = p .lefts; inserted = start .inserted; fits = fits }
+    record { at = p .at; last = start .last; written = written; errors = p .errors; warnings = p .warnings; lefts = p .lefts; inserted = start .inserted; fits = fits; paged = p .paged }
 
 module _ (pl : List ℕ) (k : ℕ) (b : Bool) (q p : Place) (t : Tells pl k b q) (e : q ≡ p) where
   told-place : placeIn pl ≡ p

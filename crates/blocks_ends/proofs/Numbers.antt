@@ -1,11 +1,12 @@
 -- The lent numbers of a walk, stored and read.
 -- Assumes nothing.
-use Prim.Native.Nat.{ℕ, _+_, _*_, _≤_}
+use Prim.Native.Nat.{ℕ, _+_, _*_, _%_, _≤_, _<_}
 use native.Mathlib.Omega.{arith}
-use mathlib.Core.Path.{_≡_, refl, ap, _∙_, subst}
-use mathlib.Core.Bool.{Bool}
+use mathlib.Core.Path.{_≡_, refl, ap, _∙_, subst, sym}
+use mathlib.Core.Bool.{Bool, true, false}
 use mathlib.Core.List.{List, [], _∷_}
-use lib.Dec.{eqb}
+use borrow.Author.Tests.{le-leb, lt-leb}
+use lib.Dec.{eqb, leb}
 use lib.ListN.{length, getD, set, length-set}
 use lib.Seq.{getD-set-same, getD-set-other}
 use lib.Seq.{slice}
@@ -38,10 +39,18 @@ ten-set (x0 ∷ x1 ∷ x2 ∷ x3 ∷ x4 ∷ x5 ∷ x6 ∷ x7 ∷ x8 ∷ []) n a 
 ten-set (x0 ∷ x1 ∷ x2 ∷ x3 ∷ x4 ∷ x5 ∷ x6 ∷ x7 ∷ x8 ∷ x9 ∷ []) n a b c d e f g h i j = refl
 ten-set (x0 ∷ x1 ∷ x2 ∷ x3 ∷ x4 ∷ x5 ∷ x6 ∷ x7 ∷ x8 ∷ x9 ∷ x10 ∷ xs) n a b c d e f g h i j = absurd (omega arith)
 
+-- two answers as one number
+module _ (k : ℕ) (b p : Bool) (is : (eqb k 1 ≡ b) × (k < 2)) where
+  pub both-paged : p ≡ true → (eqb ((2 + k) % 2) 1 ≡ b) × (leb 2 (2 + k) ≡ p)
+  both-paged y = let l = is .1 in let e : (2 + k) % 2 ≡ k = omega arith in (rw e (is .0), le-leb 2 (2 + k) (omega arith) ∙ sym y)
+
+  pub both-plain : p ≡ false → (eqb (k % 2) 1 ≡ b) × (leb 2 k ≡ p)
+  both-plain n = let l = is .1 in let e : k % 2 ≡ k = omega arith in (rw e (is .0), lt-leb 2 k (omega arith) ∙ sym n)
+
 -- a place, whether it surely returns
-pub place-told : (l : List ℕ) → length l ≡ 10 → (p : Place) (h j : ℕ) (b : Bool) → eqb h 1 ≡ p .fits → eqb j 1 ≡ b
+pub place-told : (l : List ℕ) → length l ≡ 10 → (p : Place) (h j : ℕ) (b : Bool) → (eqb (h % 2) 1 ≡ p .fits) × (leb 2 h ≡ p .paged) → eqb j 1 ≡ b
     → Tells (all-set l (p .at) (p .last) (p .written) (p .errors) (p .warnings) (p .lefts) (p .inserted) h 0 j) 0 b p
-place-told l n p h j b eh ej = rw (ten-set l n (p .at) (p .last) (p .written) (p .errors) (p .warnings) (p .lefts) (p .inserted) h 0 j) (record { room = refl; fault = refl; sure = ej; place = rw eh })
+place-told l n p h j b eh ej = rw (ten-set l n (p .at) (p .last) (p .written) (p .errors) (p .warnings) (p .lefts) (p .inserted) h 0 j) (record { room = refl; fault = refl; sure = ej; place = rw (eh .0, eh .1) })
 
 module _ (l : List ℕ) (n : length l ≡ 10) where
   other : (i j v : ℕ) → (j ≡ i → ⊥) → getD (set l i v) j 0 ≡ getD l j 0

@@ -1,9 +1,9 @@
 -- What the code before, between and behind blocks requires and does; the numbers of a walk are lent.
-use Prim.Native.Nat.{ℕ, _+_, _-_, _≤_, _<_}
+use Prim.Native.Nat.{ℕ, _+_, _-_, _%_, _≤_, _<_}
 use mathlib.Core.Path.{_≡_}
 use mathlib.Core.Bool.{Bool, false}
 use mathlib.Core.List.{List, [], _∷_}
-use lib.Dec.{eqb}
+use lib.Dec.{eqb, leb}
 use lib.ListN.{length, getD}
 use Rattle.image_fields.specs.Number.{two, four}
 use Rattle.image_fields.specs.Bytes.{fourBytes}
@@ -22,7 +22,7 @@ use Rattle.blocks_ends.specs.declared.Env.{Env}
 
 -- what the lent numbers of a walk say: its place, its fault or 0, whether it surely returns
 abbrev pub placeIn : List ℕ → Place
-placeIn pl = record { at = getD pl 0 0; last = getD pl 1 0; written = getD pl 2 0; errors = getD pl 3 0; warnings = getD pl 4 0; lefts = getD pl 5 0; inserted = getD pl 6 0; fits = eqb (getD pl 7 0) 1 }
+placeIn pl = record { at = getD pl 0 0; last = getD pl 1 0; written = getD pl 2 0; errors = getD pl 3 0; warnings = getD pl 4 0; lefts = getD pl 5 0; inserted = getD pl 6 0; fits = eqb (getD pl 7 0 % 2) 1; paged = leb 2 (getD pl 7 0) }
 
 abbrev pub faultIn : List ℕ → ℕ
 faultIn pl = getD pl 8 0

@@ -3,7 +3,7 @@
 // the locals, all lent.
 ghost use mathlib.Core.Path.{_≡_};
 ghost use mathlib.Core.Bool.{true, false, _&&_};
-ghost use Prim.Native.Nat.{ℕ, suc, _+_, _-_, _*_, _≤_, _<_};
+ghost use Prim.Native.Nat.{ℕ, suc, _+_, _-_, _*_, _%_, _≤_, _<_};
 ghost use lib.Dec.{leb, eqb};
 ghost use lib.ListN.{length, getD};
 ghost use Rattle.tables.specs.Tables.{Tables};
@@ -45,17 +45,28 @@ pub fn place_in(pl: &[usize; 10]) -> Place
         warnings: pl[4],
         lefts: pl[5],
         inserted: pl[6],
-        fits: pl[7] == 1,
+        fits: pl[7] % 2 == 1,
+        paged: 2 <= pl[7],
     }
 }
 
 fn one(b: bool) -> usize
-    ensures { λ r. ⌜ eqb r 1 ≡ «b» ⌝ }
+    ensures { λ r. ⌜ (eqb r 1 ≡ «b») × (r < 2) ⌝ }
 {
     if b {
         return 1;
     }
     0
+}
+
+// Two answers as one number.
+fn both(fits: bool, paged: bool) -> usize
+    ensures { λ r. ⌜ (eqb (r % 2) 1 ≡ «fits») × (leb 2 r ≡ «paged») ⌝ }
+{
+    if paged {
+        return 2 + one(fits);
+    }
+    one(fits)
 }
 
 // A place, without a fault.
@@ -70,7 +81,7 @@ pub fn put_place(pl: &mut [usize; 10], p: Place, sure: bool)
     pl[4] = p.warnings;
     pl[5] = p.lefts;
     pl[6] = p.inserted;
-    pl[7] = one(p.fits);
+    pl[7] = both(p.fits, p.paged);
     pl[8] = 0;
     pl[9] = one(sure);
 }
@@ -129,6 +140,7 @@ fn inside(p: Place, gap: usize) -> Place
         lefts: p.lefts,
         inserted: 0,
         fits: p.fits,
+        paged: p.paged,
     }
 }
 
@@ -208,7 +220,7 @@ fn fitting(fits: bool, count: usize) -> bool
 
 // The place behind the block that began at a place.
 fn ended(start: Place, p: Place, at: usize, fits: bool) -> Place
-    ensures { λ r. ⌜ r ≡ record { at = p .at; last = start .last; written = at; errors = p .errors; warnings = p .warnings; lefts = p .lefts; inserted = start .inserted; fits = «fits» } ⌝ }
+    ensures { λ r. ⌜ r ≡ record { at = p .at; last = start .last; written = at; errors = p .errors; warnings = p .warnings; lefts = p .lefts; inserted = start .inserted; fits = «fits»; paged = p .paged } ⌝ }
 {
     Place {
         at: p.at,
@@ -219,6 +231,7 @@ fn ended(start: Place, p: Place, at: usize, fits: bool) -> Place
         lefts: p.lefts,
         inserted: start.inserted,
         fits: fits,
+        paged: p.paged,
     }
 }
 

@@ -26,9 +26,14 @@ use Rattle.rules.specs.Verdict.{entriesOf, countsFit}
 use Rattle.statements_steps.specs.Drops.{deleteBytes}
 use Rattle.image_writing.specs.Stored.{Stored}
 use Rattle.image_writing.proofs.Stores.{both-stored, patched, two-length, four-length}
+use Rattle.image_lines.specs.Lined.{Cursors}
+use Rattle.image_lines.specs.Told.{Lined}
+use Rattle.image_lines.proofs.Cursors.{lined-length}
+use Rattle.image_lines.proofs.Told.{past}
 use Rattle.statements_steps.specs.Own.{returned, numberOf}
 use Rattle.statements_steps.proofs.Steps.{inserts-bytes, inserts-size, inserts-fit}
 use Rattle.statements_acts.specs.declared.Place.{Place}
+use Rattle.statements_acts.specs.Act.{cursorsAt}
 use Rattle.image_writing.specs.Memory.{Memory}
 use Rattle.blocks_laws.specs.Walks.{Walked, Leads, BlockDone, BlocksWalk}
 use Rattle.blocks_laws.specs.Ends.{tail, Ends}
@@ -74,6 +79,7 @@ pub record Inside (s : List ℕ) (p q : Place) (gap : ℕ) : Type 0 where
   pub lefts : q .lefts ≡ p .lefts
   pub inserted : q .inserted ≡ 0
   pub fits : q .fits ≡ p .fits
+  pub paged : q .paged ≡ p .paged
 
 module _ (T : Tables) (s : List ℕ) (t : Reading) (deep : t .exprDepth ≡ 24) (left d : ℕ) (b : Block) (n : ℕ) (σ σ′ : Scope Status)
     (p q p′ : Place) (m m₁ m₂ : Memory) (gap : ℕ) (r : Walked) (out′ : List ℕ)
@@ -131,11 +137,11 @@ module _ (T : Tables) (s : List ℕ) (t : Reading) (deep : t .exprDepth ≡ 24) 
       ∙ ap (λ (x : Bool). p .fits && (leb count 65535 && x)) (sym all-fit)
       ∙ ap (λ (k : ℕ). p .fits && (leb k 65535 && countsFit 65535 whole)) (sym counted)
 
-  block-bytes : r .place .fits ≡ true → Stored (m .out) (p .written) (withCount (four s (p .at)) (size whole) (encodeCode whole)) out′ (r .place .written)
-  block-bytes fit =
+  block-bytes : p .paged ≡ false → r .place .fits ≡ true → Stored (m .out) (p .written) (withCount (four s (p .at)) (size whole) (encodeCode whole)) out′ (r .place .written)
+  block-bytes n fit =
       let both = sym (e .fits) ∙ fit in
       let low : count ≤ 65535 = leb-true count 65535 (and-right (p′ .fits) (leb count 65535) both) in
-      let body = both-stored (g .wrote .bytes (and-left (p′ .fits) (leb count 65535) both)) (e .deletes) in
+      let body = both-stored (g .wrote .bytes (inside .paged ∙ n) (and-left (p′ .fits) (leb count 65535) both)) (e .deletes) in
       let l : length (twoBytes (count % 65536)) ≡ 2 = two-length (count % 65536) in
       let gapped : gap + length (twoBytes (count % 65536)) ≡ q .written = let w = inside .written in omega arith in
       stored-as (ap (λ (x : List ℕ). fourBytes (four s (p .at)) ++ (twoBytes (size whole) ++ x)) code
@@ -156,6 +162,27 @@ module _ (T : Tables) (s : List ℕ) (t : Reading) (deep : t .exprDepth ≡ 24) 
       ap (λ (k : ℕ). report T (b .code) d k σ) (sym (inside .at)) ∙ g .reports
       ∙ ap (λ (x : Tree). g .o .reports ++ report T x d (p′ .at) σ′) (ended .0) ∙ append-nil (g .o .reports)
 
+  -- where a page is made, head, deletes and count are past the end
+  block-lines : p .paged ≡ true → length (m .out) ≤ p .written → Lined (cursorsAt p) (report T (b .code) d (p .at + 6) σ) (m .out) (cursorsAt (r .place)) out′
+  block-lines y h =
+      let a = past head h in
+      let i = inside .written in
+      let u = g .wrote .lines (inside .paged ∙ y) (let z = a .1 in omega arith) in
+      let l = lined-length (cursorsAt q) (g .o .reports) (m₁ .out) in
+      let k = ap length (u .cells) in
+      let o = ap length (a .0) in
+      let w = g .wrote .long in
+      let hp = head .place in
+      let f = four-length (four s (p .at)) in
+      let v = past (e .deletes) (let z = a .1 in omega arith) in
+      let ov = ap length (v .0) in
+      let x = past (e .counts) (omega arith) .0 ∙ v .0 in
+      subst (λ (z : List Report). Lined (cursorsAt p) z (m .out) (cursorsAt (r .place)) out′) (sym told)
+      (subst (λ (z : List ℕ). Lined (cursorsAt p) (g .o .reports) (m .out) (cursorsAt (r .place)) z) (sym x)
+      (subst (λ (z : List ℕ). Lined (cursorsAt p) (g .o .reports) z (cursorsAt (r .place)) (m₂ .out)) (a .0)
+      (subst (λ (z : Cursors). Lined z (g .o .reports) (m₁ .out) (cursorsAt (r .place)) (m₂ .out)) (rw (inside .errors, inside .warnings, inside .lefts))
+      (subst (λ (z : Cursors). Lined (cursorsAt q) (g .o .reports) (m₁ .out) z (m₂ .out)) (rw (e .errors, e .warnings, e .lefts)) u))))
+
   -- lists are stored by the statements alone
   listed : (f : List Report → List Report) {old old₁ new new₁ : List ℕ} {i j k l : ℕ} → old₁ ≡ old → new ≡ new₁ → j ≡ i → l ≡ k
       → Stored old₁ j (entriesOf version1 (f (g .o .reports))) new₁ k → Stored old i (entriesOf version1 (f (report T (b .code) d (p .at + 6) σ))) new l
@@ -170,13 +197,15 @@ module _ (T : Tables) (s : List ℕ) (t : Reading) (deep : t .exprDepth ≡ 24) 
       → m′ .out ≡ out′ → m′ .errs ≡ m₂ .errs → m′ .warns ≡ m₂ .warns → m′ .lefts ≡ m₂ .lefts → BlockDone T b d σ p m r m′ n
   block-done m′ a₁ a₂ a₃ b₀ b₁ b₂ b₃ = record {
     wrote = record {
-      bytes = λ fit.
+      bytes = λ n fit.
           subst (λ (x : List ℕ). Stored (m .out) (p .written) (withCount (b .span) (size (returned T (b .code) (b .span) d false σ)) (encodeCode (returned T (b .code) (b .span) d false σ))) x (r .place .written)) (sym b₀)
           (subst (λ (sp : ℕ). Stored (m .out) (p .written) (withCount sp (size (returned T (b .code) sp d false σ)) (encodeCode (returned T (b .code) sp d false σ))) out′ (r .place .written)) (sym (parts .span))
-          (block-bytes fit));
-      errors = listed errors a₁ b₁ (inside .errors) (e .errors) (g .wrote .errors);
-      warnings = listed warnings a₂ b₂ (inside .warnings) (e .warnings) (g .wrote .warnings);
-      lefts = listed lefts a₃ b₃ (inside .lefts) (e .lefts) (g .wrote .lefts);
+          (block-bytes n fit));
+      errors = λ n. listed errors a₁ b₁ (inside .errors) (e .errors) (g .wrote .errors (inside .paged ∙ n));
+      warnings = λ n. listed warnings a₂ b₂ (inside .warnings) (e .warnings) (g .wrote .warnings (inside .paged ∙ n));
+      lefts = λ n. listed lefts a₃ b₃ (inside .lefts) (e .lefts) (g .wrote .lefts (inside .paged ∙ n));
+      lines = λ y h. subst (λ (x : List ℕ). Lined (cursorsAt p) (report T (b .code) d (p .at + 6) σ) (m .out) (cursorsAt (r .place)) x) (sym b₀) (block-lines y h);
+      paged = e .paged ∙ g .wrote .paged ∙ inside .paged;
       long = subst (λ (sp : ℕ). r .place .written ≡ p .written + length (withCount sp (size (returned T (b .code) sp d false σ)) (encodeCode (returned T (b .code) sp d false σ)))) (sym (parts .span)) block-long;
       fits = subst (λ (sp : ℕ). r .place .fits ≡ (p .fits && (leb (size (returned T (b .code) sp d false σ)) 65535 && countsFit 65535 (returned T (b .code) sp d false σ)))) (sym (parts .span)) block-fits;
     };

@@ -45,7 +45,7 @@ abbrev endedAt : Place → Place → ℕ → Bool → Bool → Scope Status → 
 endedAt start p written fits sure after = record {
   fault = 0;
   sure = sure;
-  place = record { at = p .at; last = start .last; written = written; errors = p .errors; warnings = p .warnings; lefts = p .lefts; inserted = start .inserted; fits = fits };
+  place = record { at = p .at; last = start .last; written = written; errors = p .errors; warnings = p .warnings; lefts = p .lefts; inserted = start .inserted; fits = fits; paged = p .paged };
   locals = after;
 }
 
@@ -73,6 +73,7 @@ module _ (T : Tables) (s : List ℕ) (left d : ℕ) (σ : Scope Status) (start :
         errors = refl;
         warnings = refl;
         lefts = refl;
+        paged = refl;
         fault = refl;
         locals = is ∙ ap (λ (k : ℕ). pop k σ) ed;
       }

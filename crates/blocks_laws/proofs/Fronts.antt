@@ -19,6 +19,10 @@ use Rattle.rules.specs.Effects.{group, resolveAll}
 use Rattle.rules.specs.Report.{Report, errors, warnings, lefts}
 use Rattle.rules.specs.Verdict.{entriesOf}
 use Rattle.image_writing.specs.Stored.{Stored}
+use Rattle.image_writing.proofs.Stores.{stored-length}
+use Rattle.image_lines.specs.Lined.{Cursors, cursors}
+use Rattle.image_lines.specs.Told.{Listed, Lined}
+use Rattle.image_lines.proofs.Told.{lined-errors, lined-both}
 use Rattle.expressions_scan.proofs.Values.{toldAll}
 use Rattle.statements_steps.specs.Statement.{frontSize, frontDrops, frontReports, settle}
 use Rattle.statements_steps.proofs.Whole.{valuesOf, blocksSize, valued, frontOwn, ownFault, blockless}
@@ -28,7 +32,8 @@ use Rattle.statements_steps.proofs.Before.{stmt-end}
 use Rattle.statements_steps.proofs.Plain.{blockless-own, blockless-after, blockless-size}
 use Rattle.statements_acts.specs.declared.Place.{Place}
 use Rattle.statements_acts.specs.declared.Act.{Act}
-use Rattle.statements_acts.specs.Act.{Acts}
+use Rattle.statements_acts.specs.Act.{cursorsAt, Acts}
+use Rattle.statements_acts.proofs.Acts.{stored-from}
 use Rattle.image_writing.specs.Memory.{Memory}
 use Rattle.blocks_laws.specs.Walks.{Walked, Wrote, BlocksWalk}
 use Rattle.blocks_laws.proofs.Statements.{StmtDone}
@@ -48,13 +53,14 @@ pub record Told (p q : Place) : Type 0 where
   pub lefts : q .lefts ≡ p .lefts
   pub inserted : q .inserted ≡ p .inserted
   pub fits : q .fits ≡ p .fits
+  pub paged : q .paged ≡ p .paged
 
 at-place : {xs ys vs : List ℕ} {i j k : ℕ} → i ≡ j → Stored xs i vs ys k → Stored xs j vs ys k
 at-place {xs} {ys} {vs} {i} {j} {k} e x = subst (λ (n : ℕ). Stored xs n vs ys k) e x
 
-module _ (T : Tables) (c : Tree) (d : ℕ) (σ : Scope Status) (p q : Place) (a : Act) (out errs warns left out′ errs′ warns′ left′ : List ℕ) (e : Told p q)
-    (told : Stored errs (p .errors) (entriesOf version1 (toldAll T (valuesOf c) σ)) errs′ (q .errors))
-    (acts : Acts T c (valued T c σ) q out warns left a out′ warns′ left′) where
+module _ (T : Tables) (c : Tree) (d : ℕ) (σ : Scope Status) (p q : Place) (a : Act) (out out₁ errs warns left out′ errs′ warns′ left′ : List ℕ) (e : Told p q)
+    (told : Listed (p .paged) (toldAll T (valuesOf c) σ) errs out (p .errors) errs′ out₁ (q .errors))
+    (acts : Acts T c (valued T c σ) q out₁ warns left a out′ warns′ left′) where
   abbrev before-it : Memory
   before-it = record { out = out; errs = errs; warns = warns; lefts = left }
 
@@ -69,24 +75,35 @@ module _ (T : Tables) (c : Tree) (d : ℕ) (σ : Scope Status) (p q : Place) (a 
 
   pub front-wrote : Wrote (frontOwn T c (p .at) σ) p before-it (a .place) after-it
   front-wrote = record {
-    bytes = λ h. at-place (e .written) (acts .bytes);
-    long = at-place (e .written) (acts .bytes) .place;
-    errors =
+    bytes = λ n h. at-place (e .written) (stored-from (told .numbers n .0) (acts .bytes (e .paged ∙ n)));
+    long = let l = acts .long in let w = e .written in omega arith;
+    errors = λ n.
         let g : errors (toldAll T (valuesOf c) σ ++ fronts) ≡ toldAll T (valuesOf c) σ =
         errors-append (toldAll T (valuesOf c) σ) fronts ∙ ap (λ (x : List Report). errors (toldAll T (valuesOf c) σ) ++ x) (front-errors T c (p .at) (valued T c σ))
         ∙ append-nil (errors (toldAll T (valuesOf c) σ)) ∙ here .0 in
-        stored-as (ap (entriesOf version1) g) (record { cells = told .cells; place = acts .errors ∙ told .place });
-    warnings =
+        let t = told .numbers n .1 in
+        stored-as (ap (entriesOf version1) g) (record { cells = t .cells; place = acts .errors ∙ t .place });
+    warnings = λ n.
         let g : warnings (toldAll T (valuesOf c) σ ++ fronts) ≡ warnings (frontReports T c (q .at) (valued T c σ)) =
         warnings-append (toldAll T (valuesOf c) σ) fronts ∙ ap (λ (x : List Report). x ++ warnings fronts) (here .1)
         ∙ ap (λ (k : ℕ). warnings (frontReports T c k (valued T c σ))) (sym (e .at)) in
-        stored-as (ap (entriesOf version1) g) (at-place (e .warnings) (acts .warned));
-    lefts =
+        stored-as (ap (entriesOf version1) g) (at-place (e .warnings) (acts .warned (e .paged ∙ n)));
+    lefts = λ n.
         let g : lefts (toldAll T (valuesOf c) σ ++ fronts) ≡ lefts (frontReports T c (q .at) (valued T c σ)) =
         lefts-append (toldAll T (valuesOf c) σ) fronts ∙ ap (λ (x : List Report). x ++ lefts fronts) (here .2)
         ∙ ap (λ (k : ℕ). lefts (frontReports T c k (valued T c σ))) (sym (e .at)) in
-        stored-as (ap (entriesOf version1) g) (at-place (e .lefts) (acts .listed));
+        stored-as (ap (entriesOf version1) g) (at-place (e .lefts) (acts .listed (e .paged ∙ n)));
+    lines = λ y h.
+        let t = told .lines y in
+        let l = stored-length t in
+        let w = e .written in
+        let u = lined-errors (p .errors) (p .warnings) (p .lefts) (here .0) (here .1) (here .2) t in
+        let v = acts .lines (e .paged ∙ y) (omega arith) in
+        let same : cursorsAt q ≡ cursors (q .errors) (p .warnings) (p .lefts) = rw (e .warnings, e .lefts) in
+        let reported : frontReports T c (q .at) (valued T c σ) ≡ fronts = ap (λ (k : ℕ). frontReports T c k (valued T c σ)) (e .at) in
+        lined-both u (subst (λ (x : Cursors). Lined x fronts out₁ (cursorsAt (a .place)) out′) same (subst (λ (x : List Report). Lined (cursorsAt q) x out₁ (cursorsAt (a .place)) out′) reported v));
     fits = and-none (a .place .fits) (p .fits) (acts .fits ∙ e .fits);
+    paged = acts .paged ∙ e .paged;
   }
 
   -- a statement without blocks: the place behind its front is the place behind it
@@ -94,7 +111,7 @@ module _ (T : Tables) (c : Tree) (d : ℕ) (σ : Scope Status) (p q : Place) (a 
       → (σ′ : Scope Status) → σ′ ≡ settle T c d (valued T c σ) → StmtDone T c d σ p before-it (a .place) after-it σ′ next
   plain-done s small t left x next read r is plain σ′ loc = record {
     wrote = wrote-as (ap (both (frontOwn T c (p .at) σ)) (blockless-own T c d (p .at + frontSize c) (valued T c σ) plain))
-        (wrote-both front-wrote (wrote-nothing (record { written = refl; errors = refl; warnings = refl; lefts = refl; fits = refl })));
+        (wrote-both front-wrote (wrote-nothing (record { written = refl; errors = refl; warnings = refl; lefts = refl; fits = refl; paged = refl })));
     inserted = acts .inserted ∙ ap (λ (k : ℕ). k + length (frontDrops T c (valued T c σ))) (e .inserted);
     last = acts .last ∙ e .at;
     at =

@@ -46,7 +46,7 @@ module _ (s : List ℕ) (p : Place) (gap : ℕ) (room : p .at + 6 ≤ length s) 
   head-grows = record { on = omega arith; inside = room; written = omega arith; errors = omega arith; warnings = omega arith; lefts = omega arith; inserted = omega arith }
 
   pub head-inside : Inside s p (headed p gap) gap
-  head-inside = record { at = refl; written = refl; errors = refl; warnings = refl; lefts = refl; inserted = refl; fits = refl }
+  head-inside = record { at = refl; written = refl; errors = refl; warnings = refl; lefts = refl; inserted = refl; fits = refl; paged = refl }
 
 -- the statements of a block that was read
 pub stmts-in : (s : List ℕ) (left left′ at total at′ : ℕ) → left′ ≡ left - 1 → total ≡ two s (at + 4) → at′ ≡ at + 6 → BlockThere s left at → StmtsThere s left′ total at′

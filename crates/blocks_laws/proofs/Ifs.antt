@@ -27,6 +27,7 @@ use Rattle.image_writing.specs.Memory.{Memory, memory}
 use Rattle.blocks_laws.specs.Walks.{Walked, Wrote, BlockDone, BlockWalks, IfThere, IfWalks, LoopWalks}
 use Rattle.blocks_laws.specs.Ends.{Merges}
 use Rattle.image_writing.proofs.Stores.{none-stored}
+use Rattle.image_lines.proofs.Told.{past, lined-same}
 use Rattle.blocks_laws.proofs.Wrotes.{and-none, wrote-both}
 use Rattle.blocks_laws.proofs.Blocks.{block-end}
 use Rattle.blocks_laws.proofs.Branches.{ElseWalks, ElseThere, first-fault, if-then, if-else, second-fault, loop-blocks}
@@ -35,12 +36,14 @@ use Rattle.blocks_laws.specs.Places.{flagged}
 module _ (s : List ℕ) (p q : Place) (written b : ℕ) (out out₁ errs warns lefts : List ℕ) (eq : q ≡ flagged p written) (x : Stored out (p .written) (b ∷ []) out₁ written) where
   pub flag-wrote : Wrote (byte b) p (memory out errs warns lefts) q (memory out₁ errs warns lefts)
   flag-wrote = subst (λ (y : Place). Wrote (byte b) p (memory out errs warns lefts) y (memory out₁ errs warns lefts)) (sym eq) (record {
-    bytes = λ h. x;
+    bytes = λ n h. x;
     long = x .place;
-    errors = none-stored errs (p .errors);
-    warnings = none-stored warns (p .warnings);
-    lefts = none-stored lefts (p .lefts);
+    errors = λ n. none-stored errs (p .errors);
+    warnings = λ n. none-stored warns (p .warnings);
+    lefts = λ n. none-stored lefts (p .lefts);
+    lines = λ y h. lined-same (past x h .0) refl;
     fits = and-none (p .fits);
+    paged = refl;
   })
 
 module _ (s : List ℕ) (p q : Place) (written b : ℕ) (out out₁ : List ℕ) (eq : q ≡ flagged p written) (x : Stored out (p .written) (b ∷ []) out₁ written) where

@@ -33,7 +33,7 @@ use Rattle.blocks_laws.proofs.Statements.{StmtDone}
 use Rattle.blocks_laws.proofs.Wrotes.{Alike, wrote-nothing, wrote-both}
 
 alike : (p : Place) → Alike p p
-alike p = record { written = refl; errors = refl; warnings = refl; lefts = refl; fits = refl }
+alike p = record { written = refl; errors = refl; warnings = refl; lefts = refl; fits = refl; paged = refl }
 
 and-assoc : (a b c : Bool) → (a && (b && c)) ≡ ((a && b) && c)
 and-assoc true b c = refl

@@ -11,11 +11,13 @@ use Rattle.rules.specs.Report.{Report, errors, warnings, lefts}
 use Rattle.rules.specs.Verdict.{entriesOf}
 use Rattle.image_writing.specs.Stored.{Stored}
 use Rattle.image_writing.proofs.Stores.{none-stored, both-stored}
+use Rattle.image_lines.proofs.Cursors.{lined-length}
+use Rattle.image_lines.proofs.Told.{lined-both, lined-same}
 use Rattle.expressions_scan.proofs.Entries.{entries-append}
 use Rattle.statements_steps.specs.Own.{Own, nothing, both}
 use Rattle.statements_steps.proofs.Lists.{errors-append, warnings-append, lefts-append}
 use Rattle.statements_acts.specs.declared.Place.{Place}
-use Rattle.statements_acts.specs.Act.{Within, Grows}
+use Rattle.statements_acts.specs.Act.{Within, Grows, cursorsAt}
 use Rattle.image_writing.specs.Memory.{Memory}
 use Rattle.blocks_laws.specs.Walks.{Wrote}
 
@@ -40,13 +42,19 @@ and-none true = refl
 and-none false = refl
 
 pub wrote-both : {a b : Own} {p q r : Place} {m n o : Memory} → Wrote a p m q n → Wrote b q n r o → Wrote (both a b) p m r o
-wrote-both {a} {b} {p} {q} {r} x y = record {
-  bytes = λ e. both-stored (x .bytes (and-left (q .fits) (b .fits) (sym (y .fits) ∙ e))) (y .bytes e);
-  errors = stored-both errors errors-append (a .reports) (b .reports) (x .errors) (y .errors);
-  warnings = stored-both warnings warnings-append (a .reports) (b .reports) (x .warnings) (y .warnings);
-  lefts = stored-both lefts lefts-append (a .reports) (b .reports) (x .lefts) (y .lefts);
+wrote-both {a} {b} {p} {q} {r} {m} x y = record {
+  bytes = λ n e. both-stored (x .bytes n (and-left (q .fits) (b .fits) (sym (y .fits) ∙ e))) (y .bytes (x .paged ∙ n) e);
+  errors = λ n. stored-both errors errors-append (a .reports) (b .reports) (x .errors n) (y .errors (x .paged ∙ n));
+  warnings = λ n. stored-both warnings warnings-append (a .reports) (b .reports) (x .warnings n) (y .warnings (x .paged ∙ n));
+  lefts = λ n. stored-both lefts lefts-append (a .reports) (b .reports) (x .lefts n) (y .lefts (x .paged ∙ n));
+  lines = λ z h.
+      let u = x .lines z h in
+      let l = lined-length (cursorsAt p) (a .reports) (m .out) in
+      let k = ap length (u .cells) in
+      lined-both u (y .lines (x .paged ∙ z) (omega (arith, x .long)));
   long = let l = length-append (a .bytes) (b .bytes) in omega (arith, x .long, y .long);
   fits = y .fits ∙ ap (λ (z : Bool). z && b .fits) (x .fits) ∙ and-assoc (p .fits) (a .fits) (b .fits);
+  paged = y .paged ∙ x .paged;
 }
 
 -- two places that agree on what is stored
@@ -56,15 +64,18 @@ pub record Alike (p q : Place) : Type 0 where
   pub warnings : p .warnings ≡ q .warnings
   pub lefts : p .lefts ≡ q .lefts
   pub fits : p .fits ≡ q .fits
+  pub paged : p .paged ≡ q .paged
 
 pub wrote-nothing : {p q : Place} {m : Memory} → Alike p q → Wrote nothing p m q m
 wrote-nothing {p} {q} {m} e = record {
-  bytes = λ h. subst (Stored (m .out) (p .written) [] (m .out)) (e .written) (none-stored (m .out) (p .written));
-  errors = subst (Stored (m .errs) (p .errors) [] (m .errs)) (e .errors) (none-stored (m .errs) (p .errors));
-  warnings = subst (Stored (m .warns) (p .warnings) [] (m .warns)) (e .warnings) (none-stored (m .warns) (p .warnings));
-  lefts = subst (Stored (m .lefts) (p .lefts) [] (m .lefts)) (e .lefts) (none-stored (m .lefts) (p .lefts));
+  bytes = λ n h. subst (Stored (m .out) (p .written) [] (m .out)) (e .written) (none-stored (m .out) (p .written));
+  errors = λ n. subst (Stored (m .errs) (p .errors) [] (m .errs)) (e .errors) (none-stored (m .errs) (p .errors));
+  warnings = λ n. subst (Stored (m .warns) (p .warnings) [] (m .warns)) (e .warnings) (none-stored (m .warns) (p .warnings));
+  lefts = λ n. subst (Stored (m .lefts) (p .lefts) [] (m .lefts)) (e .lefts) (none-stored (m .lefts) (p .lefts));
+  lines = λ y h. lined-same refl (rw (e .errors, e .warnings, e .lefts));
   long = let w = e .written in omega arith;
   fits = sym (e .fits) ∙ and-none (p .fits);
+  paged = sym (e .paged);
 }
 
 -- the same, told otherwise

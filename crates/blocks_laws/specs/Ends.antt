@@ -44,6 +44,7 @@ pub record Ends (T : Tables) (s : List ℕ) (left d : ℕ) (σ : Scope Status) (
   pub errors : r .place .errors ≡ p .errors
   pub warnings : r .place .warnings ≡ p .warnings
   pub lefts : r .place .lefts ≡ p .lefts
+  pub paged : r .place .paged ≡ p .paged
   pub fault : r .fault ≡ 0
   pub locals : r .locals ≡ pop d σ
 

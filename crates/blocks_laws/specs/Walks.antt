@@ -20,8 +20,10 @@ use Rattle.rules.specs.Walk.{walkFault}
 use Rattle.rules.specs.Verdict.{entriesOf, countsFit}
 use Rattle.image_writing.specs.Memory.{Memory}
 use Rattle.image_writing.specs.Stored.{Stored}
+use Rattle.image_lines.specs.Told.{Lined}
 use Rattle.statements_returns.specs.Returns.{BlockThere, BranchesThere}
 use Rattle.statements_acts.specs.declared.Place.{Place}
+use Rattle.statements_acts.specs.Act.{cursorsAt}
 use Rattle.statements_steps.specs.Own.{numberOf, Own, returned, blocksOwn, blocksFault, blocksAfter, blockOwn}
 
 -- what a walk comes to: its fault or 0, whether it surely returns, where it stands, the locals
@@ -31,14 +33,17 @@ pub record Walked : Type 0 where
   pub place : Place
   pub locals : Scope Status
 
--- from one place to another o was stored, its bytes as far as no block counts too many
+-- from one place to another o was stored: its bytes, as far as no block counts too many, and its reports in their lists; or, where a page
+-- is made and the output ends no later than the first place, the lines of its reports
 pub record Wrote (o : Own) (p : Place) (m : Memory) (q : Place) (m′ : Memory) : Type 0 where
-  pub bytes : q .fits ≡ true → Stored (m .out) (p .written) (o .bytes) (m′ .out) (q .written)
-  pub errors : Stored (m .errs) (p .errors) (entriesOf version1 (errors (o .reports))) (m′ .errs) (q .errors)
-  pub warnings : Stored (m .warns) (p .warnings) (entriesOf version1 (warnings (o .reports))) (m′ .warns) (q .warnings)
-  pub lefts : Stored (m .lefts) (p .lefts) (entriesOf version1 (lefts (o .reports))) (m′ .lefts) (q .lefts)
+  pub bytes : p .paged ≡ false → q .fits ≡ true → Stored (m .out) (p .written) (o .bytes) (m′ .out) (q .written)
+  pub errors : p .paged ≡ false → Stored (m .errs) (p .errors) (entriesOf version1 (errors (o .reports))) (m′ .errs) (q .errors)
+  pub warnings : p .paged ≡ false → Stored (m .warns) (p .warnings) (entriesOf version1 (warnings (o .reports))) (m′ .warns) (q .warnings)
+  pub lefts : p .paged ≡ false → Stored (m .lefts) (p .lefts) (entriesOf version1 (lefts (o .reports))) (m′ .lefts) (q .lefts)
+  pub lines : p .paged ≡ true → length (m .out) ≤ p .written → Lined (cursorsAt p) (o .reports) (m .out) (cursorsAt q) (m′ .out)
   pub long : q .written ≡ p .written + length (o .bytes)
   pub fits : q .fits ≡ (p .fits && o .fits)
+  pub paged : q .paged ≡ p .paged
 
 -- a block without a fault
 pub record BlockDone (T : Tables) (b : Block) (d : ℕ) (σ : Scope Status) (p : Place) (m : Memory) (r : Walked) (m′ : Memory) (next : ℕ) : Type 0 where

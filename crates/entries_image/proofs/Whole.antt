@@ -1,6 +1,6 @@
 -- The walk of a whole image: the bytes up to the body, the body's block, the length.
 -- Assumes nothing.
-use Prim.Native.Nat.{ℕ, suc, _+_, _-_, _%_, _≤_, _<_}
+use Prim.Native.Nat.{ℕ, suc, _+_, _-_, _*_, _%_, _≤_, _<_}
 use native.Mathlib.Omega.{arith}
 use mathlib.Core.Path.{_≡_, refl, sym, ap, _∙_, subst}
 use mathlib.Core.Bool.{Bool, true, false}
@@ -10,7 +10,7 @@ use mathlib.Core.List.{List, [], _∷_, _++_, append-assoc}
 use mathlib.Core.Option.{Option, none, some}
 use lib.Dec.{eqb}
 use lib.ListN.{length, length-append}
-use lib.Seq.{slice}
+use lib.Seq.{slice, length-slice}
 use Rattle.image_fields.specs.Parsed.{ok}
 use Rattle.image_fields.specs.Bytes.{Bytes, fourBytes}
 use Rattle.tables.specs.Limits.{version1}
@@ -36,10 +36,12 @@ use Rattle.image_writing.proofs.Stores.{both-stored, patched, four-length}
 use Rattle.statements_steps.specs.Own.{numberOf, blockOwn}
 use Rattle.statements_steps.proofs.Plain.{few-locals}
 use Rattle.statements_acts.specs.declared.Place.{Place}
-use Rattle.statements_acts.specs.Act.{Within}
+use Rattle.statements_acts.specs.Act.{Within, cursorsAt}
+use Rattle.image_lines.specs.Lined.{cursors}
+use Rattle.image_lines.specs.Told.{Lined}
 use Rattle.statements_acts.proofs.Slices.{written-slice}
-use Rattle.image_writing.specs.Memory.{Memory, memory}
-use Rattle.blocks_laws.specs.Walks.{Walked, BlockDone, BlockWalks}
+use Rattle.image_writing.specs.Memory.{Memory}
+use Rattle.blocks_laws.specs.Walks.{Walked, Wrote, BlockDone, BlockWalks}
 use Rattle.blocks_laws.proofs.Blocks.{block-end}
 use Rattle.blocks_laws.proofs.Wrotes.{stored-as}
 use Rattle.statements_returns.specs.Returns.{BlockThere}
@@ -53,14 +55,10 @@ use Rattle.blocks_ends.specs.declared.Env.{Env}
 use Rattle.blocks_ends.specs.Ends.{placeIn, faultIn, walkedIn}
 use Rattle.blocks.specs.Blocks.{Enters, Comes, blockRows}
 use Rattle.entries_image.specs.declared.Seen.{Seen}
-use Rattle.entries_image.specs.Images.{ImageThere, ImageDone, ImageWalks, Over, Closes, MeasuresIn}
+use Rattle.entries_image.specs.Images.{ImageThere, begins, Begins, bodyOwn, BodyWalks, ImageDone, ImageWalks, Closes, PageWalks, MeasuresIn}
 
 one-image : (s : List ℕ) {i j : Image} → decode version1 s ≡ accepted i → decode version1 s ≡ accepted j → i ≡ j
 one-image s {i} {j} a b = let e : accepted i ≡ accepted j = sym a ∙ b in cc
-
--- the place where the walk begins
-abbrev pub begin : ℕ → ℕ → Place
-begin at written = record { at = at; last = at; written = written; errors = 0; warnings = 0; lefts = 0; inserted = 0; fits = true }
 
 module _ (s : List ℕ) (small : Bytes s) (i : Image) (e : decode version1 s ≡ accepted i) (body : ℕ)
     (block : blockAt (scopeIn version1 (i .tables .names) (i .tables .types)) s 12 body ≡ ok (i .body) (length s)) where
@@ -142,36 +140,41 @@ module _ (s : List ℕ) (small : Bytes s) (i : Image) (e : decode version1 s ≡
       let f : tooMany version1 σ ≡ none = few-locals σ few in
       ap (λ x. orElse x (walkFault version1 (i .tables) (i .body .code) 1 σ)) f
 
-  module _ (τ : Scope Status) (v : τ ≡ σ) (few : length τ ≤ 64) (written : ℕ) (m m₁ m₂ m₃ : Memory) (r : Walked) (left : ℕ) (el : left ≡ 12)
-      (front : Stored (m .out) 4 (slice 4 body s) (m₁ .out) written) (p : Place) (ep : p ≡ begin body written)
-      (w : BlockWalks (i .tables) s left (suc (12 - left)) τ p m₁ r m₂) where
+  -- the walk of the body's block is that of the image
+  module _ (τ : Scope Status) (v : τ ≡ σ) (few : length τ ≤ 64) (p : Place) (at : p .at ≡ body) (m m′ : Memory) (r : Walked) (left : ℕ) (el : left ≡ 12)
+      (w : BlockWalks (i .tables) s left (suc (12 - left)) τ p m r m′) where
     few-entered : length σ ≤ 64
     few-entered = subst (λ (υ : Scope Status). length υ ≤ 64) v few
 
     walked : (r .fault ≡ numberOf (walkFault version1 (i .tables) (i .body .code) 1 σ))
-        × (walkFault version1 (i .tables) (i .body .code) 1 σ ≡ none → BlockDone (i .tables) (i .body) 1 σ (begin body written) m₁ r m₂ (length s))
+        × (walkFault version1 (i .tables) (i .body .code) 1 σ ≡ none → BlockDone (i .tables) (i .body) 1 σ p m r m′ (length s))
     walked =
-        subst (λ (υ : Scope Status). BlockWalks (i .tables) s 12 1 υ (begin body written) m₁ r m₂) v
-        (subst (λ q. BlockWalks (i .tables) s 12 1 τ q m₁ r m₂) ep
-        (subst (λ k. BlockWalks (i .tables) s k (suc (12 - k)) τ p m₁ r m₂) el w)) .walks _ refl (i .body) (length s) block
+        subst (λ (υ : Scope Status). BlockWalks (i .tables) s 12 1 υ p m r m′) v
+        (subst (λ k. BlockWalks (i .tables) s k (suc (12 - k)) τ p m r m′) el w) .walks _ refl (i .body) (length s)
+        (subst (λ k. blockAt (scopeIn version1 (i .tables .names) (i .tables .types)) s 12 k ≡ ok (i .body) (length s)) (sym at) block)
 
     pub image-fault : r .fault ≡ numberOf (imageFault version1 i)
     image-fault = walked .0 ∙ ap numberOf (sym (fault-is few-entered))
 
+    pub body-wrote : imageFault version1 i ≡ none → Wrote (bodyOwn i (p .at)) p m (r .place) m′
+    body-wrote f = walked .1 (sym (fault-is few-entered) ∙ f) .wrote
+
+  -- with the head before it and the length in front, it is the image
+  module _ (p : Place) (m m₁ m₂ m₃ : Memory) (q : Place) (written : ℕ) (ep : p ≡ begins body written 0 0 false) (wrote : Wrote (bodyOwn i (p .at)) p m₁ q m₂)
+      (front : Stored (m .out) 4 (slice 4 body s) (m₁ .out) written) where
     abbrev listed : (List Report → List Report) → List ℕ
     listed f = entriesOf version1 (f (reports i))
 
-    pub image-done : imageFault version1 i ≡ none → r .place .written < 4294967296 → (n : ℕ) → Stored (m₂ .out) 0 (fourBytes ((r .place .written + 4294967292) % 4294967296)) (m₃ .out) n
-        → m₁ .errs ≡ m .errs → m₁ .warns ≡ m .warns → m₁ .lefts ≡ m .lefts → m₃ .errs ≡ m₂ .errs → m₃ .warns ≡ m₂ .warns → m₃ .lefts ≡ m₂ .lefts
-        → ImageDone i m (r .place) m₃
-    image-done none-found low n last a₁ a₂ a₃ b₁ b₂ b₃ =
-        let g = walked .1 (sym (fault-is few-entered) ∙ none-found) .wrote in
+    pub image-done : q .written < 4294967296 → Stored (m₂ .out) 0 (fourBytes ((q .written + 4294967292) % 4294967296)) (m₃ .out) 4
+        → m₁ .errs ≡ m .errs → m₁ .warns ≡ m .warns → m₁ .lefts ≡ m .lefts → m₃ .errs ≡ m₂ .errs → m₃ .warns ≡ m₂ .warns → m₃ .lefts ≡ m₂ .lefts → ImageDone i m q m₃
+    image-done low last a₁ a₂ a₃ b₁ b₂ b₃ =
+        let g = subst (λ x. Wrote (bodyOwn i (x .at)) x m₁ q m₂) ep wrote in
         let f : Stored (m .out) 4 head (m₁ .out) written = stored-as (sym head-slice) front in
         record {
-          bytes = λ fit. whole-stored low (both-stored f (g .bytes fit)) last;
-          errors = list-stored errors a₁ b₁ (g .errors);
-          warnings = list-stored warnings a₂ b₂ (g .warnings);
-          lefts = list-stored lefts a₃ b₃ (g .lefts);
+          bytes = λ fit. whole-stored low (both-stored f (g .bytes refl fit)) last;
+          errors = list-stored errors a₁ b₁ (g .errors refl);
+          warnings = list-stored warnings a₂ b₂ (g .warnings refl);
+          lefts = list-stored lefts a₃ b₃ (g .lefts refl);
           long = let h = whole-length in omega (arith, g .long, f .place);
           fits = g .fits;
         }
@@ -182,6 +185,17 @@ module _ (s : List ℕ) (small : Bytes s) (i : Image) (e : decode version1 s ≡
             subst (λ zs. Stored xs 0 (listed f) zs k) (sym ey)
             (subst (λ zs. Stored zs 0 (listed f) ys₁ k) ex
             (stored-as (ap (λ rs. entriesOf version1 (f rs)) (sym same-reports)) x))
+
+  -- as a page
+  module _ (p : Place) (m m′ : Memory) (q : Place) (written w l : ℕ) (b : Bool) (ep : p ≡ begins body written w l b) (wrote : Wrote (bodyOwn i (p .at)) p m q m′) where
+    from-begin : Wrote (bodyOwn i body) (begins body written w l b) m q m′
+    from-begin = subst (λ x. Wrote (bodyOwn i (x .at)) x m q m′) ep wrote
+
+    pub page-done : b ≡ true → length (m .out) ≤ written → Lined (cursors 0 w l) (reports i) (m .out) (cursorsAt q) (m′ .out)
+    page-done y h = subst (λ rs. Lined (cursors 0 w l) rs (m .out) (cursorsAt q) (m′ .out)) same-reports (from-begin .lines y h)
+
+    pub page-long : written ≡ body → q .written ≡ length (encode version1 (returnedImage i))
+    page-long e = let h = whole-length in let k = head-length in omega (arith, from-begin .long)
 
 -- the numbers of faults of a walk
 real-low : (x : Option ℕ) → Real x → numberOf x < 14
@@ -206,32 +220,28 @@ module _ (s tb : List ℕ) (small : Bytes s) (env : Env) (entry body : ℕ) (h :
       let b = body-fits s small (h .i) (h .read) body (h .walked) in
       (omega arith, omega arith, short s small (h .i) (h .read) body (h .walked))
 
-  module _ (l : Locals) (entered : Entered s tb entry l) (t : States) (held : Held t) (fresh : Fresh t) (rows out out₁ : List ℕ) (written : ℕ)
-      (front : Stored out 4 (slice 4 body s) out₁ written) (p : Place) (ep : p ≡ begin body written) where
+  module _ (l : Locals) (entered : Entered s tb entry l) (t : States) (held : Held t) (fresh : Fresh t) (rows : List ℕ) (p q : Place) (b : Begins body p) (eq : q ≡ p) where
     abbrev stack : Scope Status
     stack = view l t rows (env .cur) (env .width)
 
-    same-place : written ≡ body
-    same-place =
-        let a = head-length s small (h .i) (h .read) body (h .walked) in
-        let b = ap length (head-slice s small (h .i) (h .read) body (h .walked)) in
-        front .place ∙ omega arith
+    at-body : q .at ≡ body
+    at-body = ap (λ (x : Place). x .at) (eq ∙ b .is)
 
-    begin-within : Within s (begin body written)
-    begin-within = let b = head-inside in let c = same-place in record {
-      small = b .2;
-      inside = b .1;
+    begin-within : Within s q
+    begin-within = subst (Within s) (sym eq) (subst (Within s) (sym (b .is)) (let i = head-inside in let a = b .written in let c = b .warnings in let d = b .lefts in record {
+      small = i .2;
+      inside = i .1;
       written = omega arith;
       errors = omega arith;
       warnings = omega arith;
       lefts = omega arith;
       inserted = omega arith;
-    }
+    }))
 
-    pub enters : Enters s tb env l t rows p
+    pub enters : Enters s tb env l t rows q
     enters = record {
       lent = h .lent;
-      within = subst (Within s) (sym ep) begin-within;
+      within = begin-within;
       depth = let e = h .left in omega arith;
       limit = h .limit;
       width = h .width;
@@ -240,10 +250,10 @@ module _ (s tb : List ℕ) (small : Bytes s) (env : Env) (entry body : ℕ) (h :
       drops = λ T says. entered .drops T (h .lent) says;
     }
 
-    pub there : BlockThere s (env .left) (p .at)
+    pub there : BlockThere s (env .left) (q .at)
     there =
-        subst (λ k. BlockThere s k (p .at)) (sym (h .left))
-        (subst (λ (q : Place). BlockThere s 12 (q .at)) (sym ep) (record { t = _; deep = refl; b = h .i .body; next = length s; read = h .walked }))
+        subst (λ k. BlockThere s k (q .at)) (sym (h .left))
+        (subst (λ k. BlockThere s 12 k) (sym at-body) (record { t = _; deep = refl; b = h .i .body; next = length s; read = h .walked }))
 
     locals-are : stack ≡ σ s small (h .i) (h .read) body (h .walked)
     locals-are = entered .is _ _ (h .i .entry) body (h .entered) (h .i .tables) t fresh rows (env .cur) (env .width)
@@ -251,62 +261,127 @@ module _ (s tb : List ℕ) (small : Bytes s) (env : Env) (entry body : ℕ) (h :
     few-locals-in : length stack ≤ 64
     few-locals-in = let n = length-view l t rows (env .cur) (env .width) in omega (arith, entered .few)
 
-    module _ (errs warns lefts errs₂ warns₂ lefts₂ out₂ : List ℕ) (r : States) (rows′ pl′ : List ℕ)
-        (c : Comes s (env .cur) (env .width) (blockRows (env .cur) (env .left)) l rows p r rows′ pl′)
+    module _ (m m′ : Memory) (r : States) (rows′ pl′ : List ℕ)
+        (c : Comes s (env .cur) (env .width) (blockRows (env .cur) (env .left)) l rows q r rows′ pl′)
         (w : (T : Tables) → Says s tb T → (faultIn pl′ ≡ 254 → ⊥)
-        → BlockWalks T s (env .left) (suc (12 - env .left)) stack p (memory out₁ errs warns lefts) (walkedIn pl′ (view l r rows′ (env .cur) (env .width))) (memory out₂ errs₂ warns₂ lefts₂)) where
-      abbrev m : Memory
-      m = memory out errs warns lefts
-
+        → BlockWalks T s (env .left) (suc (12 - env .left)) stack q m (walkedIn pl′ (view l r rows′ (env .cur) (env .width))) m′) where
       abbrev W : Walked
       W = walkedIn pl′ (view l r rows′ (env .cur) (env .width))
 
       found : (faultIn pl′ ≡ 254 → ⊥) → faultIn pl′ ≡ numberOf (imageFault version1 (h .i))
-      found z = image-fault s small (h .i) (h .read) body (h .walked) stack locals-are few-locals-in written m _ _ m W (env .left) (h .left) front p ep (w (h .i .tables) (h .says) z)
+      found z = image-fault s small (h .i) (h .read) body (h .walked) stack locals-are few-locals-in q at-body m m′ W (env .left) (h .left) (w (h .i .tables) (h .says) z)
 
       -- a fault is 254 or the walk's
-      pub over : Over pl′
-      over = record {
-        fault = ⊎-elim (λ (e : faultIn pl′ ≡ 254). omega arith) (λ (z : faultIn pl′ ≡ 254 → ⊥).
-            let n = real-low (imageFault version1 (h .i)) (real-image version1 (h .i)) in
-            omega (arith, n, found z)) (apart (faultIn pl′) 254);
-        low = λ e. let g = c .within e in omega (arith, g .small, g .inside, g .written);
-      }
+      pub low-fault : faultIn pl′ < 256
+      low-fault = ⊎-elim (λ (e : faultIn pl′ ≡ 254). omega arith) (λ (z : faultIn pl′ ≡ 254 → ⊥).
+          let n = real-low (imageFault version1 (h .i)) (real-image version1 (h .i)) in
+          omega (arith, n, found z)) (apart (faultIn pl′) 254)
 
-      done : (z : faultIn pl′ ≡ 254 → ⊥) → imageFault version1 (h .i) ≡ none → (x : Seen) (out₃ : List ℕ) → Closes out₂ pl′ x out₃
-          → ImageDone (h .i) m (placeIn pl′) (memory out₃ errs₂ warns₂ lefts₂)
-      done z f x out₃ k =
-          let e : faultIn pl′ ≡ 0 = found z ∙ ap numberOf f in
-          image-done s small (h .i) (h .read) body (h .walked) stack locals-are few-locals-in written m _ (memory out₂ errs₂ warns₂ lefts₂) (memory out₃ errs₂ warns₂ lefts₂) W (env .left) (h .left) front p ep
-          (w (h .i .tables) (h .says) z) f (over .low e) 4 (k .last e) refl refl refl refl refl refl
+      wrote : (z : faultIn pl′ ≡ 254 → ⊥) → imageFault version1 (h .i) ≡ none → Wrote (bodyOwn (h .i) (p .at)) p m (placeIn pl′) m′
+      wrote z f = subst (λ (x : Place). Wrote (bodyOwn (h .i) (x .at)) x m (placeIn pl′) m′) eq
+          (body-wrote s small (h .i) (h .read) body (h .walked) stack locals-are few-locals-in q at-body m m′ W (env .left) (h .left) (w (h .i .tables) (h .says) z) f)
 
-      pub image-walked : (x : Seen) (out₃ : List ℕ) → Closes out₂ pl′ x out₃ → ImageWalks s (length rows) m x (memory out₃ errs₂ warns₂ lefts₂)
-      image-walked x out₃ k = record {
-        short = λ e.
-            let b = c .short (sym (ap (λ (y : Seen). y .fault) (k .is)) ∙ e) in
-            omega (arith, b, h .cur, h .left);
-        walks = λ z i e.
-            subst (λ (y : Seen). (y .fault ≡ numberOf (imageFault version1 i)) × (imageFault version1 i ≡ none → ImageDone i m (y .place) (memory out₃ errs₂ warns₂ lefts₂))) (sym (k .is))
-            (subst (λ (j : Image). (faultIn pl′ ≡ numberOf (imageFault version1 j)) × (imageFault version1 j ≡ none → ImageDone j m (placeIn pl′) (memory out₃ errs₂ warns₂ lefts₂)))
-            (one-image s (h .read) e)
-            (let y : faultIn pl′ ≡ 254 → ⊥ = λ g. z (ap (λ (u : Seen). u .fault) (k .is) ∙ g) in (found y, λ f. done y f x out₃ k)));
-      }
+      walks : (faultIn pl′ ≡ 254 → ⊥) → (i : Image) → decode version1 s ≡ accepted i
+          → (faultIn pl′ ≡ numberOf (imageFault version1 i)) × (imageFault version1 i ≡ none → Wrote (bodyOwn i (p .at)) p m (placeIn pl′) m′)
+      walks z i e =
+          subst (λ (j : Image). (faultIn pl′ ≡ numberOf (imageFault version1 j)) × (imageFault version1 j ≡ none → Wrote (bodyOwn j (p .at)) p m (placeIn pl′) m′))
+          (one-image s (h .read) e) (found z, wrote z)
+
+      pub body-walked : (x : Seen) → x ≡ record { fault = faultIn pl′; place = placeIn pl′ } → BodyWalks s (length rows) p m x m′
+      body-walked x ex = subst (λ (y : Seen). BodyWalks s (length rows) p m y m′) (sym ex) (record {
+        short = λ e. omega (arith, c .short e, h .cur, h .left);
+        walks = walks;
+        written = λ e. bounded (λ (y : Place). y .written) e (c .grows e .written);
+        errors = λ e. let g = c .within e in omega (arith, g .errors, g .inside, g .small);
+        warnings = λ e. bounded (λ (y : Place). y .warnings) e (c .grows e .warnings);
+        lefts = λ e. bounded (λ (y : Place). y .lefts) e (c .grows e .lefts);
+      })
+        where
+          bounded : (f : Place → ℕ) → faultIn pl′ ≡ 0 → f (placeIn pl′) + 600 * q .at ≤ f q + 600 * placeIn pl′ .at → f (placeIn pl′) ≤ f p + 39321600
+          bounded f e g =
+              let a = c .within e .inside in
+              let b = c .within e .small in
+              let k = ap f eq in
+              omega arith
+
+-- from a place that the code made
+pub seen-as : {x : Seen} {f : ℕ} {p q : Place} → x ≡ record { fault = f; place = p } → p ≡ q → x ≡ record { fault = f; place = q }
+seen-as {x} {f} e h = e ∙ ap (λ (y : Place). record { fault = f; place = y }) h
+
+pub begins-at : {body written w l : ℕ} {b : Bool} {p : Place} → p ≡ begins body written w l b → written ≤ 120000000 → w ≤ 120000000 → l ≤ 120000000 → Begins body p
+begins-at {body} {written} {w} {l} {b} {p} e x y z = subst (Begins body) (sym e) (record { is = refl; written = x; warnings = y; lefts = z })
 
 -- the end of the walk, with a fault and without
-pub closes-fault : (out pl : List ℕ) (p : Place) (x : Seen) → x ≡ record { fault = faultIn pl; place = p } → p ≡ placeIn pl → 0 < faultIn pl → Closes out pl x out
-closes-fault out pl p x ex e h = record { is = ex ∙ ap (λ (q : Place). record { fault = faultIn pl; place = q }) e; last = λ z. absurd (omega arith) }
+pub closes-fault : (out : List ℕ) (w : Seen) → 0 < w .fault → Closes out w w out
+closes-fault out w h = record { is = refl; last = λ z. absurd (omega arith) }
 
-pub closes-done : (out pl out′ : List ℕ) (p : Place) (n : ℕ) (x : Seen) → x ≡ record { fault = 0; place = p } → p ≡ placeIn pl → faultIn pl ≤ 0
-    → Stored out 0 (fourBytes ((p .written + 4294967292) % 4294967296)) out′ n → Closes out pl x out′
-closes-done out pl out′ p n x ex e h g =
-    let z : 0 ≡ faultIn pl = omega arith in
-    let k : n ≡ 4 = g .place ∙ (let l = four-length ((p .written + 4294967292) % 4294967296) in omega arith) in
-    record {
-      is = ex ∙ ap (λ (q : Place). record { fault = 0; place = q }) e ∙ ap (λ (y : ℕ). record { fault = y; place = placeIn pl }) z;
-      last = λ y. subst (λ (q : Place). Stored out 0 (fourBytes ((q .written + 4294967292) % 4294967296)) out′ 4) e
-          (subst (Stored out 0 (fourBytes ((p .written + 4294967292) % 4294967296)) out′) k g);
-    }
+pub closes-done : (out out′ : List ℕ) (n : ℕ) (w : Seen) → Stored out 0 (fourBytes ((w .place .written + 4294967292) % 4294967296)) out′ n → Closes out w w out′
+closes-done out out′ n w g =
+    let k : n ≡ 4 = g .place ∙ (let l = four-length ((w .place .written + 4294967292) % 4294967296) in omega arith) in
+    record { is = refl; last = λ y. subst (Stored out 0 (fourBytes ((w .place .written + 4294967292) % 4294967296)) out′) k g }
 
--- without what is stored
-pub measured : (s : List ℕ) {rows : ℕ} {m m′ : Memory} {r : Seen} → ImageWalks s rows m r m′ → MeasuresIn s rows r
-measured s g = record { short = g .short; measures = λ z. record { walks = λ i e. (g .walks z i e .0, λ f. g .walks z i e .1 f .long) } }
+-- of a walk into memory
+module _ (s tb : List ℕ) (small : Bytes s) (env : Env) (entry body : ℕ) (h : ImageThere s tb env entry body) (written : ℕ) (m m₁ : Memory) (p : Place)
+    (ep : p ≡ begins body written 0 0 false) (front : Stored (m .out) 4 (slice 4 body s) (m₁ .out) written) where
+  pub begins-head : Begins body p
+  begins-head =
+      let i = head-inside s tb small env entry body h in
+      let l = length-slice 4 body s (i .1) in
+      let f = front .place in
+      subst (Begins body) (sym ep) (record { is = refl; written = omega arith; warnings = omega arith; lefts = omega arith })
+
+  module _ (rows : ℕ) (m₂ m₃ : Memory) (w r : Seen) (g : BodyWalks s rows p m₁ w m₂) where
+    pub low-written : w .fault ≡ 0 → w .place .written < 4294967296
+    low-written e = let b = g .written e in let k = begins-head .written in omega arith
+
+    pub image-walked : Closes (m₂ .out) w r (m₃ .out) → m₁ .errs ≡ m .errs → m₁ .warns ≡ m .warns → m₁ .lefts ≡ m .lefts → m₃ .errs ≡ m₂ .errs → m₃ .warns ≡ m₂ .warns → m₃ .lefts ≡ m₂ .lefts
+        → ImageWalks s rows m r m₃
+    image-walked k a₁ a₂ a₃ b₁ b₂ b₃ = subst (λ (y : Seen). ImageWalks s rows m y m₃) (sym (k .is)) (record {
+      short = g .short;
+      walks = λ z i e.
+          let x = g .walks z i e in (
+            x .0,
+            λ f.
+                let none-found : w .fault ≡ 0 = x .0 ∙ ap numberOf f in
+                subst (λ (j : Image). ImageDone j m (w .place) m₃) (one-image s (h .read) e)
+                (image-done s small (h .i) (h .read) body (h .walked) p m m₁ m₂ m₃ (w .place) written ep (subst (λ (j : Image). Wrote (bodyOwn j (p .at)) p m₁ (w .place) m₂) (sym (one-image s (h .read) e)) (x .1 f)) front
+                (low-written none-found) (k .last none-found) a₁ a₂ a₃ b₁ b₂ b₃),
+          );
+    })
+
+-- of a walk into a page, or into nothing
+module _ (s tb : List ℕ) (small : Bytes s) (env : Env) (entry body : ℕ) (h : ImageThere s tb env entry body) (rows : ℕ) (m m′ : Memory) (p : Place) (r : Seen) (g : BodyWalks s rows p m r m′) where
+  module _ (written w l : ℕ) (b : Bool) (ep : p ≡ begins body written w l b) where
+    wrote-in : (z : r .fault ≡ 254 → ⊥) → (i : Image) → decode version1 s ≡ accepted i → imageFault version1 i ≡ none → Wrote (bodyOwn (h .i) (p .at)) p m (r .place) m′
+    wrote-in z i e f = subst (λ (j : Image). Wrote (bodyOwn j (p .at)) p m (r .place) m′) (sym (one-image s (h .read) e)) (g .walks z i e .1 f)
+
+    pub lined-in : b ≡ true → length (m .out) ≤ written → (z : r .fault ≡ 254 → ⊥) → (i : Image) → decode version1 s ≡ accepted i → imageFault version1 i ≡ none
+        → Lined (cursors 0 w l) (reports i) (m .out) (cursorsAt (r .place)) (m′ .out)
+    lined-in y k z i e f =
+        subst (λ (j : Image). Lined (cursors 0 w l) (reports j) (m .out) (cursorsAt (r .place)) (m′ .out)) (one-image s (h .read) e)
+        (page-done s small (h .i) (h .read) body (h .walked) p m m′ (r .place) written w l b ep (wrote-in z i e f) y k)
+
+    pub page-walked : b ≡ true → length (m .out) ≤ written → PageWalks s rows (cursors 0 w l) (m .out) r (m′ .out)
+    page-walked y k = record { short = g .short; walks = λ z i e. (g .walks z i e .0, λ f. lined-in y k z i e f) }
+
+  pub measured : (b : Bool) → p ≡ begins body body 0 0 b → m .out ≡ [] → MeasuresIn s rows b r
+  measured b ep none-lent = record {
+    short = g .short;
+    measures = λ z. record {
+      walks = λ i e. (
+        g .walks z i e .0,
+        λ f. (
+          subst (λ (j : Image). r .place .written ≡ length (encode version1 (returnedImage j))) (one-image s (h .read) e)
+              (page-long s small (h .i) (h .read) body (h .walked) p m m′ (r .place) body 0 0 b ep (wrote-in body 0 0 b ep z i e f) refl),
+          λ y. lined-in body 0 0 b ep y (let l = ap length none-lent in omega arith) z i e f .cursors,
+        ),
+      );
+      few = λ e.
+          let a = g .errors e in
+          let c = g .warnings e in
+          let d = g .lefts e in
+          let w = ap (λ (x : Place). x .warnings) ep in
+          let l = ap (λ (x : Place). x .lefts) ep in
+          (a, omega arith, omega arith);
+    };
+  }

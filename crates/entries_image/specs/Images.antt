@@ -1,8 +1,8 @@
 -- The walk of a whole image: what it stores, of whatever image was read.
-use Prim.Native.Nat.{ℕ, _+_, _%_, _<_}
+use Prim.Native.Nat.{ℕ, _+_, _%_, _≤_, _<_}
 use mathlib.Core.Path.{_≡_}
-use mathlib.Core.Bool.{true}
-use mathlib.Core.List.{List}
+use mathlib.Core.Bool.{Bool, true}
+use mathlib.Core.List.{List, []}
 use mathlib.Core.Option.{none}
 use lib.ListN.{length}
 use Rattle.image_fields.specs.Parsed.{ok}
@@ -17,10 +17,14 @@ use Rattle.rules.specs.Walk.{imageFault}
 use Rattle.rules.specs.Verdict.{entriesOf, imageCountsFit}
 use Rattle.image_writing.specs.Stored.{Stored}
 use Rattle.image_writing.specs.Memory.{Memory}
-use Rattle.statements_steps.specs.Own.{numberOf}
+use Rattle.statements_steps.specs.Own.{numberOf, Own, blockOwn}
 use Rattle.statements_acts.specs.declared.Place.{Place}
+use Rattle.statements_acts.specs.Act.{cursorsAt}
+use Rattle.image_lines.specs.Lined.{Cursors, cursors, onwardAll}
+use Rattle.image_lines.specs.Told.{Lined}
+use Rattle.blocks_laws.specs.Walks.{Wrote}
+use Rattle.rules.specs.Rules.{states, entered, localsOf}
 use Rattle.blocks_ends.specs.declared.Env.{Env}
-use Rattle.blocks_ends.specs.Ends.{placeIn, faultIn}
 use Rattle.entries_image.specs.declared.Seen.{Seen}
 
 -- an image was read, and its parts stand there
@@ -35,6 +39,31 @@ pub record ImageThere (s tb : List ℕ) (env : Env) (entry body : ℕ) : Type 0 
   pub cur : env .cur ≡ 0
   pub entered : entryAt version1 (length (i .tables .names)) (length (i .tables .types)) s entry ≡ ok (i .entry) body
   pub walked : blockAt (scopeIn version1 (i .tables .names) (i .tables .types)) s 12 body ≡ ok (i .body) (length s)
+
+-- where the walk of a body begins
+abbrev pub begins : ℕ → ℕ → ℕ → ℕ → Bool → Place
+begins at written warnings lefts paged =
+    record { at = at; last = at; written = written; errors = 0; warnings = warnings; lefts = lefts; inserted = 0; fits = true; paged = paged }
+
+pub record Begins (body : ℕ) (p : Place) : Type 0 where
+  pub is : p ≡ begins body (p .written) (p .warnings) (p .lefts) (p .paged)
+  pub written : p .written ≤ 120000000
+  pub warnings : p .warnings ≤ 120000000
+  pub lefts : p .lefts ≤ 120000000
+
+-- what the body's block is given back as, and what is reported of it
+abbrev pub bodyOwn : Image → ℕ → Own
+bodyOwn i at = blockOwn (i .tables) (i .body .span) (i .body .code) 1 at (entered states (i .tables) (localsOf (i .entry)) [])
+
+-- the walk of a body from its beginning, with so many rows; fault 254: there are fewer than an image may need
+pub record BodyWalks (s : List ℕ) (rows : ℕ) (p : Place) (m : Memory) (r : Seen) (m′ : Memory) : Type 0 where
+  pub short : r .fault ≡ 254 → rows < 13248
+  pub walks : (r .fault ≡ 254 → ⊥) → (i : Image) → decode version1 s ≡ accepted i
+      → (r .fault ≡ numberOf (imageFault version1 i)) × (imageFault version1 i ≡ none → Wrote (bodyOwn i (p .at)) p m (r .place) m′)
+  pub written : r .fault ≡ 0 → r .place .written ≤ p .written + 39321600
+  pub errors : r .fault ≡ 0 → r .place .errors ≤ 39321600
+  pub warnings : r .fault ≡ 0 → r .place .warnings ≤ p .warnings + 39321600
+  pub lefts : r .fault ≡ 0 → r .place .lefts ≤ p .lefts + 39321600
 
 -- an image without a fault, walked into memory as far as that reaches
 pub record ImageDone (i : Image) (m : Memory) (p : Place) (m′ : Memory) : Type 0 where
@@ -51,21 +80,24 @@ pub record ImageWalks (s : List ℕ) (rows : ℕ) (m : Memory) (r : Seen) (m′ 
   pub walks : (r .fault ≡ 254 → ⊥) → (i : Image) → decode version1 s ≡ accepted i
       → (r .fault ≡ numberOf (imageFault version1 i)) × (imageFault version1 i ≡ none → ImageDone i m (r .place) m′)
 
--- what is known where the numbers of a walk of all are taken: a fault's number, and a place that the length can be counted from
-pub record Over (pl : List ℕ) : Type 0 where
-  pub fault : faultIn pl < 256
-  pub low : faultIn pl ≡ 0 → placeIn pl .written < 4294967296
+-- the end of a walk: without a fault the length is stored in front
+pub record Closes (out : List ℕ) (w r : Seen) (out′ : List ℕ) : Type 0 where
+  pub is : r ≡ w
+  pub last : w .fault ≡ 0 → Stored out 0 (fourBytes ((w .place .written + 4294967292) % 4294967296)) out′ 4
 
--- they are taken, and without a fault the length is stored in front
-pub record Closes (out pl : List ℕ) (r : Seen) (out′ : List ℕ) : Type 0 where
-  pub is : r ≡ record { fault = faultIn pl; place = placeIn pl }
-  pub last : faultIn pl ≡ 0 → Stored out 0 (fourBytes ((placeIn pl .written + 4294967292) % 4294967296)) out′ 4
-
--- the same without what is stored
-pub record Measures (s : List ℕ) (r : Seen) : Type 0 where
-  pub walks : (i : Image) → decode version1 s ≡ accepted i
-      → (r .fault ≡ numberOf (imageFault version1 i)) × (imageFault version1 i ≡ none → r .place .written ≡ length (encode version1 (returnedImage i)))
-
-pub record MeasuresIn (s : List ℕ) (rows : ℕ) (r : Seen) : Type 0 where
+-- the reports of an image, as lines of a page from some cursors on
+pub record PageWalks (s : List ℕ) (rows : ℕ) (c : Cursors) (page : List ℕ) (r : Seen) (page′ : List ℕ) : Type 0 where
   pub short : r .fault ≡ 254 → rows < 13248
-  pub measures : (r .fault ≡ 254 → ⊥) → Measures s r
+  pub walks : (r .fault ≡ 254 → ⊥) → (i : Image) → decode version1 s ≡ accepted i
+      → (r .fault ≡ numberOf (imageFault version1 i)) × (imageFault version1 i ≡ none → Lined c (reports i) page (cursorsAt (r .place)) page′)
+
+-- without what is stored: the length of the image given back, and, where a page is made, the bytes of its lists
+pub record Measures (s : List ℕ) (paged : Bool) (r : Seen) : Type 0 where
+  pub walks : (i : Image) → decode version1 s ≡ accepted i
+      → (r .fault ≡ numberOf (imageFault version1 i)) × (imageFault version1 i ≡ none → (r .place .written ≡ length (encode version1 (returnedImage i)))
+      × (paged ≡ true → cursorsAt (r .place) ≡ onwardAll (cursors 0 0 0) (reports i)))
+  pub few : r .fault ≡ 0 → (r .place .errors ≤ 39321600) × (r .place .warnings ≤ 39321600) × (r .place .lefts ≤ 39321600)
+
+pub record MeasuresIn (s : List ℕ) (rows : ℕ) (paged : Bool) (r : Seen) : Type 0 where
+  pub short : r .fault ≡ 254 → rows < 13248
+  pub measures : (r .fault ≡ 254 → ⊥) → Measures s paged r

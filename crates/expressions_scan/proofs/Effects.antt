@@ -51,7 +51,7 @@ module _ (σ : Scope Status) (m p : ℕ) where
   hands-told true = refl
   hands-told false = refl
 
-  hand-told : useOf p (lookup m σ) ≡ told (uses m p ∷ hands m p ∷ []) σ
+  pub hand-told : useOf p (lookup m σ) ≡ told (uses m p ∷ hands m p ∷ []) σ
   unfolding resolveAll
   hand-told = sym (append-nil _) ∙ ap (λ x. useOf p (lookup m σ) ++ x) (hands-told (has m (shape σ)))
 
@@ -63,7 +63,7 @@ module _ (σ : Scope Status) (m p : ℕ) where
   hands-off true e = false-true e
   hands-off false e = refl
 
-  gives-told : (b : Bool) → [] ≡ reportAll (cond b (kill consumed m p ∷ []) [] ++ []) σ
+  pub gives-told : (b : Bool) → [] ≡ reportAll (cond b (kill consumed m p ∷ []) [] ++ []) σ
   gives-told true = refl
   gives-told false = refl
 

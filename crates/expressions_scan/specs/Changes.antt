@@ -1,6 +1,7 @@
 -- What raw effects do to the locals of a stack, what they report of them, and the change that the code hands out instead.
 use Prim.Native.Nat.{ℕ, _+_, _≤_, _<_}
 use mathlib.Core.Path.{_≡_}
+use mathlib.Core.Bool.{Bool}
 use mathlib.Core.List.{List, [], _∷_}
 use Rattle.tables.specs.Limits.{version1}
 use Rattle.image_body.specs.Expr.{Exprs}
@@ -14,6 +15,7 @@ use Rattle.rules.specs.Verdict.{entriesOf}
 use Rattle.rules.specs.Effects.{Raw, resolveAll}
 use Rattle.scope_state.specs.Kinds.{said, put}
 use Rattle.image_writing.specs.Stored.{Stored}
+use Rattle.image_lines.specs.Told.{Listed}
 use Rattle.expressions_scan.specs.declared.Change.{Change}
 use Rattle.expressions_scan.specs.declared.Change.the-variants.{Nothing, Mark}
 use Rattle.expressions_scan.specs.declared.Answer.{Answer}
@@ -34,6 +36,11 @@ applied (Mark n k p o) σ = mark n (put o (said k (p ∷ []))) σ
 pub record Answers (rs : List Raw) (σ : Scope Status) (old : List ℕ) (n : ℕ) (new : List ℕ) (r : Answer) : Type 0 where
   pub locals : applied (r .change) σ ≡ after rs σ
   pub errors : Stored old n (entriesOf version1 (told rs σ)) new (r .told)
+
+-- the same, what they report stored as numbers of the list or as lines of the page
+pub record Tells (paged : Bool) (rs : List Raw) (σ : Scope Status) (old out : List ℕ) (n : ℕ) (new out′ : List ℕ) (r : Answer) : Type 0 where
+  pub locals : applied (r .change) σ ≡ after rs σ
+  pub errors : Listed paged (told rs σ) old out n new out′ (r .told)
 
 -- a mark is one of the kinds 1 to 6
 abbrev pub Marks : Change → Type 0

@@ -1,5 +1,5 @@
-// The scan of a statement's values over lent arrays: it reports the errors of their effects and comes back where the stack must
-// change; the caller changes it and has the scan go on. The open nodes stand in a lent array.
+// The scan of a statement's values over lent arrays: it reports the errors of their effects, as numbers of their list or as lines of a
+// page, and comes back where the stack must change; the caller changes it and has the scan go on. The open nodes stand in a lent array.
 ghost use mathlib.Core.Path.{_≡_};
 ghost use mathlib.Core.List.{List, [], _∷_, _++_};
 ghost use Prim.Native.Nat.{ℕ, _+_, _*_, _≤_, _<_};
@@ -19,7 +19,7 @@ ghost use Rattle.scope_state.specs.Kinds.{baseOf};
 ghost use Rattle.scope_state.specs.Locals.{rowAt, statusOf, stateIn, lent};
 ghost use Rattle.image_writing.specs.Stored.{Stored};
 ghost use Rattle.expressions_scan.specs.States.{Kept, AllKept};
-ghost use Rattle.expressions_scan.specs.Changes.{applied, Answers, Small};
+ghost use Rattle.expressions_scan.specs.Changes.{applied, Answers, Tells, Marks, Small};
 ghost use Rattle.expressions_scan.specs.declared.Change.the-variants.{Nothing};
 ghost use Rattle.expressions_scan.specs.Resumed.{openOf, opens, Onward, Going};
 use expressions_effects::Effect;
@@ -48,13 +48,13 @@ pub struct Env {
     pub width: usize,
 }
 
-// How many numbers of the list of errors there are after an effect, and the change.
+// How many numbers of the list of errors, or bytes of their page, there are after an effect, and the change.
 pub struct Answer {
     pub told: usize,
     pub change: Change,
 }
 
-// Where a scan stands: the position, how many nodes are open, the numbers of errors, and the change that it came back for.
+// Where a scan stands: the position, how many nodes are open, the numbers or bytes of errors, and the change that it came back for.
 pub struct Scanned {
     pub at: usize,
     pub nodes: usize,
@@ -375,6 +375,51 @@ pub fn effect_on<'a>(
     }
 }
 
+// One effect, its error stored as numbers, or as lines of the page by way of the numbers of its entry.
+fn effect_told<'a>(
+    paged: bool,
+    effect: Effect,
+    ln: &'a Names,
+    lk: &'a Kinds,
+    lf: &'a Firsts,
+    n: usize,
+    rows: &[u32],
+    cur: usize,
+    width: usize,
+    out: &mut [u8],
+    errs: &mut [u32],
+    told: usize,
+) -> Answer
+    requires { ⌜ AllKept (now lk) (now lf) (now rows) cur width n × (told < 4294900000) ⌝ }
+    ensures { λ r. ⌜ ((types depths : List ℕ)
+        → Tells «paged» (emits effect) (lent (now (ln .entry)) types depths (stateIn (now (lk .entry)) (now (lf .entry)) (now (rows .entry)) cur width) n)
+        (now (errs .entry)) (now (out .entry)) told (now (errs .exit)) (now (out .exit)) r) × (r .told ≤ told + 219) × Marks (r .change) ⌝ }
+{
+    if let Effect::Nothing = effect {
+        return Answer {
+            told: told,
+            change: Change::Nothing,
+        };
+    }
+    if !paged {
+        return effect_on(effect, ln, lk, lf, n, rows, cur, width, errs, told);
+    }
+    let mut entry = [0u32; 12];
+    let a = effect_on(effect, ln, lk, lf, n, rows, cur, width, &mut entry, 0);
+    let change = a.change;
+    if a.told == 0 {
+        return Answer {
+            told: told,
+            change: change,
+        };
+    }
+    let next = image_lines::put_error_lines(&entry, out, told);
+    Answer {
+        told: next,
+        change: change,
+    }
+}
+
 // An open node as one number, and back.
 fn pack(o: Open) -> u64
     ensures { λ r. ⌜ openOf r ≡ o ⌝ }
@@ -440,16 +485,18 @@ pub fn scan_on<'a>(
     nodes: &mut [u64; 26],
     count: usize,
     at: usize,
+    paged: bool,
+    out: &mut [u8],
     errs: &mut [u32],
     told: usize,
 ) -> Scanned
     requires { ⌜ Lent (now s) (now tb) × AllKept (now lk) (now lf) (now rows) (env .cur) (env .width) (env .locals)
-        × Ready (now s) (opens (now nodes)) count at × (told + 12 * fuel (now s) count at < 4294967000) ⌝ }
+        × Ready (now s) (opens (now nodes)) count at × (told + 219 * fuel (now s) count at < 4294900000) ⌝ }
     ensures { λ r. ⌜ ((T : Tables) → Says (now (s .entry)) (now (tb .entry)) T
         → (types depths : List ℕ) (σ : Scope Status)
         → σ ≡ lent (now (ln .entry)) types depths (stateIn (now (lk .entry)) (now (lf .entry)) (now (rows .entry)) (env .cur) (env .width)) (env .locals)
-        → Onward T (now (s .entry)) (opens (now (nodes .entry))) count at σ (now (errs .entry)) told
-        (opens (now (nodes .exit))) (r .nodes) (r .at) (applied (r .change) σ) (now (errs .exit)) (r .told))
+        → Onward T (now (s .entry)) (opens (now (nodes .entry))) count at σ «paged» (now (errs .entry)) (now (out .entry)) told
+        (opens (now (nodes .exit))) (r .nodes) (r .at) (applied (r .change) σ) (now (errs .exit)) (now (out .exit)) (r .told))
         × Going (now (s .entry)) (opens (now (nodes .entry))) count at told (opens (now (nodes .exit))) r ⌝ }
 {
     let mut depth = count;
@@ -463,7 +510,7 @@ pub fn scan_on<'a>(
         let n = env.locals;
         let cur = env.cur;
         let width = env.width;
-        let a = effect_on(effect, ln, lk, lf, n, rows, cur, width, errs, t);
+        let a = effect_told(paged, effect, ln, lk, lf, n, rows, cur, width, out, errs, t);
         t = a.told;
         let change = a.change;
         if let Change::Mark(_, _, _, _) = change {

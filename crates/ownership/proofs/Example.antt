@@ -1,10 +1,11 @@
--- Document 01's example as text, by computation; and the ends of what a number's digits are asked for.
+-- Document 01's example as text, by computation.
 use mathlib.Core.Path.{_≡_, refl}
 use mathlib.Core.List.{List, [], _∷_}
 use Prim.Native.Nat.{ℕ}
 use Rattle.image_writing.specs.Memory.{memory}
 use Rattle.entries_verdict.specs.declared.Outcome.the-variants.{Accepted, Refused}
-use Rattle.ownership.specs.Text.{spell, numbers, lines, textOf}
+use Rattle.programs_text.specs.Text.{spell, numbers}
+use Rattle.ownership.specs.Text.{lines, textOf}
 
 -- `accepted 81 1 0 0`, `error 1 15 0 13`
 pub example-text : textOf (Accepted (record { written = 81; errors = 1; warnings = 0; lefts = 0 }))
@@ -18,9 +19,3 @@ example-text = refl
 pub refused-text : textOf (Refused 15) (memory [] [] [] []) ≡ 114 ∷ 101 ∷ 102 ∷ 117 ∷ 115 ∷ 101 ∷ 100 ∷ 32 ∷ 49 ∷ 53 ∷ 10 ∷ []
 unfolding spell numbers
 refused-text = refl
-
--- the largest number of 64 bits has all its 20 digits
-pub largest : spell 19 18446744073709551615
-    ≡ 49 ∷ 56 ∷ 52 ∷ 52 ∷ 54 ∷ 55 ∷ 52 ∷ 52 ∷ 48 ∷ 55 ∷ 51 ∷ 55 ∷ 48 ∷ 57 ∷ 53 ∷ 53 ∷ 49 ∷ 54 ∷ 49 ∷ 53 ∷ []
-unfolding spell
-largest = refl

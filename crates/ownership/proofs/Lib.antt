@@ -1,3 +1,3 @@
-pub mod Spells
+pub mod Lines
 pub mod Reported
 pub mod Example

@@ -11,7 +11,8 @@ use Rattle.entries_verdict.specs.Passes.{Passes}
 use Rattle.entries_verdict.specs.declared.Totals.{Totals}
 use Rattle.entries_verdict.specs.declared.Outcome.{Outcome}
 use Rattle.entries_verdict.specs.declared.Outcome.the-variants.{Accepted, Refused}
-use Rattle.ownership.specs.Text.{acceptedWord, refusedWord, warningWord, leftWord, line, lines, errorLine, pairLine, Reports}
+use Rattle.programs_text.specs.Text.{refusedWord, line}
+use Rattle.ownership.specs.Text.{acceptedWord, warningWord, leftWord, lines, errorLine, pairLine, Reports}
 
 -- what the program lends
 pub record Lends (m : Memory) : Type 0 where

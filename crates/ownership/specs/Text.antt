@@ -1,29 +1,15 @@
 -- The text that the program writes (document 01, "What is reported").
-use Prim.Native.Nat.{ℕ, zero, suc, _+_, _*_, _/_, _%_, min}
+use Prim.Native.Nat.{ℕ, zero, suc, _+_, _*_, min}
 use mathlib.Core.Path.{_≡_}
-use mathlib.Core.Bool.{cond}
 use mathlib.Core.List.{List, [], _∷_, _++_}
-use lib.Dec.{ltb}
 use lib.ListN.{length, getD}
 use lib.Seq.{slice}
 use Rattle.image_writing.specs.Stored.{Stored}
 use Rattle.image_writing.specs.Memory.{Memory}
+use Rattle.programs_text.specs.Text.{line, refusedWord}
 use Rattle.entries_verdict.specs.Passes.{Passes}
 use Rattle.entries_verdict.specs.declared.Outcome.{Outcome}
 use Rattle.entries_verdict.specs.declared.Outcome.the-variants.{Accepted, Refused}
-
--- the decimal digits of a number of at most k + 1 digits
-unfoldable pub spell : ℕ → ℕ → List ℕ
-spell zero n = (48 + n % 10) ∷ []
-spell (suc k) n = cond (ltb n 10) ((48 + n) ∷ []) (spell k (n / 10) ++ ((48 + n % 10) ∷ []))
-
--- each number after a blank; a number of 64 bits has at most 20 digits
-unfoldable pub numbers : List ℕ → List ℕ
-numbers [] = []
-numbers (n ∷ ns) = (32 ∷ spell 19 n) ++ numbers ns
-
-abbrev pub line : List ℕ → List ℕ → List ℕ
-line word ns = word ++ (numbers ns ++ (10 ∷ []))
 
 -- `error`, kind, place and hint, and as many other places as the entry counts
 abbrev pub errorLine : List ℕ → ℕ → List ℕ
@@ -39,9 +25,6 @@ lines f stride (suc n) at = f at ++ lines f stride n (at + stride)
 
 abbrev pub acceptedWord : List ℕ
 acceptedWord = 97 ∷ 99 ∷ 99 ∷ 101 ∷ 112 ∷ 116 ∷ 101 ∷ 100 ∷ []
-
-abbrev pub refusedWord : List ℕ
-refusedWord = 114 ∷ 101 ∷ 102 ∷ 117 ∷ 115 ∷ 101 ∷ 100 ∷ []
 
 abbrev pub warningWord : List ℕ
 warningWord = 119 ∷ 97 ∷ 114 ∷ 110 ∷ 105 ∷ 110 ∷ 103 ∷ []

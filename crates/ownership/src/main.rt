@@ -6,7 +6,8 @@ ghost use Prim.Native.Nat.{_+_, _-_, _*_, _≤_, _<_, min};
 ghost use lib.ListN.{length};
 ghost use lib.Seq.{slice};
 ghost use Rattle.image_writing.specs.Stored.{Stored};
-ghost use Rattle.ownership.specs.Text.{acceptedWord, refusedWord, spell, numbers, line, errorLine, pairLine, lines, Reports};
+ghost use Rattle.programs_text.specs.Text.{numbers, line};
+ghost use Rattle.ownership.specs.Text.{acceptedWord, errorLine, pairLine, lines, Reports};
 use entries_verdict::Outcome;
 use entries_verdict::Totals;
 use libc::STDIN_FILENO;
@@ -18,30 +19,6 @@ fn wide(x: u32) -> u64
     x as u64
 }
 
-// The decimal digits of a number of at most `more` + 1.
-fn put_digits(out: &mut [u8], at: usize, n: u64, more: usize) -> usize
-    requires { ⌜ at + more < 4294967296 ⌝ }
-    ensures { λ r. ⌜ Stored (now (out .entry)) at (spell more n) (now (out .exit)) r × (r ≤ at + more + 1) ⌝ }
-{
-    if more == 0 {
-        return image_writing::put(out, at, (48 + n % 10) as u8);
-    }
-    if n < 10 {
-        return image_writing::put(out, at, (48 + n) as u8);
-    }
-    let next = put_digits(out, at, n / 10, more - 1);
-    image_writing::put(out, next, (48 + n % 10) as u8)
-}
-
-// A blank and a number.
-fn put_number(out: &mut [u8], at: usize, n: u64) -> usize
-    requires { ⌜ at < 4294960000 ⌝ }
-    ensures { λ r. ⌜ Stored (now (out .entry)) at (32 ∷ spell 19 n) (now (out .exit)) r × (r ≤ at + 21) ⌝ }
-{
-    let next = image_writing::put(out, at, 32);
-    put_digits(out, next, n, 19)
-}
-
 // Some of a list's numbers.
 fn put_numbers(out: &mut [u8], at: usize, list: &[u32], from: usize, to: usize) -> usize
     requires { ⌜ (at < 4294900000) × (from ≤ to) × (to ≤ length (now list)) × (to ≤ from + 12) ⌝ }
@@ -50,18 +27,10 @@ fn put_numbers(out: &mut [u8], at: usize, list: &[u32], from: usize, to: usize) 
     let mut i = from;
     let mut p = at;
     while i < to {
-        p = put_number(out, p, wide(list[i]));
+        p = programs_text::put_number(out, p, wide(list[i]));
         i += 1;
     }
     p
-}
-
-// A word or a line's end.
-fn put_text(out: &mut [u8], at: usize, text: &[u8]) -> usize
-    requires { ⌜ (at < 4294967296) × (length (now text) ≤ 16) ⌝ }
-    ensures { λ r. ⌜ Stored (now (out .entry)) at (now (text .entry)) (now (out .exit)) r × (r ≡ at + length (now (text .entry))) ⌝ }
-{
-    image_writing::copy_bytes(text, 0, text.len(), out, at)
 }
 
 // How many other places an error's entry shows: its count, of which it has room for 8.
@@ -78,10 +47,10 @@ fn put_error(out: &mut [u8], at: usize, errs: &[u32], entry: usize) -> usize
 {
     let count = entry + 3;
     let places = entry + 4;
-    let named = put_text(out, at, b"error");
+    let named = programs_text::put_text(out, at, b"error");
     let told = put_numbers(out, named, errs, entry, count);
     let shown = put_numbers(out, told, errs, places, places + others(errs[count]));
-    put_text(out, shown, b"\n")
+    programs_text::put_text(out, shown, b"\n")
 }
 
 // The lines of the first errors.
@@ -105,9 +74,9 @@ fn put_pair(out: &mut [u8], at: usize, word: &[u8], list: &[u32], entry: usize) 
     requires { ⌜ (at < 4294800000) × (length (now word) ≤ 8) × (entry + 2 ≤ length (now list)) ⌝ }
     ensures { λ r. ⌜ Stored (now (out .entry)) at (pairLine (now (word .entry)) (now (list .entry)) entry) (now (out .exit)) r × (r ≤ at + 52) ⌝ }
 {
-    let named = put_text(out, at, word);
+    let named = programs_text::put_text(out, at, word);
     let told = put_numbers(out, named, list, entry, entry + 2);
-    put_text(out, told, b"\n")
+    programs_text::put_text(out, told, b"\n")
 }
 
 // The lines of a list's first entries.
@@ -129,20 +98,12 @@ fn put_pairs(out: &mut [u8], at: usize, word: &[u8], list: &[u32], many: usize) 
 fn put_totals(out: &mut [u8], t: Totals) -> usize
     ensures { λ r. ⌜ Stored (now (out .entry)) 0 (line acceptedWord (t .written ∷ t .errors ∷ t .warnings ∷ t .lefts ∷ [])) (now (out .exit)) r × (r ≤ 100) ⌝ }
 {
-    let named = put_text(out, 0, b"accepted");
-    let written = put_number(out, named, t.written as u64);
-    let errors = put_number(out, written, t.errors as u64);
-    let warnings = put_number(out, errors, t.warnings as u64);
-    let lefts = put_number(out, warnings, t.lefts as u64);
-    put_text(out, lefts, b"\n")
-}
-
-fn put_refused(out: &mut [u8], fault: u8) -> usize
-    ensures { λ r. ⌜ Stored (now (out .entry)) 0 (line refusedWord (fault ∷ [])) (now (out .exit)) r × (r ≤ 100) ⌝ }
-{
-    let named = put_text(out, 0, b"refused");
-    let told = put_number(out, named, fault as u64);
-    put_text(out, told, b"\n")
+    let named = programs_text::put_text(out, 0, b"accepted");
+    let written = programs_text::put_number(out, named, t.written as u64);
+    let errors = programs_text::put_number(out, written, t.errors as u64);
+    let warnings = programs_text::put_number(out, errors, t.warnings as u64);
+    let lefts = programs_text::put_number(out, warnings, t.lefts as u64);
+    programs_text::put_text(out, lefts, b"\n")
 }
 
 // The text of what the pass answers to an image, with 65,536 bytes and 256 entries a list lent.
@@ -154,7 +115,7 @@ fn report(s: &[u8], out: &mut [u8]) -> usize
     let mut warns = [0u32; 512];
     let mut lefts = [0u32; 512];
     match ownership_pass::pass(s, &mut bytes, &mut errs, &mut warns, &mut lefts) {
-        Outcome::Refused(fault) => put_refused(out, fault),
+        Outcome::Refused(fault) => programs_text::put_refused(out, fault),
         Outcome::Accepted(t) => {
             let totals = put_totals(out, t);
             let errors = put_errors(out, totals, &errs, t.errors);

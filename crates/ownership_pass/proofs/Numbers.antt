@@ -3,9 +3,10 @@
 use Prim.Native.Nat.{ℕ, _<_}
 use native.Mathlib.Omega.{arith}
 use mathlib.Core.Path.{_≡_, refl, sym, ap, _∙_}
-use mathlib.Core.Logic.{_↔_}
+use mathlib.Core.Logic.{_↔_, _⊎_, inl, inr, ⊎-elim}
 use mathlib.Core.List.{List}
 use mathlib.Core.Option.{Option, none, some}
+use lib.ListN.{length}
 use Rattle.tables.specs.Limits.{version1}
 use Rattle.image.specs.Image.{decode}
 use Rattle.rules.specs.Verdict.{Answer, Verdict, refuses, answers, roomFaultOf, roomFault}
@@ -16,7 +17,10 @@ use Rattle.entries_verdict.specs.declared.Outcome.the-variants.{Accepted, Refus
 use Rattle.entries_verdict.specs.Passes.{Passes, lentOf, outcomeOf, verdictOn}
 use Rattle.ownership_pass.specs.declared.Answer.{Answer as Room}
 use Rattle.ownership_pass.specs.declared.Answer.the-variants.{Needed, Denied}
-use Rattle.ownership_pass.specs.Entries.{outcomeNumber, answerNumber, PassLeaves, RoomIs, RoomLeaves}
+use Rattle.rules_page.specs.Verdict.{PageVerdict, refusesPage, writes}
+use Rattle.rules_page.proofs.Numbers.{page-numbers}
+use Rattle.entries_page.specs.Pages.{pagedOf, pageOn}
+use Rattle.ownership_pass.specs.Entries.{outcomeNumber, answerNumber, PassLeaves, RoomIs, RoomLeaves, pagedNumber, PageLeaves}
 
 never : {C : Type 0} → _≡_ {A = ℕ} 0 1 → C
 never z = absurd (omega arith)
@@ -72,3 +76,26 @@ room-number s old r new g = go (g .answer) (g .is) (g .number)
           zero = (λ e. absurd (omega (arith, k .0, h, e)), λ q. let y : none ≡ some n = sym q ∙ f in never (cc));
         }
     go (Needed n) f h = record { below = omega (arith, h); zero = (λ e. ap (roomFaultOf version1) (f .1) ∙ f .2, λ q. h) }
+
+-- `ownership_page` answers 1 to 13 or 16, and 0 exactly if the page is written
+pub record PageNumber (s page : List ℕ) (r : ℕ) : Type 0 where
+  pub known : (r < 14) ⊎ (r ≡ 16)
+  pub zero : (r ≡ 0) ↔ ((b : List ℕ) × (pageOn s page ≡ writes b))
+
+pub page-number : (s page page′ : List ℕ) (old r new : ℕ) → PageLeaves s page old r page′ new → PageNumber s page r
+page-number s page page′ old r new g = go (pageOn s page) refl
+  where
+    number : (v : PageVerdict) → pageOn s page ≡ v → r ≡ pagedNumber (pagedOf v)
+    number v z = g .number ∙ ap pagedNumber (g .is .outcome ∙ ap pagedOf z)
+
+    never-writes : {C : Type 0} {n : ℕ} {b : List ℕ} → refusesPage n ≡ writes b → C
+    never-writes y = never (cc)
+
+    go : (v : PageVerdict) → pageOn s page ≡ v → PageNumber s page r
+    go (refusesPage n) z =
+        let h = number (refusesPage n) z in
+        ⊎-elim
+        (λ k. record { known = inl (omega (arith, k .1, h)); zero = (λ e. absurd (omega (arith, k .0, h, e)), λ a. never-writes (sym z ∙ a .1)) })
+        (λ k. record { known = inr (omega (arith, k, h)); zero = (λ e. absurd (omega (arith, k, h, e)), λ a. never-writes (sym z ∙ a .1)) })
+        (page-numbers version1 (length page) s n z)
+    go (writes b) z = let h = number (writes b) z in record { known = inl (omega (arith, h)); zero = (λ e. (b, z), λ a. h) }

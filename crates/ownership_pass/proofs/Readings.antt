@@ -3,6 +3,7 @@
 use Prim.Native.Nat.{ℕ, _<_}
 use native.Mathlib.Omega.{arith}
 use mathlib.Core.Path.{_≡_, refl, sym, ap, _∙_, subst}
+use mathlib.Core.Bool.{false}
 use mathlib.Core.List.{List, [], _∷_}
 use mathlib.Core.Option.{Option, none, some}
 use Rattle.image_fields.specs.Bytes.{Bytes}
@@ -27,7 +28,12 @@ use Rattle.entries_verdict.specs.declared.Totals.{Totals}
 use Rattle.entries_verdict.specs.declared.Outcome.{Outcome}
 use Rattle.entries_verdict.specs.declared.Outcome.the-variants.{Accepted, Refused}
 use Rattle.entries_verdict.specs.Passes.{Passes}
-use Rattle.ownership_pass.specs.Entries.{PassLeaves, RoomIs, RoomLeaves}
+use Rattle.entries_page.specs.Pages.{Pages}
+use Rattle.entries_page.specs.declared.Paged.{Paged}
+use Rattle.entries_page.specs.declared.Paged.the-variants.{Written}
+use Rattle.entries_page.specs.declared.Paged.the-variants as paged
+use Rattle.entries_page.proofs.Paging.{pages-unread}
+use Rattle.ownership_pass.specs.Entries.{PassLeaves, RoomIs, RoomLeaves, PageLeaves}
 use Rattle.entries_image.specs.Images.{ImageThere, Measures}
 use Rattle.entries_verdict.proofs.Rooms.{fault-some}
 
@@ -52,7 +58,7 @@ module _ (s tb : List ℕ) (r : ImageRead) (g : Reads s tb r) (z : 0 < r .fault 
     walked = laid .body;
   }
 
-  module _ (w : Seen) (h : Measures s w) where
+  module _ (w : Seen) (h : Measures s false w) where
     walk-fault : w .fault ≡ numberOf (imageFault version1 (found .0))
     walk-fault = h .walks (found .0) (found .1) .0
 
@@ -63,7 +69,7 @@ module _ (s tb : List ℕ) (r : ImageRead) (g : Reads s tb r) (z : 0 < r .fault 
     pub room-needed : Bytes s → (0 < w .fault → ⊥) → RoomIs s (Needed (w .place .written))
     room-needed small k =
         let n : imageFault version1 (found .0) ≡ none = real-none (imageFault version1 (found .0)) (real-image version1 (found .0)) (sym walk-fault ∙ omega (arith, k)) in
-        (found .0, found .1, n, subst (RoomFor version1 s (found .0)) (sym (h .walks (found .0) (found .1) .1 n)) (room-met version1 s small (found .0) (found .1)))
+        (found .0, found .1, n, subst (RoomFor version1 s (found .0)) (sym (h .walks (found .0) (found .1) .1 n .0)) (room-met version1 s small (found .0) (found .1)))
 
 pub room-unread : (s : List ℕ) (n : ℕ) → n ≡ faultOf (decode version1 s) → 0 < n → RoomIs s (Denied n)
 unfolding roomFault faultOf
@@ -86,3 +92,19 @@ room-leaves-denied s old a h n e = record { answer = Denied n; is = subst (RoomI
 
 pub room-leaves-needed : (s : List ℕ) (old : ℕ) (a : Answer) → RoomIs s a → (n : ℕ) → a ≡ Needed n → RoomLeaves s old 0 n
 room-leaves-needed s old a h n e = record { answer = Needed n; is = subst (RoomIs s) e h; number = refl; leaves = refl }
+
+-- the page of an image that was not read
+pub page-unread : (s page : List ℕ) (n : ℕ) → n ≡ faultOf (decode version1 s) → 0 < n → Pages s page (paged.Refused n) page
+unfolding faultOf
+page-unread s page n e h = go (decode version1 s) refl
+  where
+    go : (d : Decoded) → decode version1 s ≡ d → Pages s page (paged.Refused n) page
+    go (accepted i) z = absurd (omega (arith, e ∙ ap faultOf z))
+    go (refused k) z = subst (λ (x : ℕ). Pages s page (paged.Refused x) page) (sym (e ∙ ap faultOf z)) (pages-unread s page k z)
+
+module _ (s page page′ : List ℕ) (r : Paged) (g : Pages s page r page′) (old : ℕ) where
+  pub page-leaves-refused : (n : ℕ) → r ≡ paged.Refused n → PageLeaves s page old n page′ old
+  page-leaves-refused n e = record { outcome = paged.Refused n; is = subst (λ (o : Paged). Pages s page o page′) e g; number = refl; leaves = refl }
+
+  pub page-leaves-written : (n : ℕ) → r ≡ Written n → PageLeaves s page old 0 page′ n
+  page-leaves-written n e = record { outcome = Written n; is = subst (λ (o : Paged). Pages s page o page′) e g; number = refl; leaves = refl }

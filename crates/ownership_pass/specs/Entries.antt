@@ -11,6 +11,10 @@ use Rattle.image_writing.specs.Memory.{Memory}
 use Rattle.entries_verdict.specs.Passes.{Passes}
 use Rattle.entries_verdict.specs.declared.Outcome.{Outcome}
 use Rattle.entries_verdict.specs.declared.Outcome.the-variants.{Accepted, Refused}
+use Rattle.entries_page.specs.Pages.{Pages}
+use Rattle.entries_page.specs.declared.Paged.{Paged}
+use Rattle.entries_page.specs.declared.Paged.the-variants.{Written}
+use Rattle.entries_page.specs.declared.Paged.the-variants as paged
 use Rattle.ownership_pass.specs.declared.Answer.{Answer}
 use Rattle.ownership_pass.specs.declared.Answer.the-variants.{Needed, Denied}
 
@@ -49,3 +53,18 @@ pub record RoomLeaves (s : List ℕ) (old r new : ℕ) : Type 0 where
   pub is : RoomIs s answer
   pub number : r ≡ answerNumber answer
   pub leaves : new ≡ roomAfter answer old
+
+-- the entry that writes the page, for C: as a number, 0 for accepted, and the bytes written, on a fault unchanged
+abbrev pub pagedNumber : Paged → ℕ
+pagedNumber (Written n) = 0
+pagedNumber (paged.Refused n) = n
+
+abbrev pub writtenAfter : Paged → ℕ → ℕ
+writtenAfter (Written n) old = n
+writtenAfter (paged.Refused n) old = old
+
+pub record PageLeaves (s page : List ℕ) (old r : ℕ) (page′ : List ℕ) (new : ℕ) : Type 0 where
+  pub outcome : Paged
+  pub is : Pages s page outcome page′
+  pub number : r ≡ pagedNumber outcome
+  pub leaves : new ≡ writtenAfter outcome old

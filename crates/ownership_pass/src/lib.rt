@@ -1,9 +1,12 @@
-// The entries: one image in, the body with the deletes inserted and the reports out, into lent memory; or the room that needs.
+// The entries: one image in, the body with the deletes inserted and the reports out, into lent memory; or the room that needs; or the
+// page of the reports.
 ghost use mathlib.Core.Path.{_≡_};
 ghost use Rattle.image_writing.specs.Memory.{memory};
 ghost use Rattle.entries_verdict.specs.Passes.{Passes};
-ghost use Rattle.ownership_pass.specs.Entries.{PassLeaves, RoomIs, RoomLeaves};
+ghost use Rattle.entries_page.specs.Pages.{Pages};
+ghost use Rattle.ownership_pass.specs.Entries.{PassLeaves, RoomIs, RoomLeaves, PageLeaves};
 use blocks_ends::Env;
+use entries_page::Paged;
 use entries_verdict::Outcome;
 
 // What the entry that answers the room answers; of a denial, the fault.
@@ -54,13 +57,26 @@ pub fn room(s: &[u8]) -> Answer
     if 0 < fault {
         return Answer::Denied(fault);
     }
-    let w = entries_image::measure(s, &tb, first_env(), read);
+    let w = entries_image::measure(s, &tb, first_env(), read, false);
     let found = w.fault;
     if 0 < found {
         return Answer::Denied(found);
     }
     let p = w.place;
     Answer::Needed(p.written)
+}
+
+// The page of what is reported, into the memory lent.
+pub fn page(s: &[u8], page: &mut [u8]) -> Paged
+    ensures { λ r. ⌜ Pages (now (s .entry)) (now (page .entry)) r (now (page .exit)) ⌝ }
+{
+    let mut tb = [0u32; 1096];
+    let read = image::read_image(s, &mut tb);
+    let fault = read.fault;
+    if 0 < fault {
+        return Paged::Refused(fault);
+    }
+    entries_page::page_verdict(s, &tb, first_env(), read, page)
 }
 
 // For C and Rust: 0 and the totals, or the fault's number.
@@ -98,6 +114,20 @@ pub extern "C" fn ownership_room(image: &[u8], needed: &mut u64) -> u32
         Answer::Denied(fault) => fault as u32,
         Answer::Needed(bytes) => {
             *needed = bytes as u64;
+            0
+        }
+    }
+}
+
+// For C and Rust: 0 and the bytes written, or the fault's number.
+#[no_mangle]
+pub extern "C" fn ownership_page(image: &[u8], output: &mut [u8], written: &mut u64) -> u32
+    ensures { λ r. ⌜ PageLeaves (now (image .entry)) (now (output .entry)) (now (written .entry)) r (now (output .exit)) (now (written .exit)) ⌝ }
+{
+    match page(image, output) {
+        Paged::Refused(fault) => fault as u32,
+        Paged::Written(bytes) => {
+            *written = bytes as u64;
             0
         }
     }

@@ -2,3 +2,4 @@
 pub mod Rows
 pub mod Shape
 pub mod Reading
+pub mod Numbers

@@ -72,7 +72,7 @@ or-none-print : (b : Bool) (xs : List ℕ) → So (all printable xs) → So (all
 or-none-print true xs t = tt
 or-none-print false xs t = t
 
-digits-length : (k n : ℕ) → length (lastDigits k n) ≤ k
+pub digits-length : (k n : ℕ) → length (lastDigits k n) ≤ k
 unfolding lastDigits
 digits-length zero n = omega arith
 digits-length (suc k) n =
@@ -173,7 +173,7 @@ lines-append : {ls ms : List (List ℕ)} → Lines ls → Lines ms → Lines (ls
 lines-append none b = b
 lines-append (more l a) b = more l (lines-append a b)
 
-lines-are : (h ps : List ℕ) → Begins h → Lines (lines h ps)
+pub lines-are : (h ps : List ℕ) → Begins h → Lines (lines h ps)
 unfolding lines
 lines-are h [] b = more (line-is _ _ b tt) none
 lines-are h (p ∷ []) b = more (line-is _ _ b tt) none
@@ -196,7 +196,7 @@ pub page-lines : (rs : List Report) → Lines (pageLines rs)
 unfolding pageLines
 page-lines rs = lines-append (entries-lines _) (lines-append (entries-lines _) (entries-lines _))
 
-lines-length : {ls : List (List ℕ)} → Lines ls → length (flatten ls) ≡ 73 * length ls
+pub lines-length : {ls : List (List ℕ)} → Lines ls → length (flatten ls) ≡ 73 * length ls
 unfolding flatten
 lines-length none = refl
 lines-length (more l a) = let h = line-length l in let t = lines-length a in simp length-append (omega arith)

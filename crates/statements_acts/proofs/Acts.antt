@@ -8,7 +8,7 @@ use Prim.Native.Nat.{ℕ, _+_, _*_, _≤_, _<_}
 use native.Mathlib.Omega.{arith}
 use native.Mathlib.Nat.{add-zero}
 use borrow.Author.Tests.{ne-eqb, eqb-true, eqb-false}
-use lib.ListN.{length, getD}
+use lib.ListN.{length, getD, length-append}
 use lib.Dec.{eqb}
 use lib.Seq.{slice, length-slice}
 use Rattle.image_fields.specs.Number.{two, four}
@@ -32,11 +32,15 @@ use Rattle.rules.specs.State.{State as Status}
 use Rattle.rules.specs.Stack.{shape, Stack as Scope}
 use Rattle.rules.specs.Effects.{takeOver, assignTakes}
 use Rattle.rules.specs.Rules.{Drop, dropOf, states, applyAll, collect, dropNamed, assignDrops, returnDrops}
-use Rattle.rules.specs.Report.{left as leaves, warnings, lefts, deleteNode, unused, leftBehind}
+use Rattle.rules.specs.Report.{warning, left as leaves, errors, warnings, lefts, deleteNode, unused, leftBehind}
 use Rattle.rules.specs.Verdict.{entriesOf}
 use Rattle.image_body.proofs.Walking.{within}
 use Rattle.image_writing.specs.Stored.{Stored}
-use Rattle.image_writing.proofs.Stores.{both-stored, none-stored}
+use Rattle.image_writing.proofs.Stores.{both-stored, none-stored, stored-length}
+use Rattle.image_lines.specs.Lined.{shownAll, Cursors, cursors}
+use Rattle.image_lines.specs.Told.{Listed, Lined}
+use Rattle.image_lines.proofs.Cursors.{shown-none}
+use Rattle.image_lines.proofs.Told.{past, lined-same, lined-warnings, lined-lefts}
 use Rattle.statements_steps.specs.Drops.{deleteBytes}
 use Rattle.statements_acts.specs.Drops.{admitted}
 use Rattle.statements_acts.specs.declared.Which.{Which}
@@ -49,8 +53,8 @@ use Rattle.statements_acts.specs.declared.Change.the-variants.{Nothing, 
 use Rattle.statements_acts.specs.declared.Place.{Place}
 use Rattle.statements_acts.specs.declared.Warned.{Warned}
 use Rattle.statements_steps.specs.Statement.{frontDrops, frontReports, settle}
-use Rattle.statements_acts.specs.Act.{changeIn, takenIn, FrontThere, Within, Grows, Acts, ActsThere}
-use Rattle.statements_acts.specs.Parts.{deletedName, deleteOf, reviveOf, sparing, noPut, relisted, Copied, WarnsAt, Untouched}
+use Rattle.statements_acts.specs.Act.{changeIn, takenIn, FrontThere, Within, Grows, cursorsAt, Acts, ActsThere}
+use Rattle.statements_acts.specs.Parts.{deletedName, deleteOf, reviveOf, sparing, noPut, relisted, Copied, wrapping, warningAt, WarnsAt, Untouched}
 use Rattle.statements_acts.proofs.Slices.{written-slice, no-value, one-value}
 use Rattle.statements_acts.proofs.Fronts.{Front, head-bytes, front-plain, front-variable, front-assign, front-return, front-bare}
 use Rattle.statements_acts.proofs.Taken.{delete-is, revive-is}
@@ -58,6 +62,9 @@ use Rattle.statements_acts.proofs.Views.{callee-some}
 
 none-at : (xs : List ℕ) {i j : ℕ} → j ≡ i → Stored xs i [] xs j
 none-at xs {i} e = record { cells = refl; place = e ∙ sym (add-zero i) }
+
+pub stored-from : {xs ys zs u : List ℕ} {i j : ℕ} → xs ≡ ys → Stored xs i u zs j → Stored ys i u zs j
+stored-from {xs} {ys} {zs} {u} {i} {j} e s = subst (λ x. Stored x i u zs j) e s
 
 -- the locals that a return deletes, as the code asks
 sparing-is : (T : Tables) (σ : Scope Status) (which : Which) (n : rules.Named) → which ≡ sparing n → collect states T (admitted which) 0 σ ≡ returnDrops states T n σ
@@ -68,13 +75,17 @@ no-warnings : (p : ℕ) (ds : List Drop) → warnings (leftBehind p ds) ≡ []
 no-warnings p [] = refl
 no-warnings p (dropOf q n t ∷ ds) = no-warnings p ds
 
+no-errors : (p : ℕ) (ds : List Drop) → errors (leftBehind p ds) ≡ []
+no-errors p [] = refl
+no-errors p (dropOf q n t ∷ ds) = no-errors p ds
+
 all-lefts : (p : ℕ) (ds : List Drop) → lefts (leftBehind p ds) ≡ leftBehind p ds
 all-lefts p [] = refl
 all-lefts p (dropOf q n t ∷ ds) = ap (λ l. leaves p n ∷ l) (all-lefts p ds)
 
 -- what is stored stays small
 pub room-of : {s : List ℕ} {p : Place} → Within s p
-    → (length s ≤ 65536) × (p .at ≤ 65536) × (p .written ≤ 19660800) × (p .warnings ≤ 19660800) × (p .lefts ≤ 19660800) × (p .inserted ≤ 19660800)
+    → (length s ≤ 65536) × (p .at ≤ 65536) × (p .written ≤ 159321600) × (p .warnings ≤ 159321600) × (p .lefts ≤ 159321600) × (p .inserted ≤ 39321600)
 room-of w =
     let a = w .small in
     let b = w .inside in
@@ -92,7 +103,7 @@ listed-is p e = (ap (λ (z : Place). z .at) e, ap (λ (z : Place). z .inserted) 
 
 -- as much as the bytes read allow, of what was copied behind deletes
 pub grows-of : {s : List ℕ} {p : Place} {put : Put} {to : ℕ} {out : List ℕ} {q : Place} {out′ : List ℕ} → Copied s p put to out q out′ → p .at ≤ to → to ≤ length s
-    → put .at + 299 * p .at ≤ p .written + 299 * to → put .count + 300 * p .at ≤ 300 * to → Grows s p q
+    → put .at + 599 * p .at ≤ p .written + 599 * to → put .count + 600 * p .at ≤ 600 * to → Grows s p q
 grows-of {s} {p} {put} {to} c l h w n =
     let b = c .bytes .place in
     let e = length-slice (p .at) to s h in
@@ -103,6 +114,13 @@ grows-of {s} {p} {put} {to} c l h w n =
     let z = c .lefts in
     record { on = omega arith; inside = omega arith; written = omega arith; errors = omega arith; warnings = omega arith; lefts = omega arith; inserted = omega arith }
 
+-- three runs, one behind the other
+long-of : (u v w : List ℕ) (n : ℕ) → n + length (u ++ (v ++ w)) ≡ n + length u + length v + length w
+long-of u v w n =
+    let a = length-append u (v ++ w) in
+    let b = length-append v w in
+    omega arith
+
 module _ (T : Tables) (σ : Scope Status) (p : Place) where
   -- what was copied behind deletes, if nothing is reported
   pub acts-of : (c : Tree) (put : Put) {to : ℕ} {s before′ out out′ warns left : List ℕ} (q : Place) (change : Change) (taken : Named) → Copied s p put to out q out′
@@ -110,17 +128,22 @@ module _ (T : Tables) (σ : Scope Status) (p : Place) where
       → Front T s (p .at) to c → frontReports T c (p .at) σ ≡ []
       → ((d : ℕ) → takenIn taken (changeIn d change σ) ≡ settle T c d σ)
       → Acts T c σ p before′ warns left (record { place = q; change = change; taken = taken }) out′ warns left
-  acts-of c put {to} {s} {before′} {out} {out′} {warns} {left} q change taken w st n f e settled = record {
-    bytes = both-stored st (subst (λ v. Stored out (put .at) v out′ (q .written)) (written-slice (f .written)) (w .bytes));
-    warned = subst (λ r. Stored warns (p .warnings) (entriesOf version1 (warnings r)) warns (q .warnings)) (sym e) (none-at warns (w .warnings));
-    listed = subst (λ r. Stored left (p .lefts) (entriesOf version1 (lefts r)) left (q .lefts)) (sym e) (none-at left (w .lefts));
-    errors = w .errors;
-    inserted = w .inserted ∙ ap (λ k. p .inserted + k) n;
-    last = w .last;
-    fits = w .fits;
-    at = w .at ∙ f .size;
-    settles = settled;
-  }
+  acts-of c put {to} {s} {before′} {out} {out′} {warns} {left} q change taken w st n f e settled =
+      let b = both-stored st (subst (λ v. Stored out (put .at) v out′ (q .written)) (written-slice (f .written)) (w .bytes)) in
+      record {
+        bytes = λ n. b;
+        warned = λ n. subst (λ r. Stored warns (p .warnings) (entriesOf version1 (warnings r)) warns (q .warnings)) (sym e) (none-at warns (w .warnings));
+        listed = λ n. subst (λ r. Stored left (p .lefts) (entriesOf version1 (lefts r)) left (q .lefts)) (sym e) (none-at left (w .lefts));
+        lines = λ y h. subst (λ r. Lined (cursorsAt p) r before′ (cursorsAt q) out′) (sym e) (lined-same (past b h .0) (rw (w .errors, w .warnings, w .lefts)));
+        long = b .place;
+        paged = w .paged;
+        errors = w .errors;
+        inserted = w .inserted ∙ ap (λ k. p .inserted + k) n;
+        last = w .last;
+        fits = w .fits;
+        at = w .at ∙ f .size;
+        settles = settled;
+      }
 
 -- Block, IfElse, While, Break, Continue
 module _ (s : List ℕ) (small : Bytes s) (p : Place) (to : ℕ) (g : FrontThere s (p .at) to) (u : Untouched (getD s (p .at) 0)) where
@@ -265,7 +288,7 @@ module _ (s : List ℕ) (small : Bytes s) (p : Place) {end : ℕ} (g : FrontTher
     copied : Copied s (relisted p n) (noPut p) (p .at + 8) out q out′
     copied = subst (λ z. Copied s (relisted p n) z (p .at + 8) out q out′) ep (subst (λ z. Copied s z put (p .at + 8) out q out′) e′ w)
 
-    pub bare-grows : n ≤ p .lefts + 128 → Grows s p q
+    pub bare-grows : n ≤ p .lefts + 4672 → Grows s p q
     bare-grows l =
         let c = copied in
         let b = c .bytes .place in
@@ -278,17 +301,29 @@ module _ (s : List ℕ) (small : Bytes s) (p : Place) {end : ℕ} (g : FrontTher
         record { on = omega arith; inside = subst (λ m. m ≤ length s) (sym a) bare-reach; written = omega arith; errors = omega arith; warnings = omega arith; lefts = omega arith; inserted = omega arith }
 
     pub bare-acts : (T : Tables) (σ : Scope Status) (span : ℕ) → span ≡ four s (p .at + 1) → {left left′ : List ℕ}
-        → Stored left (p .lefts) (entriesOf version1 (leftBehind span (collect states T (admitted All) 0 σ))) left′ n
-        → (warns : List ℕ) → ActsThere T s σ p out warns left (record { place = q; change = Nothing; taken = Nobody }) out′ warns left′
-    bare-acts T σ span es {left} {left′} st warns = record {
+        → {out₀ : List ℕ} → Listed (p .paged) (leftBehind span (collect states T (admitted All) 0 σ)) left out₀ (p .lefts) left′ out n
+        → (warns : List ℕ) → ActsThere T s σ p out₀ warns left (record { place = q; change = Nothing; taken = Nobody }) out′ warns left′
+    bare-acts T σ span es {left} {left′} {out₀} st warns = record {
       acts = λ f t x next r deep read.
           let v = front-bare T s small (p .at) f t x next read k o r in
           let c = copied in
-          subst (λ c. Acts T c σ p out warns left (record { place = q; change = Nothing; taken = Nobody }) out′ warns left′) (sym (v .0)) (record {
-            bytes = subst (λ x. Stored out (p .written) x out′ (q .written)) (written-slice (v .1 .written)) (c .bytes);
-            warned = subst (λ z. Stored warns (p .warnings) (entriesOf version1 z) warns (q .warnings)) (sym (no-warnings (four s (p .at + 1)) (collect states T (admitted All) 0 σ))) (none-at warns (c .warnings));
-            listed = subst (Stored left (p .lefts) _ left′) (sym (c .lefts))
-                (subst (λ z. Stored left (p .lefts) (entriesOf version1 z) left′ n) (ap (λ m. leftBehind m (collect states T (admitted All) 0 σ)) es ∙ sym (all-lefts (four s (p .at + 1)) (collect states T (admitted All) 0 σ))) st);
+          let b = subst (λ x. Stored out (p .written) x out′ (q .written)) (written-slice (v .1 .written)) (c .bytes) in
+          let ds = collect states T (admitted All) 0 σ in
+          let rs = leftBehind (four s (p .at + 1)) ds in
+          let l : Listed (p .paged) rs left out₀ (p .lefts) left′ out n = subst (λ m. Listed (p .paged) (leftBehind m ds) left out₀ (p .lefts) left′ out n) es st in
+          subst (λ c. Acts T c σ p out₀ warns left (record { place = q; change = Nothing; taken = Nobody }) out′ warns left′) (sym (v .0)) (record {
+            bytes = λ e. stored-from (l .numbers e .0) b;
+            warned = λ e. subst (λ z. Stored warns (p .warnings) (entriesOf version1 z) warns (q .warnings)) (sym (no-warnings (four s (p .at + 1)) ds)) (none-at warns (c .warnings));
+            listed = λ e. subst (Stored left (p .lefts) _ left′) (sym (c .lefts))
+                (subst (λ z. Stored left (p .lefts) (entriesOf version1 z) left′ n) (sym (all-lefts (four s (p .at + 1)) ds)) (l .numbers e .1));
+            lines = λ e h.
+                let x = l .lines e in
+                let y : out′ ≡ out = past b (let k = stored-length x in omega arith) .0 in
+                subst (λ z. Lined (cursorsAt p) rs out₀ z out′) (rw (c .errors, c .warnings, c .lefts))
+                (subst (λ z. Lined (cursorsAt p) rs out₀ (cursors (p .errors) (p .warnings) n) z) (sym y)
+                (lined-lefts (p .errors) (p .warnings) (p .lefts) (no-errors (four s (p .at + 1)) ds) (no-warnings (four s (p .at + 1)) ds) (all-lefts (four s (p .at + 1)) ds) x));
+            long = b .place;
+            paged = c .paged;
             errors = c .errors;
             inserted = c .inserted;
             last = c .last;
@@ -306,42 +341,61 @@ delete-bytes p e =
     ap (λ l. (10 ∷ (fourBytes p ++ twoBytes 0)) ++ l) z
 
 own-bytes : (w : Bool) (callee at p : ℕ) (e : Expr) → callee ≡ cond w (calleeAt e at) 0 → (w ≡ true → 0 < calleeAt e at)
-    → cond (eqb callee 0) [] (10 ∷ (fourBytes p ++ twoBytes 0)) ++ encodeExpr e ≡ encodeExpr (cond w (deleteNode p e) e)
+    → wrapping callee p ++ encodeExpr e ≡ encodeExpr (cond w (deleteNode p e) e)
 own-bytes true callee at p e ec pos =
     let n : 0 < calleeAt e at = pos refl in
     rw (ne-eqb callee 0 (λ z. omega arith)) (delete-bytes p e)
 own-bytes false callee at p e ec pos = rw ec refl
 
 own-told : (w : Bool) (callee at p : ℕ) (e : Expr) → callee ≡ cond w (calleeAt e (at + 5)) 0 → (w ≡ true → 0 < calleeAt e (at + 5))
-    → cond (eqb callee 0) [] (p ∷ callee ∷ []) ≡ entriesOf version1 (warnings (unused w p e at))
+    → warningAt callee p ≡ unused w p e at
 own-told true callee at p e ec pos =
     let n : 0 < calleeAt e (at + 5) = pos refl in
-    rw (ne-eqb callee 0 (λ z. omega arith)) (ap (λ c. p ∷ c ∷ []) ec)
+    rw (ne-eqb callee 0 (λ z. omega arith)) (ap (λ c. warning p c ∷ []) ec)
 own-told false callee at p e ec pos = rw ec refl
+
+own-errors : (w : Bool) (p : ℕ) (e : Expr) (at : ℕ) → errors (unused w p e at) ≡ []
+own-errors true p e at = refl
+own-errors false p e at = refl
+
+own-warnings : (w : Bool) (p : ℕ) (e : Expr) (at : ℕ) → warnings (unused w p e at) ≡ unused w p e at
+own-warnings true p e at = refl
+own-warnings false p e at = refl
 
 own-lefts : (w : Bool) (p : ℕ) (e : Expr) (at : ℕ) → lefts (unused w p e at) ≡ []
 own-lefts true p e at = refl
 own-lefts false p e at = refl
 
-pub head-room : (b : Bool) (p : ℕ) → length (cond b [] (10 ∷ (fourBytes p ++ twoBytes 0))) ≤ 7
+wrapped-room : (b : Bool) (p : ℕ) → length (cond b [] (10 ∷ (fourBytes p ++ twoBytes 0))) ≤ 7
 unfolding fourBytes twoBytes
-head-room true p = omega arith
-head-room false p = omega arith
+wrapped-room true p = omega arith
+wrapped-room false p = omega arith
 
-pair-room : (b : Bool) (p c : ℕ) → length (cond b [] (p ∷ c ∷ [])) ≤ 2
-pair-room true p c = omega arith
-pair-room false p c = omega arith
+pub head-room : (callee p : ℕ) → length (wrapping callee p) ≤ 7
+head-room callee p = wrapped-room (eqb callee 0) p
 
-pub warns-none : {callee : ℕ} → callee ≡ 0 → (span : ℕ) (out : List ℕ) (written : ℕ) (warns : List ℕ) (told : ℕ)
-    → WarnsAt callee span out written warns told (record { written = written; warnings = told }) out warns
-warns-none e span out written warns told = record { bytes = rw e (none-stored out written); warned = rw e (none-stored warns told) }
+pub warns-none : (b : Bool) {callee : ℕ} → callee ≡ 0 → (span : ℕ) (out : List ℕ) (written : ℕ) (warns : List ℕ) (told : ℕ)
+    → WarnsAt b callee span out written warns told (record { written = written; warnings = told }) out warns
+warns-none b e span out written warns told = record {
+  bytes = λ n. rw e (none-stored out written);
+  warned = λ n. rw e (none-stored warns told);
+  lines = λ y h. rw (e, shown-none) (none-stored out told);
+  long = rw e (sym (add-zero written));
+  few = omega arith;
+}
 
-pub warns-some : {callee span : ℕ} → (callee ≡ 0 → ⊥) → {m : ℕ} → m ≡ span → {out out′ : List ℕ} {written next : ℕ} → Stored out written (10 ∷ (fourBytes m ++ twoBytes 0)) out′ next
-    → {warns warns′ : List ℕ} {told more : ℕ} → Stored warns told (m ∷ callee ∷ []) warns′ more
-    → WarnsAt callee span out written warns told (record { written = next; warnings = more }) out′ warns′
-warns-some {callee} {span} ne {m} es {out} {out′} {written} {next} a {warns} {warns′} {told} {more} b =
-    subst (λ z. WarnsAt callee z out written warns told (record { written = next; warnings = more }) out′ warns′) es
-    (record { bytes = rw (ne-eqb callee 0 ne) a; warned = rw (ne-eqb callee 0 ne) b })
+pub warns-some : (b : Bool) {callee span : ℕ} → (callee ≡ 0 → ⊥) → {m : ℕ} → m ≡ span → {out mid out′ : List ℕ} {written next : ℕ} → Stored out written (10 ∷ (fourBytes m ++ twoBytes 0)) mid next
+    → {warns warns′ : List ℕ} {told more : ℕ} → Listed b (warning m callee ∷ []) warns mid told warns′ out′ more → more ≤ told + 73
+    → WarnsAt b callee span out written warns told (record { written = next; warnings = more }) out′ warns′
+warns-some b {callee} {span} ne {m} es {out} {mid} {out′} {written} {next} a {warns} {warns′} {told} {more} l few =
+    subst (λ z. WarnsAt b callee z out written warns told (record { written = next; warnings = more }) out′ warns′) es
+    (record {
+      bytes = λ n. rw (ne-eqb callee 0 ne) (subst (λ (x : List ℕ). Stored out written (10 ∷ (fourBytes m ++ twoBytes 0)) x next) (sym (l .numbers n .0)) a);
+      warned = λ n. rw (ne-eqb callee 0 ne) (l .numbers n .1);
+      lines = λ y h. rw (ne-eqb callee 0 ne) (subst (λ (x : List ℕ). Stored x told (shownAll (warning m callee ∷ [])) out′ more) (past a h .0) (l .lines y));
+      long = rw (ne-eqb callee 0 ne) (a .place);
+      few = few;
+    })
 
 module _ (s : List ℕ) (small : Bytes s) (p : Place) (end : ℕ) (g : FrontThere s (p .at) end) (k : getD s (p .at) 0 ≡ 3) where
   pub expr-reach : (p .at + 12 ≤ end) × (end ≤ length s)
@@ -356,9 +410,9 @@ module _ (s : List ℕ) (small : Bytes s) (p : Place) (end : ℕ) (g : FrontTher
 
   -- what is copied and put
   module _ {out o1 o2 out′ warns warns′ : List ℕ} {i j : ℕ} (callee : ℕ) (r : Warned) (head : Stored out (p .written) (slice (p .at) (p .at + 5) s) o1 i)
-      (mid : WarnsAt callee (four s (p .at + 1)) o1 i warns (p .warnings) r o2 warns′) (tail : Stored o2 (r .written) (slice (p .at + 5) end s) out′ j) where
+      (mid : WarnsAt (p .paged) callee (four s (p .at + 1)) o1 i warns (p .warnings) r o2 warns′) (tail : Stored o2 (r .written) (slice (p .at + 5) end s) out′ j) where
     abbrev pub place : Place
-    place = record { at = end; last = p .at; written = j; errors = p .errors; warnings = r .warnings; lefts = p .lefts; inserted = p .inserted; fits = p .fits }
+    place = record { at = end; last = p .at; written = j; errors = p .errors; warnings = r .warnings; lefts = p .lefts; inserted = p .inserted; fits = p .fits; paged = p .paged }
 
     pub expr-grows : Grows s p place
     expr-grows =
@@ -367,12 +421,11 @@ module _ (s : List ℕ) (small : Bytes s) (p : Place) (end : ℕ) (g : FrontTher
         let b = e .1 in
         let x = head .place in
         let lx = length-slice (p .at) (p .at + 5) s (omega arith) in
-        let y = mid .bytes .place in
-        let ly = head-room (eqb callee 0) (four s (p .at + 1)) in
+        let y = mid .long in
+        let ly = head-room callee (four s (p .at + 1)) in
         let z = tail .place in
         let lz = length-slice (p .at + 5) end s b in
-        let u = mid .warned .place in
-        let lu = pair-room (eqb callee 0) (four s (p .at + 1)) callee in
+        let u = mid .few in
         record { on = omega arith; inside = b; written = omega arith; errors = omega arith; warnings = omega arith; lefts = omega arith; inserted = omega arith }
 
     pub expr-acts : (change : Change) (T : Tables) (σ : Scope Status)
@@ -392,14 +445,25 @@ module _ (s : List ℕ) (small : Bytes s) (p : Place) (end : ℕ) (g : FrontTher
           let pos : (auto T (tyOf (v .0)) && isCall (viewed (v .0))) ≡ true → 0 < calleeAt (v .0) (p .at + 5) = λ y. callee-some (v .0) (p .at + 5) (and-true (auto T (tyOf (v .0))) (isCall (viewed (v .0))) y .1) in
           let h : slice (p .at) (p .at + 5) s ≡ 3 ∷ fourBytes (four s (p .at + 1)) = written-slice (head-bytes s small (p .at) 3 k l) in
           let m : slice (p .at + 5) end s ≡ encodeExpr (v .0) = ap (λ y. slice (p .at + 5) y s) z ∙ written-slice w in
+          let span = four s (p .at + 1) in
+          let wrap = auto T (tyOf (v .0)) && isCall (viewed (v .0)) in
+          let told : warningAt callee span ≡ unused wrap span (v .0) (p .at) = own-told wrap callee (p .at) span (v .0) c pos in
+          let whole : slice (p .at) (p .at + 5) s ++ (wrapping callee span ++ slice (p .at + 5) end s) ≡ (3 ∷ fourBytes span) ++ encodeExpr (cond wrap (deleteNode span (v .0)) (v .0)) =
+          ap (λ y. y ++ (wrapping callee span ++ slice (p .at + 5) end s)) h ∙ ap (λ y. (3 ∷ fourBytes span) ++ (wrapping callee span ++ y)) m
+          ∙ ap (λ y. (3 ∷ fourBytes span) ++ y) (own-bytes wrap callee (p .at + 5) span (v .0) c pos) in
           subst (λ y. Acts T y σ p out warns left (record { place = place; change = change; taken = Nobody }) out′ warns′ left) (sym (v .3 rest)) (record {
-            bytes = subst (λ y. Stored out (p .written) y out′ j)
-                (ap (λ y. y ++ (cond (eqb callee 0) [] (10 ∷ (fourBytes (four s (p .at + 1)) ++ twoBytes 0)) ++ slice (p .at + 5) end s)) h
-                ∙ ap (λ y. (3 ∷ fourBytes (four s (p .at + 1))) ++ (cond (eqb callee 0) [] (10 ∷ (fourBytes (four s (p .at + 1)) ++ twoBytes 0)) ++ y)) m
-                ∙ ap (λ y. (3 ∷ fourBytes (four s (p .at + 1))) ++ y) (own-bytes _ callee (p .at + 5) (four s (p .at + 1)) (v .0) c pos))
-                (both-stored head (both-stored (mid .bytes) tail));
-            warned = subst (λ y. Stored warns (p .warnings) y warns′ (r .warnings)) (own-told _ callee (p .at) (four s (p .at + 1)) (v .0) c pos) (mid .warned);
-            listed = subst (λ y. Stored left (p .lefts) (entriesOf version1 y) left (p .lefts)) (sym (own-lefts (auto T (tyOf (v .0)) && isCall (viewed (v .0))) (four s (p .at + 1)) (v .0) (p .at))) (none-stored left (p .lefts));
+            bytes = λ n. subst (λ y. Stored out (p .written) y out′ j) whole (both-stored head (both-stored (mid .bytes n) tail));
+            warned = λ n. subst (λ y. Stored warns (p .warnings) (entriesOf version1 y) warns′ (r .warnings)) (told ∙ sym (own-warnings wrap span (v .0) (p .at))) (mid .warned n);
+            listed = λ n. subst (λ y. Stored left (p .lefts) (entriesOf version1 y) left (p .lefts)) (sym (own-lefts wrap span (v .0) (p .at))) (none-stored left (p .lefts));
+            lines = λ y h.
+                let a = past head h in
+                let x = subst (λ z. Stored z (p .warnings) (shownAll (warningAt callee span)) o2 (r .warnings)) (a .0) (mid .lines y (a .1)) in
+                let w : out′ ≡ o2 = past tail (let k = stored-length x in let l = mid .long in let f = ap length (a .0) in let g = a .1 in omega arith) .0 in
+                subst (λ z. Lined (cursorsAt p) (unused wrap span (v .0) (p .at)) out (cursorsAt place) z) (sym w)
+                (lined-warnings (p .errors) (p .warnings) (p .lefts) (own-errors wrap span (v .0) (p .at)) (own-warnings wrap span (v .0) (p .at)) (own-lefts wrap span (v .0) (p .at))
+                (subst (λ z. Stored out (p .warnings) (shownAll z) o2 (r .warnings)) told x));
+            long = tail .place ∙ rw (mid .long, head .place) (sym (long-of (slice (p .at) (p .at + 5) s) (wrapping callee span) (slice (p .at + 5) end s) (p .written)) ∙ ap (λ y. p .written + length y) whole);
+            paged = refl;
             errors = refl;
             inserted = sym (add-zero (p .inserted));
             last = refl;

@@ -12,23 +12,31 @@ use Rattle.tables_lookup.specs.declared.Found.the-variants.{At, Nothing}
 use Rattle.rules.specs.Expr.{called}
 use Rattle.rules.specs.Questions.{auto}
 use Rattle.tables.specs.Limits.{version1}
-use Rattle.rules.specs.Report.{leftBehind}
+use Rattle.rules.specs.Report.{left, leftBehind}
 use Rattle.rules.specs.Verdict.{entriesOf}
 use Rattle.rules.specs.Stack.{Static}
 use Rattle.rules.specs.State.{State as Status, isAlive}
 use Rattle.rules.specs.Rules.{states, Drop, dropOf, collect, dropNewest, dropNamed}
 use Rattle.image_writing.specs.Stored.{Stored}
+use Rattle.image_lines.specs.Lined.{shownAll}
+use Rattle.image_lines.specs.Told.{Listed}
+use Rattle.image_lines.proofs.Cursors.{shown-none, shown-more, shown-single}
 use Rattle.statements_acts.proofs.Laws.{Rest, rest-start, rest-step, rest-end, count-step, count-end}
 use Rattle.scope_stack.specs.Word.{wordOf, Top, Newest}
 use Rattle.scope_stack.proofs.Words.{top-below, top-rest, word-zero}
 use Rattle.scope_state.specs.Locals.{foundIn, Finds}
 use Rattle.scope_state.proofs.Stacked.{stacked-more, stacked-none}
+use Rattle.statements_acts.specs.Drops.{admitted}
+use Rattle.statements_acts.specs.declared.Which.the-variants.{All}
 use Rattle.statements_acts.specs.Marks.{staticIn, lent, dropIn}
 use Rattle.statements_acts.proofs.Lent.{found-as}
 
--- the numbers of what is left behind at a span
-abbrev pub leftNumbers : ℕ → List Drop → List ℕ
+-- what is left behind at a span, as numbers and as lines
+abbrev leftNumbers : ℕ → List Drop → List ℕ
 leftNumbers span x = entriesOf version1 (leftBehind span x)
+
+abbrev leftLines : ℕ → List Drop → List ℕ
+leftLines span x = shownAll (leftBehind span x)
 
 -- how much is put at most: the rest of the mark has n bits
 pub record Bounded (at m place put : ℕ) : Type 0 where
@@ -48,21 +56,21 @@ bounded-more at m place put j place′ put′ b t lp lq =
 pub bounded-one : (at m place put j : ℕ) → Bounded at m place put → Top m j → (place + 21 ≤ at + 1344) × (put + 1 ≤ 64)
 bounded-one at m place put j b t = let l : j < b .n = top-below m j (b .n) t (b .word) in (omega (arith, b .room), omega (arith, b .many))
 
--- two numbers for each
+-- two numbers for each, or the 73 bytes of a line
 pub record Paired (at m place : ℕ) : Type 0 where
   pub n : ℕ
   pub word : m < 2 ^ n
-  pub room : place + 2 * n ≤ at + 128
+  pub room : place + 73 * n ≤ at + 4672
 
 pub paired-none : (at m : ℕ) → m < 2 ^ 64 → Paired at m at
 paired-none at m h = record { n = 64; word = h; room = omega arith }
 
-pub paired-more : (at m place j place′ : ℕ) → Paired at m place → Top m j → place′ ≤ place + 2 → Paired at (m - 2 ^ j) place′
+pub paired-more : (at m place j place′ : ℕ) → Paired at m place → Top m j → place′ ≤ place + 73 → Paired at (m - 2 ^ j) place′
 paired-more at m place j place′ b t lp =
     let l : j < b .n = top-below m j (b .n) t (b .word) in
     record { n = j; word = top-rest m j t; room = omega (arith, b .room) }
 
-pub paired-one : (at m place j : ℕ) → Paired at m place → Top m j → place + 2 ≤ at + 128
+pub paired-one : (at m place j : ℕ) → Paired at m place → Top m j → place + 73 ≤ at + 4672
 paired-one at m place j b t = let l : j < b .n = top-below m j (b .n) t (b .word) in omega (arith, b .room)
 
 and-assoc : (a b c : Bool) → ((a && b) && c) ≡ (a && (b && c))
@@ -153,6 +161,53 @@ module _ (T : Tables) (names types depths : List ℕ) (g : ℕ → Status) (q : 
           let zero : wordOf (h .n) (dropIn T types g) ≡ 0 = sym (h .word) ∙ (let e : m ≡ 0 = omega arith in e) in
           let e : some′ (h .n) ≡ [] = drops-none (h .n) zero in
           (rest-end f old at (some′ k) out place (some′ (h .n)) (h .rest) (some′ k) refl (ap f e ∙ fn), count-end (length (some′ k)) put (some′ (h .n)) (h .many) e)
+
+-- the entries of what is left behind, in either form
+module _ (T : Tables) (names types depths : List ℕ) (g : ℕ → Status) (paged : Bool) (span k : ℕ) (lefts₀ out₀ : List ℕ) (at₀ : ℕ) where
+  abbrev Each : (List Drop → List ℕ) → List ℕ → ℕ → List ℕ → ℕ → Type 0
+  Each f old m new at = (put : ℕ) × Left T names types depths g (admitted All) 0 f old at₀ k m new at put
+
+  pub record Listing (m : ℕ) (lefts out : List ℕ) (at : ℕ) : Type 0 where
+    pub numbers : paged ≡ false → (out ≡ out₀) × Each (leftNumbers span) lefts₀ m lefts at
+    pub lines : paged ≡ true → Each (leftLines span) out₀ m out at
+
+  pub listing-all : (m : ℕ) → m ≡ wordOf k (dropIn T types g) → Listing m lefts₀ out₀ at₀
+  listing-all m e = record {
+    numbers = λ n. (refl, (0, left-all T names types depths g (admitted All) 0 (leftNumbers span) lefts₀ at₀ k m e));
+    lines = λ y. (0, left-all T names types depths g (admitted All) 0 (leftLines span) out₀ at₀ k m e);
+  }
+
+  module _ (m : ℕ) (lefts out : List ℕ) (at : ℕ) (h : Listing m lefts out at) where
+    pub listing-put : (j : ℕ) → ((n : ℕ) (z : ℕ → Bool) → m ≡ wordOf n z → Newest n z m j) → {name : ℕ} → name ≡ getD names j 0 → {lefts′ out′ : List ℕ} {at′ : ℕ}
+        → Listed paged (left span name ∷ []) lefts out at lefts′ out′ at′ → Listing (m - 2 ^ j) lefts′ out′ at′
+    listing-put j w {name} en {lefts′} {out′} {at′} l = record {
+      numbers = λ n.
+          let v = h .numbers n in
+          let u = l .numbers n in (
+            u .0 ∙ v .0,
+            (
+              v .1 .0 + 1,
+              left-put T names types depths g (admitted All) 0 (leftNumbers span) lefts₀ at₀ k m lefts at (v .1 .0) (v .1 .1) j w (span ∷ name ∷ []) lefts′ at′ refl
+                  (λ x. ap (λ (y : ℕ). span ∷ y ∷ leftNumbers span x) (sym en)) (u .1),
+            ),
+          );
+      lines = λ y.
+          let v = h .lines y in (
+            v .0 + 1,
+            left-put T names types depths g (admitted All) 0 (leftLines span) out₀ at₀ k m out at (v .0) (v .1) j w (shownAll (left span name ∷ [])) out′ at′ refl
+                (λ x. rw (en, shown-more, shown-single)) (l .lines y),
+          );
+    }
+
+    pub listing-none : m ≤ 0 → Listed paged (leftBehind span (some′ T names types depths g (admitted All) 0 k)) lefts₀ out₀ at₀ lefts out at
+    listing-none z = record {
+      numbers = λ n.
+          let v = h .numbers n in
+          (v .0, left-none T names types depths g (admitted All) 0 (leftNumbers span) lefts₀ at₀ k m lefts at (v .1 .0) (v .1 .1) refl z .0);
+      lines = λ y.
+          let v = h .lines y in
+          left-none T names types depths g (admitted All) 0 (leftLines span) out₀ at₀ k m out at (v .0) (v .1) shown-none z .0;
+    }
 
 -- no local of the name, or its newest local
 module _ (T : Tables) (names types depths : List ℕ) (g : ℕ → Status) (k p n s : ℕ) (r : Found) (f : Finds names k n r) where

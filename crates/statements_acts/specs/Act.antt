@@ -1,6 +1,7 @@
 -- What the code of a statement does, whatever statement was read there.
 use Prim.Native.Nat.{ℕ, _+_, _*_, _≤_}
 use mathlib.Core.Path.{_≡_}
+use mathlib.Core.Bool.{true, false}
 use mathlib.Core.List.{List}
 use lib.ListN.{length}
 use Rattle.image_fields.specs.Parsed.{Parsed, ok}
@@ -16,6 +17,8 @@ use Rattle.rules.specs.Report.{warnings, lefts}
 use Rattle.rules.specs.Verdict.{entriesOf}
 use Rattle.statements_returns.specs.Front.{frontAt}
 use Rattle.image_writing.specs.Stored.{Stored}
+use Rattle.image_lines.specs.Lined.{Cursors, cursors}
+use Rattle.image_lines.specs.Told.{Lined}
 use Rattle.statements_acts.specs.declared.Named.{Named}
 use Rattle.statements_acts.specs.declared.Named.the-variants.{Nobody, Called}
 use Rattle.statements_acts.specs.declared.Change.{Change}
@@ -49,31 +52,40 @@ pub record FrontThere (s : List ℕ) (at end : ℕ) : Type 0 where
   pub read : stmtAt f t s at ≡ ok x next
   pub values : exprsAt t s 24 (frontAt s at .values) (frontAt s at .first) ≡ ok (x .front .values) end
 
--- a place of the walk: within the image, and at most 300 numbers stored for each byte read
+-- a place of the walk: within the image; at most 600 numbers or bytes were stored for each byte read; bytes, warnings and left-behind entries
+-- may begin at up to 120,000,000, where a page's lists are
 pub record Within (s : List ℕ) (p : Place) : Type 0 where
   pub small : length s ≤ 65536
   pub inside : p .at ≤ length s
-  pub written : p .written ≤ 300 * p .at
-  pub errors : p .errors ≤ 300 * p .at
-  pub warnings : p .warnings ≤ 300 * p .at
-  pub lefts : p .lefts ≤ 300 * p .at
-  pub inserted : p .inserted ≤ 300 * p .at
+  pub written : p .written ≤ 120000000 + 600 * p .at
+  pub errors : p .errors ≤ 600 * p .at
+  pub warnings : p .warnings ≤ 120000000 + 600 * p .at
+  pub lefts : p .lefts ≤ 120000000 + 600 * p .at
+  pub inserted : p .inserted ≤ 600 * p .at
 
 -- from one place to a later one, as many
 pub record Grows (s : List ℕ) (p q : Place) : Type 0 where
   pub on : p .at ≤ q .at
   pub inside : q .at ≤ length s
-  pub written : q .written + 300 * p .at ≤ p .written + 300 * q .at
-  pub errors : q .errors + 300 * p .at ≤ p .errors + 300 * q .at
-  pub warnings : q .warnings + 300 * p .at ≤ p .warnings + 300 * q .at
-  pub lefts : q .lefts + 300 * p .at ≤ p .lefts + 300 * q .at
-  pub inserted : q .inserted + 300 * p .at ≤ p .inserted + 300 * q .at
+  pub written : q .written + 600 * p .at ≤ p .written + 600 * q .at
+  pub errors : q .errors + 600 * p .at ≤ p .errors + 600 * q .at
+  pub warnings : q .warnings + 600 * p .at ≤ p .warnings + 600 * q .at
+  pub lefts : q .lefts + 600 * p .at ≤ p .lefts + 600 * q .at
+  pub inserted : q .inserted + 600 * p .at ≤ p .inserted + 600 * q .at
 
--- the statement c up to its blocks, walked from a place: what is stored, where the walk stands then, and how the locals change
+-- where the next line of each list is stored, if a page is made
+abbrev pub cursorsAt : Place → Cursors
+cursorsAt p = cursors (p .errors) (p .warnings) (p .lefts)
+
+-- the statement c up to its blocks, walked from a place: what is stored, where the walk stands then, and how the locals change; where a
+-- page is made, the output ends no later than the place, and no byte is stored but its lines
 pub record Acts (T : Tables) (c : Tree) (σ : Scope Status) (p : Place) (out warns left : List ℕ) (a : Act) (out′ warns′ left′ : List ℕ) : Type 0 where
-  pub bytes : Stored out (p .written) (frontBytes T c σ) out′ (a .place .written)
-  pub warned : Stored warns (p .warnings) (entriesOf version1 (warnings (frontReports T c (p .at) σ))) warns′ (a .place .warnings)
-  pub listed : Stored left (p .lefts) (entriesOf version1 (lefts (frontReports T c (p .at) σ))) left′ (a .place .lefts)
+  pub bytes : p .paged ≡ false → Stored out (p .written) (frontBytes T c σ) out′ (a .place .written)
+  pub warned : p .paged ≡ false → Stored warns (p .warnings) (entriesOf version1 (warnings (frontReports T c (p .at) σ))) warns′ (a .place .warnings)
+  pub listed : p .paged ≡ false → Stored left (p .lefts) (entriesOf version1 (lefts (frontReports T c (p .at) σ))) left′ (a .place .lefts)
+  pub lines : p .paged ≡ true → length out ≤ p .written → Lined (cursorsAt p) (frontReports T c (p .at) σ) out (cursorsAt (a .place)) out′
+  pub long : a .place .written ≡ p .written + length (frontBytes T c σ)
+  pub paged : a .place .paged ≡ p .paged
   pub errors : a .place .errors ≡ p .errors
   pub inserted : a .place .inserted ≡ p .inserted + length (frontDrops T c σ)
   pub last : a .place .last ≡ p .at

@@ -1,13 +1,12 @@
 // What each kind of statement writes before its blocks, and how it changes the scope stack: the arms of transform_block. Throughout,
 // tb has the tables of the image s, ns where the names stand, ln, lt and ld the names, types and depths of the n locals, all lent, and a bit of mark is set for each local that is Alive and of a type with a destructor.
 ghost use mathlib.Core.Path.{_≡_};
-ghost use mathlib.Core.Bool.{cond, _&&_, _||_};
-ghost use mathlib.Core.List.{List, map};
+ghost use mathlib.Core.Bool.{true, cond, _&&_, _||_};
+ghost use mathlib.Core.List.{List, [], _∷_, map};
 ghost use Prim.Native.Nat.{ℕ, _+_, _≤_, _<_};
 ghost use lib.Dec.{eqb};
 ghost use lib.ListN.{length, getD};
 ghost use Rattle.image_fields.specs.Number.{four};
-ghost use Rattle.tables.specs.Limits.{version1};
 ghost use Rattle.tables.specs.Tables.{Tables};
 ghost use Rattle.tables.specs.Name.{nameOf};
 ghost use Rattle.tables_lookup.specs.First.{AllWithin};
@@ -21,9 +20,10 @@ ghost use Rattle.rules.specs.State.{State as Status};
 ghost use Rattle.rules.specs.Stack.{Static, shape, staticOf, Stack as Scope};
 ghost use Rattle.rules.specs.Effects.{takeOver, takeFrom, assignTakes};
 ghost use Rattle.rules.specs.Rules.{states, applyAll, collect, dropNamed, assignDrops};
-ghost use Rattle.rules.specs.Report.{leftBehind};
-ghost use Rattle.rules.specs.Verdict.{entriesOf};
+ghost use Rattle.rules.specs.Report.{warning, left, leftBehind};
 ghost use Rattle.image_writing.specs.Stored.{Stored};
+ghost use Rattle.rules_page.specs.Page.{blanks};
+ghost use Rattle.image_lines.specs.Told.{Listed, leftBegin};
 ghost use Rattle.statements_steps.specs.Drops.{deleteBytes};
 ghost use Rattle.statements_acts.specs.Drops.{admitted};
 ghost use Rattle.statements_acts.specs.declared.Which.the-variants.{All};
@@ -55,8 +55,8 @@ pub enum Change {
 }
 
 // Where a walk stands in the statements of a block: the next byte to read, where the last statement began, how many bytes of output
-// and numbers of each list there are, how many deletes were put into the block itself, and whether every block that ended counts at
-// most 65,535 statements.
+// and numbers of each list there are, how many deletes were put into the block itself, whether every block that ended counts at most
+// 65,535 statements, and whether a page is made: then lists are lines of the output, and counted in its bytes.
 pub struct Place {
     pub at: usize,
     pub last: usize,
@@ -66,6 +66,7 @@ pub struct Place {
     pub lefts: usize,
     pub inserted: usize,
     pub fits: bool,
+    pub paged: bool,
 }
 
 // The place before a statement's blocks or behind the statement, and its change, with the temporary that is taken over.
@@ -227,6 +228,7 @@ fn behind(s: &[u8], p: Place, put: Put, to: usize, out: &mut [u8]) -> Place
         lefts: p.lefts,
         inserted: p.inserted + put.count,
         fits: p.fits,
+        paged: p.paged,
     }
 }
 
@@ -272,7 +274,7 @@ fn expr_statement(
     let value = p.at + 5;
     let callee = unused_callee(s, tb, value);
     let head = image_writing::copy_bytes(s, p.at, value, out, p.written);
-    let warned = put_unused(s, callee, p.at, out, head, warns, p.warnings);
+    let warned = put_unused(s, callee, p.at, p.paged, out, head, warns, p.warnings);
     let written = image_writing::copy_bytes(s, value, end, out, warned.written);
     let place = Place {
         at: end,
@@ -283,6 +285,7 @@ fn expr_statement(
         lefts: p.lefts,
         inserted: p.inserted,
         fits: p.fits,
+        paged: p.paged,
     };
     let change = deleted_identifier(s, value);
     Act {
@@ -292,10 +295,28 @@ fn expr_statement(
     }
 }
 
-// How many bytes of output and numbers of warnings there are.
+// How many bytes of output and numbers of warnings there are, or bytes of their lines.
 pub struct Warned {
     pub written: usize,
     pub warnings: usize,
+}
+
+// A warning: two numbers, or a line.
+fn put_warning(
+    paged: bool,
+    out: &mut [u8],
+    warns: &mut [u32],
+    at: usize,
+    span: u32,
+    offset: u32,
+) -> usize
+    requires { ⌜ at < 4294900000 ⌝ }
+    ensures { λ r. ⌜ Listed «paged» (warning span offset ∷ []) (now (warns .entry)) (now (out .entry)) at (now (warns .exit)) (now (out .exit)) r × (r ≤ at + 73) ⌝ }
+{
+    if paged {
+        return image_lines::put_warning_line(out, at, span, offset);
+    }
+    image_writing::put_pair(warns, at, span, offset)
 }
 
 // The delete round an unused result, and its warning.
@@ -303,13 +324,14 @@ fn put_unused(
     s: &[u8],
     callee: usize,
     at: usize,
+    paged: bool,
     out: &mut [u8],
     written: usize,
     warns: &mut [u32],
     told: usize,
 ) -> Warned
-    requires { ⌜ (callee < 4294967296) × (at < length (now s)) × (written < 4294967200) × (told < 4294967000) ⌝ }
-    ensures { λ r. ⌜ WarnsAt callee (four (now (s .entry)) (at + 1)) (now (out .entry)) written (now (warns .entry)) told r (now (out .exit)) (now (warns .exit)) ⌝ }
+    requires { ⌜ (callee < 4294967296) × (at < length (now s)) × (written < 4294967200) × (told < 4294900000) ⌝ }
+    ensures { λ r. ⌜ WarnsAt «paged» callee (four (now (s .entry)) (at + 1)) (now (out .entry)) written (now (warns .entry)) told r (now (out .exit)) (now (warns .exit)) ⌝ }
 {
     if callee == 0 {
         return Warned {
@@ -319,7 +341,7 @@ fn put_unused(
     }
     let span = span_at(s, at + 1);
     let next = image_writing::put_delete_head(out, written, span);
-    let more = image_writing::put_pair(warns, told, span, callee as u32);
+    let more = put_warning(paged, out, warns, told, span, callee as u32);
     Warned {
         written: next,
         warnings: more,
@@ -438,17 +460,56 @@ pub fn put_drops<'a>(
     }
 }
 
-// A return without a value: the locals that are left behind, newest first, each as the span and the name.
-pub fn list_left(names: &Names, mark: u64, span: u32, lefts: &mut [u32], n: usize) -> usize
-    requires { ⌜ n < 4294900000 ⌝ }
-    ensures { λ r. ⌜ (r ≤ n + 128) × ((T : Tables) (tys depths : List ℕ) (g : ℕ → Status) (k : ℕ) → Marked T tys g k mark
-        → Stored (now (lefts .entry)) n (entriesOf version1 (leftBehind span (collect states T (admitted All) 0 (lent (now (names .entry)) tys depths g k)))) (now (lefts .exit)) r) ⌝ }
+// What the lines of left-behind entries begin with, if a page is made.
+fn begin_lefts(paged: bool, span: u32, text: &mut [u8; 73])
+    requires { ⌜ now text ≡ blanks 73 ⌝ }
+    ensures { λ r. ⌜ («paged» ≡ true → now (text .exit) ≡ leftBegin span) ⌝ }
 {
+    if paged {
+        image_lines::begin_left(text, span);
+    }
+}
+
+// A local left behind: two numbers, or a line.
+fn put_left(
+    paged: bool,
+    text: &[u8; 73],
+    out: &mut [u8],
+    lefts: &mut [u32],
+    at: usize,
+    span: u32,
+    name: u32,
+) -> usize
+    requires { ⌜ (at < 4294900000) × («paged» ≡ true → now text ≡ leftBegin span) ⌝ }
+    ensures { λ r. ⌜ Listed «paged» (left span name ∷ []) (now (lefts .entry)) (now (out .entry)) at (now (lefts .exit)) (now (out .exit)) r × (r ≤ at + 73) ⌝ }
+{
+    if paged {
+        return image_lines::put_left_line(text, out, at, name);
+    }
+    image_writing::put_pair(lefts, at, span, name)
+}
+
+// A return without a value: the locals that are left behind, newest first, each as the span and the name.
+pub fn list_left(
+    names: &Names,
+    mark: u64,
+    span: u32,
+    paged: bool,
+    out: &mut [u8],
+    lefts: &mut [u32],
+    n: usize,
+) -> usize
+    requires { ⌜ n < 4294800000 ⌝ }
+    ensures { λ r. ⌜ (r ≤ n + 4672) × ((T : Tables) (tys depths : List ℕ) (g : ℕ → Status) (k : ℕ) → Marked T tys g k mark
+        → Listed «paged» (leftBehind span (collect states T (admitted All) 0 (lent (now (names .entry)) tys depths g k))) (now (lefts .entry)) (now (out .entry)) n (now (lefts .exit)) (now (out .exit)) r) ⌝ }
+{
+    let mut text = [32u8; 73];
+    begin_lefts(paged, span, &mut text);
     let mut m = mark;
     let mut at = n;
     while 0 < m {
         let i = scope_stack::newest(m);
-        at = image_writing::put_pair(lefts, at, span, number(names[i]));
+        at = put_left(paged, &text, out, lefts, at, span, number(names[i]));
         m = scope_stack::without(m, i);
     }
     at
@@ -516,7 +577,7 @@ fn return_statement<'a>(
     }
 }
 
-// The place after so many numbers of left-behind entries.
+// The place after so many numbers of left-behind entries, or bytes of their lines.
 fn listed(p: Place, lefts: usize) -> Place
     ensures { λ r. ⌜ r ≡ relisted p lefts ⌝ }
 {
@@ -529,6 +590,7 @@ fn listed(p: Place, lefts: usize) -> Place
         lefts: lefts,
         inserted: p.inserted,
         fits: p.fits,
+        paged: p.paged,
     }
 }
 
@@ -540,7 +602,7 @@ fn bare_return(s: &[u8], ln: &Names, mark: u64, p: Place, out: &mut [u8], lefts:
     ensures { λ a. ⌜ Grows (now (s .entry)) p (a .place) × EndsThere (now (s .entry)) (p .at) (a .place .at) ⌝ }
 {
     let span = span_at(s, p.at + 1);
-    let left = list_left(ln, mark, span, lefts, p.lefts);
+    let left = list_left(ln, mark, span, p.paged, out, lefts, p.lefts);
     let place = behind(s, listed(p, left), nothing_put(p), p.at + 8, out);
     Act {
         place: place,

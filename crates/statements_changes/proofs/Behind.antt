@@ -16,8 +16,6 @@ use Rattle.image_body.specs.Stmt.{Tree, Stmt, before, blockAt, stmtIn}
 use Rattle.rules.specs.State.{State as Status, deleted, alive}
 use Rattle.rules.specs.Stack.{Stack as Scope, mark}
 use Rattle.rules.specs.Walk.{tooMany, walkFault}
-use Rattle.rules.specs.Verdict.{entriesOf}
-use Rattle.image_writing.specs.Stored.{Stored}
 use Rattle.statements_returns.specs.Front.{frontAt}
 use Rattle.statements_acts.specs.declared.Place.{Place}
 use Rattle.statements_acts.specs.declared.Act.{Act}
@@ -35,7 +33,9 @@ use Rattle.blocks_laws.proofs.Turns.{else-number, all-fault, all-loud}
 use Rattle.blocks_laws.proofs.Values.{ValuesAt, values-in, values-of}
 use Rattle.blocks_laws.proofs.Tags.{tag-walks, no-blocks}
 use Rattle.expressions_scan.proofs.Values.{afterAll, toldAll, Valued, valued as through}
-use Rattle.expressions_scan.proofs.Entries.{stored-eq}
+use Rattle.image_lines.specs.Told.{Listed}
+use Rattle.image_lines.proofs.Told.{lined-retold}
+use Rattle.statements_steps.proofs.Lists.{front-errors}
 use Rattle.statements_changes.specs.declared.Cursor.{Cursor}
 use Rattle.rules.specs.Rules.{states, register}
 use Rattle.rules.proofs.Shapes.{shape-mark}
@@ -69,6 +69,9 @@ acts-retold T c σ p out warns left a out′ warns′ left′ k h = record {
   bytes = h .bytes;
   warned = h .warned;
   listed = h .listed;
+  lines = λ y l. lined-retold k (front-errors T c (p .at) σ) (h .lines y l);
+  long = h .long;
+  paged = h .paged;
   errors = refl;
   inserted = h .inserted;
   last = h .last;
@@ -96,7 +99,7 @@ module _ (T : Tables) (s : List ℕ) (small : Bytes s) (left all : ℕ) (σ₀ :
     vals : ValuesAt t s (c .place .at) x
     vals = values-in s t deep left (c .place .at) x next read
 
-    walked : Valued T s (frontAt s (c .place .at) .values) (frontAt s (c .place .at) .first) (mi .old) (mi .errs) (mi .told) (c .at) σ errs (c .place .errors) (x .front .values) (vals .end)
+    walked : Valued T s (frontAt s (c .place .at) .values) (frontAt s (c .place .at) .first) (mi .old) (c .place .paged) (mi .errs) (mi .out) (mi .told) (c .at) σ errs out (c .place .errors) (x .front .values) (vals .end)
     walked = let o = vals .on in let r = vals .room in through (mi .root) (omega arith) over (mi .onward) (x .front .values) (vals .end) (record { stand = vals .standing .stand; many = vals .standing .many; shallow = vals .standing .shallow })
 
     acted : (r : Tree) → Acts T (before x r) σ (retold (c .place) 0) out warns lefts a out₁ warns₁ lefts₁
@@ -108,8 +111,10 @@ module _ (T : Tables) (s : List ℕ) (small : Bytes s) (left all : ℕ) (σ₀ :
     located : (r : Tree) → σ ≡ valued T (before x r) (mi .old)
     located r = walked .locals ∙ ap (λ (es : Exprs). afterAll T es (mi .old)) (sym (values-of s small t left (c .place .at) x next read r))
 
-    told : (r : Tree) → Stored (mi .errs) (mi .told) (entriesOf version1 (toldAll T (valuesOf (before x r)) (mi .old))) errs (c .place .errors)
-    told r = stored-eq (ap (λ (es : Exprs). entriesOf version1 (toldAll T es (mi .old))) (sym (values-of s small t left (c .place .at) x next read r))) (walked .errors)
+    told : (r : Tree) → Listed (c .place .paged) (toldAll T (valuesOf (before x r)) (mi .old)) (mi .errs) (mi .out) (mi .told) errs out (c .place .errors)
+    told r =
+        subst (λ (es : Exprs). Listed (c .place .paged) (toldAll T es (mi .old)) (mi .errs) (mi .out) (mi .told) errs out (c .place .errors))
+        (sym (values-of s small t left (c .place .at) x next read r)) (walked .errors)
 
     acting : (r : Tree) → Acts T (before x r) (valued T (before x r) (mi .old)) (retold (c .place) (c .place .errors)) out warns lefts again out₁ warns₁ lefts₁
     acting r =
@@ -127,23 +132,23 @@ module _ (T : Tables) (s : List ℕ) (small : Bytes s) (left all : ℕ) (σ₀ :
           blockless-fault T (before x r) d (valued T (before x r) (mi .old)) plain (subst (λ (τ : Scope Status). length τ ≤ 64) (located r) few)
           ∙ ap (tooMany version1) (sym settled)
 
-      pub own-done : StmtDone T (before x r) (12 - left) (mi .old) here (memory out (mi .errs) warns lefts) behind (memory out₁ errs warns₁ lefts₁) τ next
+      pub own-done : StmtDone T (before x r) (12 - left) (mi .old) here (memory (mi .out) (mi .errs) warns lefts) behind (memory out₁ errs warns₁ lefts₁) τ next
       own-done =
           let plain = no-blocks s small t deep left (c .place .at) x next read behind ended has r in
-          plain-done T (before x r) d (mi .old) here (retold (c .place) (c .place .errors)) again out (mi .errs) warns lefts out₁ errs warns₁ lefts₁
-          (record { at = refl; written = refl; warnings = refl; lefts = refl; inserted = refl; fits = refl }) (told r) (acting r)
+          plain-done T (before x r) d (mi .old) here (retold (c .place) (c .place .errors)) again (mi .out) out (mi .errs) warns lefts out₁ errs warns₁ lefts₁
+          (record { at = refl; written = refl; warnings = refl; lefts = refl; inserted = refl; fits = refl; paged = refl }) (told r) (acting r)
           s small t left x next read r refl plain τ settled
 
     -- with blocks
     own-blocks : blocked (getD s (c .place .at) 0) ≡ true → (w : Walked) (m′ : Memory) → TagWalks T s left (12 - left) (getD s (c .place .at) 0) σ behind (memory out₁ errs warns₁ lefts₁) w m′
         → (r : Tree) → (w .fault ≡ numberOf (ownFault T (before x r) (12 - left) (mi .old)))
-        × (ownFault T (before x r) (12 - left) (mi .old) ≡ none → StmtDone T (before x r) (12 - left) (mi .old) here (memory out (mi .errs) warns lefts) (w .place) m′ (w .locals) next)
+        × (ownFault T (before x r) (12 - left) (mi .old) ≡ none → StmtDone T (before x r) (12 - left) (mi .old) here (memory (mi .out) (mi .errs) warns lefts) (w .place) m′ (w .locals) next)
     own-blocks has w m′ tw r =
         let b = tag-walks s small t deep left (c .place .at) x next read behind ended T d σ (memory out₁ errs warns₁ lefts₁) w m′ tw r has in
         let h = subst (λ (τ : Scope Status). BlocksWalk T (before x r) d τ behind (memory out₁ errs warns₁ lefts₁) w m′ next) (located r) b in (
           h .fault,
-          λ clear. blocks-done T (before x r) d (mi .old) here (retold (c .place) (c .place .errors)) again out (mi .errs) warns lefts out₁ errs warns₁ lefts₁
-              (record { at = refl; written = refl; warnings = refl; lefts = refl; inserted = refl; fits = refl }) (told r) (acting r) w m′ next h clear,
+          λ clear. blocks-done T (before x r) d (mi .old) here (retold (c .place) (c .place .errors)) again (mi .out) out (mi .errs) warns lefts out₁ errs warns₁ lefts₁
+              (record { at = refl; written = refl; warnings = refl; lefts = refl; inserted = refl; fits = refl; paged = refl }) (told r) (acting r) w m′ next h clear,
         )
 
   -- the walk leads behind a statement without blocks, once its change is made and its temporary taken over
@@ -151,26 +156,26 @@ module _ (T : Tables) (s : List ℕ) (small : Bytes s) (left all : ℕ) (σ₀ :
     pub acted-leads : tooMany version1 τ ≡ none → LeadsAll T s left (12 - left) all σ₀ p₀ m₀ (c .left - 1) τ behind (memory out₁ errs warns₁ lefts₁)
     acted-leads clear t deep cc end e =
         let l = mi .leads t deep cc end e in
-        let k = next-of T s small t left d all cc σ₀ p₀ m₀ end (c .left) (mi .old) here (memory out (mi .errs) warns lefts) (mi .some) l in
-        leads-next T s small t left d all cc σ₀ p₀ m₀ end (c .left) (mi .old) here (memory out (mi .errs) warns lefts) (mi .some) l k behind (memory out₁ errs warns₁ lefts₁) τ
+        let k = next-of T s small t left d all cc σ₀ p₀ m₀ end (c .left) (mi .old) here (memory (mi .out) (mi .errs) warns lefts) (mi .some) l in
+        leads-next T s small t left d all cc σ₀ p₀ m₀ end (c .left) (mi .old) here (memory (mi .out) (mi .errs) warns lefts) (mi .some) l k behind (memory out₁ errs warns₁ lefts₁) τ
         (own-many t deep (k .x) (k .next) (k .read) has τ is (k .rest) ∙ clear) (own-done t deep (k .x) (k .next) (k .read) has τ is (k .rest))
 
     pub acted-fault : 0 < numberOf (tooMany version1 τ) → Faulty T s left (12 - left) all σ₀ p₀ m₀ (numberOf (tooMany version1 τ))
     acted-fault pos t deep cc end e =
         let l = mi .leads t deep cc end e in
-        let k = next-of T s small t left d all cc σ₀ p₀ m₀ end (c .left) (mi .old) here (memory out (mi .errs) warns lefts) (mi .some) l in
+        let k = next-of T s small t left d all cc σ₀ p₀ m₀ end (c .left) (mi .old) here (memory (mi .out) (mi .errs) warns lefts) (mi .some) l in
         let b = before (k .x) (k .rest) in
         else-number (ownFault T b d (mi .old)) (walkFault version1 T (restOf b) d (ownAfter T b d (mi .old))) (numberOf (tooMany version1 τ)) pos
         (ap numberOf (sym (own-many t deep (k .x) (k .next) (k .read) has τ is (k .rest))))
-        ∙ ap numberOf (sym (leads-fault T s small t left d all cc σ₀ p₀ m₀ end (c .left) (mi .old) here (memory out (mi .errs) warns lefts) (mi .some) l k))
+        ∙ ap numberOf (sym (leads-fault T s small t left d all cc σ₀ p₀ m₀ end (c .left) (mi .old) here (memory (mi .out) (mi .errs) warns lefts) (mi .some) l k))
 
   -- and behind one with blocks, once they are walked
   pub acted-blocks : blocked (getD s (c .place .at) 0) ≡ true → (w : Walked) (m′ : Memory) → TagWalks T s left (12 - left) (getD s (c .place .at) 0) σ behind (memory out₁ errs warns₁ lefts₁) w m′
       → (0 < w .fault → StmtsWalk T s left (12 - left) all σ₀ p₀ m₀ w m′) × (w .fault ≤ 0 → LeadsAll T s left (12 - left) all σ₀ p₀ m₀ (c .left - 1) (w .locals) (w .place) m′)
   acted-blocks has w m′ tw =
-      let whole : StmtWalks T s left d (mi .old) here (memory out (mi .errs) warns lefts) w m′ = record { walks = λ t deep x next read r. own-blocks t deep x next read has w m′ tw r } in (
-        λ lw. all-fault T s small left d all σ₀ p₀ m₀ (c .left) (mi .old) here (memory out (mi .errs) warns lefts) (mi .leads) (mi .some) w m′ lw whole,
-        λ z. all-loud T s small left d all σ₀ p₀ m₀ (c .left) (mi .old) here (memory out (mi .errs) warns lefts) (mi .leads) (mi .some) w m′ z whole,
+      let whole : StmtWalks T s left d (mi .old) here (memory (mi .out) (mi .errs) warns lefts) w m′ = record { walks = λ t deep x next read r. own-blocks t deep x next read has w m′ tw r } in (
+        λ lw. all-fault T s small left d all σ₀ p₀ m₀ (c .left) (mi .old) here (memory (mi .out) (mi .errs) warns lefts) (mi .leads) (mi .some) w m′ lw whole,
+        λ z. all-loud T s small left d all σ₀ p₀ m₀ (c .left) (mi .old) here (memory (mi .out) (mi .errs) warns lefts) (mi .leads) (mi .some) w m′ z whole,
       )
 
   -- between two statements

@@ -31,21 +31,22 @@ module _ (T : Tables) (s : List ℕ) (left d all : ℕ) (σ₀ : Scope Status) (
         old = σ;
         told = c .place .errors;
         errs = errs;
+        out = out;
         os = opens ns′;
         some = some;
         leads = subst (λ x. LeadsAll T s left d all σ₀ p₀ m₀ (c .left) (takenIn x σ) (c .place) (memory out errs warns lefts)) free (g .between off);
         root = eo;
-        onward = onward-none (opens ns′) 1 (frontAt s (c .place .at) .first) σ errs (c .place .errors);
+        onward = onward-none (opens ns′) 1 (frontAt s (c .place .at) .first) σ (c .place .paged) errs out (c .place .errors);
       };
     }
 
     -- it goes on
-    pub stood-on : c .begun ≡ true → (ns′ : List ℕ) {n p t : ℕ} {τ : Scope Status} {errs′ : List ℕ}
-        → Onward T s (opens ns) (c .nodes) (c .at) σ errs (c .place .errors) (opens ns′) n p τ errs′ t
-        → Stood T s left d all σ₀ p₀ m₀ ns′ (withinOf (c .left) n p (retold (c .place) t)) τ (memory out errs′ warns lefts)
+    pub stood-on : c .begun ≡ true → (ns′ : List ℕ) {n p t : ℕ} {τ : Scope Status} {errs′ out′ : List ℕ}
+        → Onward T s (opens ns) (c .nodes) (c .at) σ (c .place .paged) errs out (c .place .errors) (opens ns′) n p τ errs′ out′ t
+        → Stood T s left d all σ₀ p₀ m₀ ns′ (withinOf (c .left) n p (retold (c .place) t)) τ (memory out′ errs′ warns lefts)
     stood-on on ns′ o =
         let m = g .within on in
         record {
           between = λ h. false-true (sym h);
-          within = λ h. record { old = m .old; told = m .told; errs = m .errs; os = m .os; some = m .some; leads = m .leads; root = m .root; onward = onward-both (m .onward) o };
+          within = λ h. record { old = m .old; told = m .told; errs = m .errs; out = m .out; os = m .os; some = m .some; leads = m .leads; root = m .root; onward = onward-both (m .onward) o };
         }

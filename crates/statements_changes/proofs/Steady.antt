@@ -111,7 +111,7 @@ module _ (s : List ℕ) (left : ℕ) (c : Cursor) (st : SomeSteady s left c) (on
       inserted = grows .inserted;
     }
 
-    few-errors : c .place .errors ≤ 300 * a .place .at
+    few-errors : c .place .errors ≤ 600 * a .place .at
     few-errors =
         let v = vals in
         let e = ended in
@@ -128,7 +128,7 @@ module _ (s : List ℕ) (left : ℕ) (c : Cursor) (st : SomeSteady s left c) (on
         fuel-none : c .nodes ≡ 0 → fuel s (c .nodes) (c .at) ≡ 2 * (length s - c .at)
         fuel-none e = rw e (omega arith)
 
-    as-within : (k : ℕ) → k ≤ 300 * a .place .at → Within s (retold (a .place) k)
+    as-within : (k : ℕ) → k ≤ 600 * a .place .at → Within s (retold (a .place) k)
     as-within k le =
         let w = within-there in
         record { small = w .small; inside = w .inside; written = w .written; errors = le; warnings = w .warnings; lefts = w .lefts; inserted = w .inserted }

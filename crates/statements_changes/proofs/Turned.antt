@@ -80,7 +80,7 @@ module _ (s : List ℕ) (left : ℕ) (ns : List ℕ) (c : Cursor) (st : Steady s
         (subst (λ (g : Front). (topOf (opens ns′) 1 ≡ rootOf (g .values)) → Began s left ns c ns′ (withinOf (c .left) 1 (g .first) (c .place))) (sym ef) (λ h. start-at h (eo .1)) (eo .0))
 
   -- a statement was read at the place
-  pub begun-room : c .begun ≡ true → c .place .errors + 12 * fuel s (c .nodes) (c .at) < 4294967000
+  pub begun-room : c .begun ≡ true → c .place .errors + 219 * fuel s (c .nodes) (c .at) < 4294900000
   begun-room on =
       let b = st .within on in
       let m = b .most in

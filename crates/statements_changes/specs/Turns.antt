@@ -41,7 +41,7 @@ pub record Lends (T : Tables) (mark : ℕ) (names types depths : List ℕ) (at :
 
 -- a place with other errors
 abbrev pub retold : Place → ℕ → Place
-retold p k = record { at = p .at; last = p .last; written = p .written; errors = k; warnings = p .warnings; lefts = p .lefts; inserted = p .inserted; fits = p .fits }
+retold p k = record { at = p .at; last = p .last; written = p .written; errors = k; warnings = p .warnings; lefts = p .lefts; inserted = p .inserted; fits = p .fits; paged = p .paged }
 
 -- between two statements, with what is still to be taken over; within the values of one
 abbrev pub betweenOf : ℕ → Place → Named → Cursor
@@ -62,16 +62,17 @@ cameOf tag left p ch taken =
     cond (blocked tag) (record { cursor = betweenOf left p Nobody; turn = Blocks tag }) (record { cursor = betweenOf left p taken; turn = turnOf ch })
 
 module _ (T : Tables) (s : List ℕ) (left d all : ℕ) (σ₀ : Scope Status) (p₀ : Place) (m₀ : Memory) where
-  -- the values of the statement at the place are scanned: the locals and the errors when that began, and how it went on from there
+  -- the values of the statement at the place are scanned: the locals, the errors and the output when that began, and how it went on from there
   pub record Midst (ns : List ℕ) (c : Cursor) (σ : Scope Status) (m : Memory) : Type 0 where
     pub old : Scope Status
     pub told : ℕ
     pub errs : List ℕ
+    pub out : List ℕ
     pub os : List Open
     pub some : 0 < c .left
-    pub leads : LeadsAll T s left d all σ₀ p₀ m₀ (c .left) old (retold (c .place) told) (memory (m .out) errs (m .warns) (m .lefts))
+    pub leads : LeadsAll T s left d all σ₀ p₀ m₀ (c .left) old (retold (c .place) told) (memory out errs (m .warns) (m .lefts))
     pub root : topOf os 1 ≡ rootOf (frontAt s (c .place .at) .values)
-    pub onward : Onward T s os 1 (frontAt s (c .place .at) .first) old errs told (opens ns) (c .nodes) (c .at) σ (m .errs) (c .place .errors)
+    pub onward : Onward T s os 1 (frontAt s (c .place .at) .first) old (c .place .paged) errs out told (opens ns) (c .nodes) (c .at) σ (m .errs) (m .out) (c .place .errors)
 
   -- the walk of all statements has led to the cursor, with the locals σ
   pub record Stood (ns : List ℕ) (c : Cursor) (σ : Scope Status) (m : Memory) : Type 0 where
@@ -100,13 +101,13 @@ pub record Begun (s ns : List ℕ) (c : Cursor) : Type 0 where
   pub ready : Ready s (opens ns) (c .nodes) (c .at)
   pub ends : (es : Exprs) (next : ℕ) → Standing s (frontAt s (c .place .at) .values) (frontAt s (c .place .at) .first) es next
       → (fs : List Stage) × Stacked (opens ns) (c .nodes) fs s (c .at) next
-  pub most : c .place .errors + 12 * fuel s (c .nodes) (c .at) ≤ 300 * c .place .at + 12 * fuel s 1 (frontAt s (c .place .at) .first)
+  pub most : c .place .errors + 219 * fuel s (c .nodes) (c .at) ≤ 600 * c .place .at + 219 * fuel s 1 (frontAt s (c .place .at) .first)
   pub free : c .taken ≡ Nobody
 
 pub record Steady (s : List ℕ) (left : ℕ) (ns : List ℕ) (c : Cursor) : Type 0 where
   pub inside : Within s (retold (c .place) 0)
   pub there : StmtsThere s left (c .left) (c .place .at)
-  pub between : c .begun ≡ false → c .place .errors ≤ 300 * c .place .at
+  pub between : c .begun ≡ false → c .place .errors ≤ 600 * c .place .at
   pub within : c .begun ≡ true → Begun s ns c
 
 -- of some array of open nodes

@@ -94,6 +94,7 @@ fn told(p: Place, errors: usize) -> Place
         lefts: p.lefts,
         inserted: p.inserted,
         fits: p.fits,
+        paged: p.paged,
     }
 }
 
@@ -244,6 +245,7 @@ fn scanned<'a>(
     rows: &[u32],
     nodes: &mut [u64; 26],
     c: Cursor,
+    out: &mut [u8],
     errs: &mut [u32],
 ) -> Came
     requires { ⌜ Lent (now s) (now tb) × AllKept (now lk) (now lf) (now rows) (env .cur) (env .width) (env .locals)
@@ -251,9 +253,9 @@ fn scanned<'a>(
     ensures { λ r. ⌜ ((T : Tables) → Says (now (s .entry)) (now (tb .entry)) T
         → (types depths : List ℕ) (σ : Scope Status)
         → σ ≡ lent (now (ln .entry)) types depths (stateIn (now (lk .entry)) (now (lf .entry)) (now (rows .entry)) (env .cur) (env .width)) (env .locals)
-        → (all : ℕ) (σ₀ : Scope Status) (p₀ : Place) (m₀ : Memory) (out warns lefts : List ℕ)
-        → Stood T (now (s .entry)) (env .left) (12 - env .left) all σ₀ p₀ m₀ (now (nodes .entry)) c σ (memory out (now (errs .entry)) warns lefts)
-        → After T (now (s .entry)) (env .left) (12 - env .left) all σ₀ p₀ m₀ (now (nodes .exit)) (r .cursor) σ (memory out (now (errs .exit)) warns lefts) (r .turn)) ⌝ }
+        → (all : ℕ) (σ₀ : Scope Status) (p₀ : Place) (m₀ : Memory) (warns lefts : List ℕ)
+        → Stood T (now (s .entry)) (env .left) (12 - env .left) all σ₀ p₀ m₀ (now (nodes .entry)) c σ (memory (now (out .entry)) (now (errs .entry)) warns lefts)
+        → After T (now (s .entry)) (env .left) (12 - env .left) all σ₀ p₀ m₀ (now (nodes .exit)) (r .cursor) σ (memory (now (out .exit)) (now (errs .exit)) warns lefts) (r .turn)) ⌝ }
     ensures { λ r. ⌜ Fit (now (s .entry)) (env .left) (now (nodes .exit)) (r .cursor) (r .turn) × (length (now (nodes .exit)) ≡ 26)
         × (r .turn ≡ Nothing → (r .cursor .begun ≡ true) × (r .cursor .nodes ≡ 0) × (r .cursor .left ≡ c .left))
         × ((r .turn ≡ Nothing → ⊥) → ahead (now (s .entry)) (r .cursor) < ahead (now (s .entry)) c)
@@ -263,7 +265,8 @@ fn scanned<'a>(
     let k = c.nodes;
     let at = c.at;
     let n = p.errors;
-    let v = expressions_scan::scan_on(s, tb, env, ln, lk, lf, rows, nodes, k, at, errs, n);
+    let g = p.paged;
+    let v = expressions_scan::scan_on(s, tb, env, ln, lk, lf, rows, nodes, k, at, g, out, errs, n);
     let q = told(p, v.told);
     let w = within(c.left, v.nodes, v.at, q);
     let change = v.change;
@@ -330,7 +333,7 @@ pub fn next_change<'a>(
             return o;
         }
         let b = begun(s, env.left, nodes, c);
-        let w = scanned(s, tb, env, ln, lk, lf, rows, nodes, b, errs);
+        let w = scanned(s, tb, env, ln, lk, lf, rows, nodes, b, out, errs);
         if !is_nothing(w) {
             return w;
         }

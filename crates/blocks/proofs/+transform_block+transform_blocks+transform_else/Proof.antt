@@ -213,17 +213,17 @@ turned-at t c came =
     (at-loop .loop .inv .owned .sound .held) d) (at-scanning .scanning .result) (at-scanning .scanning .ensures) (c .next-change .ensures)
     came (c .next-change .kept .1 .1 .1 .1 .1 .1 .1 .1 .1 .1 .1 .0) (c .next-change .kept .1 .1 .1 .1 .1 .1 .1 .1 .1 .1 .1 .1 .0) (c .next-change .kept .1 .1 .1 .1 .1 .1 .1 .1 .1 .1 .1 .1 .1 .0) (c .next-change .kept .1 .1 .1 .1 .1 .1 .1 .1 .1 .1 .1 .1 .1 .1 .0)
 
--- src/lib.rt:137:9
+-- src/lib.rt:136:9
 transform-block-place-in-requires : (t : ℕ) → transform-block-lts.Need-place-in-requires (transform-block-claims t) (transform-block-at t) transform-block.Post transform-block-Inv-loop transform-block-μ-loop
 transform-block-place-in-requires t c κs = tt
 
--- src/lib.rt:138:9
+-- src/lib.rt:137:9
 transform-block-inner-requires : (t : ℕ) → transform-block-lts.Need-inner-requires (transform-block-claims t) (transform-block-at t) transform-block.Post transform-block-Inv-loop transform-block-μ-loop
 transform-block-inner-requires t c κs =
     let start = c .before .before .before .before .before .before .before .before .before in
     block-there _ _ _ (start .pre .1 .1) .0
 
--- src/lib.rt:139:18
+-- src/lib.rt:138:18
 transform-block-sub-depth : (t : ℕ) → transform-block-lts.Need-sub-depth (transform-block-claims t) (transform-block-at t) transform-block.Post transform-block-Inv-loop transform-block-μ-loop
 transform-block-sub-depth t c =
     let at-inner = c .before in
@@ -231,11 +231,11 @@ transform-block-sub-depth t c =
     let el = ap (λ (x : Env). x .left) (at-inner .inner .ensures) in
     omega (arith, el, start .pre .1 .0 .depth)
 
--- src/lib.rt:139:17
+-- src/lib.rt:138:17
 transform-block-cast-depth : (t : ℕ) → transform-block-lts.Need-cast-depth (transform-block-claims t) (transform-block-at t) transform-block.Post transform-block-Inv-loop transform-block-μ-loop
 transform-block-cast-depth t c = omega arith
 
--- src/lib.rt:142:9
+-- src/lib.rt:141:9
 transform-block-head-requires : (t : ℕ) → transform-block-lts.Need-head-requires (transform-block-claims t) (transform-block-at t) transform-block.Post transform-block-Inv-loop transform-block-μ-loop
 transform-block-head-requires t c κs =
     let at-place-in = c .before .before .before in
@@ -245,7 +245,7 @@ transform-block-head-requires t c κs =
           (sym (at-place-in .place-in .ensures)) (block-there _ _ _ (start .pre .1 .1) .1),
     )
 
--- src/lib.rt:143:5
+-- src/lib.rt:142:5
 transform-block-loop-holds : (t : ℕ) → transform-block-lts.Need-loop-holds (transform-block-claims t) (transform-block-at t) transform-block.Post transform-block-Inv-loop transform-block-μ-loop
 transform-block-loop-holds t c =
     let at-head = c .before .before in
@@ -263,15 +263,15 @@ transform-block-loop-holds t c =
     (start .args .env .left) el there (block-bytes t at-shared-slice-known) _ _ (start .pre .1 .3) (start .pre .1 .4) _
     (at-head .head .ensures .is)
 
--- src/lib.rt:144:13
+-- src/lib.rt:143:13
 transform-block-drop-word-requires : (t : ℕ) → transform-block-lts.Need-drop-word-requires (transform-block-claims t) (transform-block-at t) transform-block.Post transform-block-Inv-loop transform-block-μ-loop
 transform-block-drop-word-requires t c κs = search needs
 
--- src/lib.rt:148:13
+-- src/lib.rt:147:13
 transform-block-scanning-requires : (t : ℕ) → transform-block-lts.Need-scanning-requires (transform-block-claims t) (transform-block-at t) transform-block.Post transform-block-Inv-loop transform-block-μ-loop
 transform-block-scanning-requires t c κs = search needs
 
--- src/lib.rt:145:13
+-- src/lib.rt:144:13
 transform-block-next-change-requires : (t : ℕ) → transform-block-lts.Need-next-change-requires (transform-block-claims t) (transform-block-at t) transform-block.Post transform-block-Inv-loop transform-block-μ-loop
 transform-block-next-change-requires t c κs =
     let at-scanning = c .before .before .before .before .before .before .before .before .before .before .before .before .before in
@@ -292,23 +292,23 @@ transform-block-next-change-requires t c κs =
 transform-block-enum-told : (t : ℕ) → transform-block-lts.Need-enum-told (transform-block-claims t) (transform-block-at t) transform-block.Post transform-block-Inv-loop transform-block-μ-loop
 transform-block-enum-told t c = search needs
 
--- src/lib.rt:143:5
+-- src/lib.rt:142:5
 transform-block-loop-less : (t : ℕ) → transform-block-lts.Need-loop-less (transform-block-claims t) (transform-block-at t) transform-block.Post transform-block-Inv-loop transform-block-μ-loop
 transform-block-loop-less t c =
     let at-next-change = c .before .before .before .before .before .before .before .before .before .before .before in
     absurd (at-next-change .next-change .ensures .1 .2 (c .enum-told .given .1))
 
--- src/lib.rt:143:5
+-- src/lib.rt:142:5
 transform-block-loop-again : (t : ℕ) → transform-block-lts.Need-loop-again (transform-block-claims t) (transform-block-at t) transform-block.Post transform-block-Inv-loop transform-block-μ-loop
 transform-block-loop-again t c =
     let at-next-change = c .before .before .before .before .before .before .before .before .before .before .before in
     absurd (at-next-change .next-change .ensures .1 .2 (c .enum-told .given .1))
 
--- src/lib.rt:172:21
+-- src/lib.rt:171:21
 transform-block-enum-told-2 : (t : ℕ) → transform-block-lts.Need-enum-told-2 (transform-block-claims t) (transform-block-at t) transform-block.Post transform-block-Inv-loop transform-block-μ-loop
 transform-block-enum-told-2 t c = search needs
 
--- src/lib.rt:167:17
+-- src/lib.rt:166:17
 transform-block-end-block-requires : (t : ℕ) → transform-block-lts.Need-end-block-requires (transform-block-claims t) (transform-block-at t) transform-block.Post transform-block-Inv-loop transform-block-μ-loop
 transform-block-end-block-requires t c κs =
     let at-enum-told2 = c .before .before .before .before .before .before in
@@ -331,7 +331,7 @@ transform-block-end-block-requires t c κs =
       at-loop .loop .inv .long .pl,
     )
 
--- src/lib.rt:179:17
+-- src/lib.rt:178:17
 transform-block-leave-requires : (t : ℕ) → transform-block-lts.Need-leave-requires (transform-block-claims t) (transform-block-at t) transform-block.Post transform-block-Inv-loop transform-block-μ-loop
 transform-block-leave-requires t c κs =
     let at-loop = c .before .before .before .before .before .before .before .before .before .before .before .before .before .before .before .before .before .before .before .before .before .before .before .before .before .before .before .before .before .before .before .before .before .before .before .before in
@@ -339,13 +339,13 @@ transform-block-leave-requires t c κs =
     let small = at-loop .loop .inv .owned .sound .kept .small in
     (at-loop .loop .inv .owned .sound .held, omega (arith, most, small), omega (arith, most, small))
 
--- src/lib.rt:179:17
+-- src/lib.rt:178:17
 transform-block-same-length : (t : ℕ) → transform-block-lts.Need-same-length (transform-block-claims t) (transform-block-at t) transform-block.Post transform-block-Inv-loop transform-block-μ-loop
 transform-block-same-length t c =
     let at-loop = c .before .before .before .before .before .before .before .before .before .before .before .before .before .before .before .before .before .before .before .before .before .before .before .before .before .before .before .before .before .before .before .before .before .before .before .before .before in
     at-loop .loop .inv .owned .below .room
 
--- src/lib.rt:179:17
+-- src/lib.rt:178:17
 transform-block-same-length-2 : (t : ℕ) → transform-block-lts.Need-same-length-2 (transform-block-claims t) (transform-block-at t) transform-block.Post transform-block-Inv-loop transform-block-μ-loop
 transform-block-same-length-2 t c =
     let at-end-block = c .before .before .before in
@@ -354,28 +354,28 @@ transform-block-same-length-2 t c =
     let at-head = at-loop .before .before .before in
     omega (arith, at-end-block .end-block .kept .1 .1 .1 .1 .1 .1 .1 .1 .0, at-next-change .next-change .kept .1 .1 .1 .1 .1 .1 .1 .1 .1 .1 .1 .0, at-loop .loop .inv .long .out, at-head .head .kept .1 .1 .0)
 
--- src/lib.rt:179:17
+-- src/lib.rt:178:17
 transform-block-same-length-3 : (t : ℕ) → transform-block-lts.Need-same-length-3 (transform-block-claims t) (transform-block-at t) transform-block.Post transform-block-Inv-loop transform-block-μ-loop
 transform-block-same-length-3 t c =
     let at-next-change = c .before .before .before .before .before .before .before .before .before .before .before .before .before .before .before .before .before .before .before .before .before in
     let at-loop = at-next-change .before .before .before .before .before .before .before .before .before .before .before .before .before .before .before .before in
     omega (arith, at-next-change .next-change .kept .1 .1 .1 .1 .1 .1 .1 .1 .1 .1 .1 .1 .0, at-loop .loop .inv .long .errs)
 
--- src/lib.rt:179:17
+-- src/lib.rt:178:17
 transform-block-same-length-4 : (t : ℕ) → transform-block-lts.Need-same-length-4 (transform-block-claims t) (transform-block-at t) transform-block.Post transform-block-Inv-loop transform-block-μ-loop
 transform-block-same-length-4 t c =
     let at-next-change = c .before .before .before .before .before .before .before .before .before .before .before .before .before .before .before .before .before .before .before .before .before in
     let at-loop = at-next-change .before .before .before .before .before .before .before .before .before .before .before .before .before .before .before .before in
     omega (arith, at-next-change .next-change .kept .1 .1 .1 .1 .1 .1 .1 .1 .1 .1 .1 .1 .1 .0, at-loop .loop .inv .long .warns)
 
--- src/lib.rt:179:17
+-- src/lib.rt:178:17
 transform-block-same-length-5 : (t : ℕ) → transform-block-lts.Need-same-length-5 (transform-block-claims t) (transform-block-at t) transform-block.Post transform-block-Inv-loop transform-block-μ-loop
 transform-block-same-length-5 t c =
     let at-next-change = c .before .before .before .before .before .before .before .before .before .before .before .before .before .before .before .before .before .before .before .before .before in
     let at-loop = at-next-change .before .before .before .before .before .before .before .before .before .before .before .before .before .before .before .before in
     omega (arith, at-next-change .next-change .kept .1 .1 .1 .1 .1 .1 .1 .1 .1 .1 .1 .1 .1 .1 .0, at-loop .loop .inv .long .lefts)
 
--- src/lib.rt:179:17
+-- src/lib.rt:178:17
 transform-block-returns : (t : ℕ) → transform-block-lts.Need-returns (transform-block-claims t) (transform-block-at t) transform-block.Post transform-block-Inv-loop transform-block-μ-loop
 transform-block-returns t c =
     let at-end-block = c .before .before .before in
@@ -407,11 +407,11 @@ transform-block-returns t c =
     let q = done-as _ _ (start .args .env) (at-inner .inner .result) _ _ _ _ _ _ _ _ _ _ _ _ _ (at-inner .inner .ensures) (at-place-in .place-in .ensures) d in
     ((q .comes, q .nodes), q .walks)
 
--- src/lib.rt:181:24
+-- src/lib.rt:180:24
 transform-block-enum-known-turn : (t : ℕ) → transform-block-lts.Need-enum-known-turn (transform-block-claims t) (transform-block-at t) transform-block.Post transform-block-Inv-loop transform-block-μ-loop
 transform-block-enum-known-turn t c = search needs
 
--- src/lib.rt:182:22
+-- src/lib.rt:181:22
 transform-block-mark-requires : (t : ℕ) → transform-block-lts.Need-mark-requires (transform-block-claims t) (transform-block-at t) transform-block.Post transform-block-Inv-loop transform-block-μ-loop
 transform-block-mark-requires t c κs =
     let at-turn = c .before .before .before .before in
@@ -420,14 +420,14 @@ transform-block-mark-requires t c κs =
     let h = turned-at t at-next-change (at-turn .turn .given .1) in
     (at-loop .loop .inv .owned .sound .held, at-loop .loop .inv .owned .sound .kept .small, h .fit .1)
 
--- src/lib.rt:143:5
+-- src/lib.rt:142:5
 transform-block-loop-less-2 : (t : ℕ) → transform-block-lts.Need-loop-less-2 (transform-block-claims t) (transform-block-at t) transform-block.Post transform-block-Inv-loop transform-block-μ-loop
 transform-block-loop-less-2 t c =
     let at-turn = c .before .before .before .before .before in
     let at-next-change = at-turn .before .before .before .before .before .before .before .before .before .before .before in
     at-next-change .next-change .ensures .1 .3 (λ z. mark-goes _ _ _ _ (sym (at-turn .turn .given .1) ∙ z))
 
--- src/lib.rt:143:5
+-- src/lib.rt:142:5
 transform-block-loop-again-2 : (t : ℕ) → transform-block-lts.Need-loop-again-2 (transform-block-claims t) (transform-block-at t) transform-block.Post transform-block-Inv-loop transform-block-μ-loop
 transform-block-loop-again-2 t c =
     let at-turn = c .before .before .before .before .before in
@@ -441,25 +441,25 @@ transform-block-loop-again-2 t c =
     (start .args .outer) (start .args .states) (start .args .rows .now) _ (start .args .errs .now) (start .args .warns .now) (start .args .lefts .now) _ _ _ _ h
     (c .mark .result) (c .mark .ensures .0) (c .mark .ensures .1 (at-loop .loop .l) refl refl refl)
 
--- src/lib.rt:184:28
+-- src/lib.rt:183:28
 transform-block-enum-known-turn-2 : (t : ℕ) → transform-block-lts.Need-enum-known-turn-2 (transform-block-claims t) (transform-block-at t) transform-block.Post transform-block-Inv-loop transform-block-μ-loop
 transform-block-enum-known-turn-2 t c = search needs
 
--- src/lib.rt:185:20
+-- src/lib.rt:184:20
 transform-block-full-requires : (t : ℕ) → transform-block-lts.Need-full-requires (transform-block-claims t) (transform-block-at t) transform-block.Post transform-block-Inv-loop transform-block-μ-loop
 transform-block-full-requires t c κs = tt
 
--- src/lib.rt:186:21
+-- src/lib.rt:185:21
 transform-block-element-write-pl : (t : ℕ) → transform-block-lts.Need-element-write-pl (transform-block-claims t) (transform-block-at t) transform-block.Post transform-block-Inv-loop transform-block-μ-loop
 transform-block-element-write-pl t c = search needs
 
--- src/lib.rt:187:21
+-- src/lib.rt:186:21
 transform-block-same-length-6 : (t : ℕ) → transform-block-lts.Need-same-length-6 (transform-block-claims t) (transform-block-at t) transform-block.Post transform-block-Inv-loop transform-block-μ-loop
 transform-block-same-length-6 t c =
     let at-loop = c .before .before .before .before .before .before .before .before .before .before .before .before .before .before .before .before .before .before .before .before .before .before .before .before .before .before .before .before .before .before in
     at-loop .loop .inv .owned .below .room
 
--- src/lib.rt:187:21
+-- src/lib.rt:186:21
 transform-block-same-length-7 : (t : ℕ) → transform-block-lts.Need-same-length-7 (transform-block-claims t) (transform-block-at t) transform-block.Post transform-block-Inv-loop transform-block-μ-loop
 transform-block-same-length-7 t c =
     let at-next-change = c .before .before .before .before .before .before .before .before .before .before .before .before .before .before in
@@ -467,28 +467,28 @@ transform-block-same-length-7 t c =
     let at-head = at-loop .before .before .before in
     omega (arith, at-next-change .next-change .kept .1 .1 .1 .1 .1 .1 .1 .1 .1 .1 .1 .0, at-loop .loop .inv .long .out, at-head .head .kept .1 .1 .0)
 
--- src/lib.rt:187:21
+-- src/lib.rt:186:21
 transform-block-same-length-8 : (t : ℕ) → transform-block-lts.Need-same-length-8 (transform-block-claims t) (transform-block-at t) transform-block.Post transform-block-Inv-loop transform-block-μ-loop
 transform-block-same-length-8 t c =
     let at-next-change = c .before .before .before .before .before .before .before .before .before .before .before .before .before .before in
     let at-loop = at-next-change .before .before .before .before .before .before .before .before .before .before .before .before .before .before .before .before in
     omega (arith, at-next-change .next-change .kept .1 .1 .1 .1 .1 .1 .1 .1 .1 .1 .1 .1 .0, at-loop .loop .inv .long .errs)
 
--- src/lib.rt:187:21
+-- src/lib.rt:186:21
 transform-block-same-length-9 : (t : ℕ) → transform-block-lts.Need-same-length-9 (transform-block-claims t) (transform-block-at t) transform-block.Post transform-block-Inv-loop transform-block-μ-loop
 transform-block-same-length-9 t c =
     let at-next-change = c .before .before .before .before .before .before .before .before .before .before .before .before .before .before in
     let at-loop = at-next-change .before .before .before .before .before .before .before .before .before .before .before .before .before .before .before .before in
     omega (arith, at-next-change .next-change .kept .1 .1 .1 .1 .1 .1 .1 .1 .1 .1 .1 .1 .1 .0, at-loop .loop .inv .long .warns)
 
--- src/lib.rt:187:21
+-- src/lib.rt:186:21
 transform-block-same-length-10 : (t : ℕ) → transform-block-lts.Need-same-length-10 (transform-block-claims t) (transform-block-at t) transform-block.Post transform-block-Inv-loop transform-block-μ-loop
 transform-block-same-length-10 t c =
     let at-next-change = c .before .before .before .before .before .before .before .before .before .before .before .before .before .before in
     let at-loop = at-next-change .before .before .before .before .before .before .before .before .before .before .before .before .before .before .before .before in
     omega (arith, at-next-change .next-change .kept .1 .1 .1 .1 .1 .1 .1 .1 .1 .1 .1 .1 .1 .1 .0, at-loop .loop .inv .long .lefts)
 
--- src/lib.rt:187:21
+-- src/lib.rt:186:21
 transform-block-returns-2 : (t : ℕ) → transform-block-lts.Need-returns-2 (transform-block-claims t) (transform-block-at t) transform-block.Post transform-block-Inv-loop transform-block-μ-loop
 transform-block-returns-2 t c =
     let at-full = c .before in
@@ -519,17 +519,17 @@ transform-block-returns-2 t c =
     let q = done-as _ _ (start .args .env) (at-inner .inner .result) _ _ _ _ _ _ _ _ _ _ _ _ _ (at-inner .inner .ensures) (at-place-in .place-in .ensures) d in
     ((q .comes, q .nodes), q .walks)
 
--- src/lib.rt:193:53
+-- src/lib.rt:192:53
 transform-block-cast-auto-deleted : (t : ℕ) → transform-block-lts.Need-cast-auto-deleted (transform-block-claims t) (transform-block-at t) transform-block.Post transform-block-Inv-loop transform-block-μ-loop
 transform-block-cast-auto-deleted t c = search needs
 
--- src/lib.rt:193:21
+-- src/lib.rt:192:21
 transform-block-auto-deleted-requires : (t : ℕ) → transform-block-lts.Need-auto-deleted-requires (transform-block-claims t) (transform-block-at t) transform-block.Post transform-block-Inv-loop transform-block-μ-loop
 transform-block-auto-deleted-requires t c κs =
     let start = c .before .before .before .before .before .before .before .before .before .before .before .before .before .before .before .before .before .before .before .before .before .before .before .before .before .before .before .before .before .before .before .before .before .before .before .before .before .before .before .before .before .before .before .before .before .before in
     (start .pre .1 .0 .lent .filled .size, start .pre .1 .0 .lent .filled .fewTypes)
 
--- src/lib.rt:189:21
+-- src/lib.rt:188:21
 transform-block-register-local-requires : (t : ℕ) → transform-block-lts.Need-register-local-requires (transform-block-claims t) (transform-block-at t) transform-block.Post transform-block-Inv-loop transform-block-μ-loop
 transform-block-register-local-requires t c κs =
     let at-if1 = c .before in
@@ -538,25 +538,25 @@ transform-block-register-local-requires t c κs =
     let start = at-loop .before .before .before .before .before .before .before .before .before .before .before .before .before .before .before .before in
     (at-loop .loop .inv .owned .sound .kept, omega (arith, at-full .full .ensures .1 (at-if1 .if1 .left), start .pre .1 .0 .limit))
 
--- src/lib.rt:195:20
+-- src/lib.rt:194:20
 transform-block-needs-revival-requires : (t : ℕ) → transform-block-lts.Need-needs-revival-requires (transform-block-claims t) (transform-block-at t) transform-block.Post transform-block-Inv-loop transform-block-μ-loop
 transform-block-needs-revival-requires t c κs = search needs
 
--- src/lib.rt:196:26
+-- src/lib.rt:195:26
 transform-block-mark-requires-2 : (t : ℕ) → transform-block-lts.Need-mark-requires-2 (transform-block-claims t) (transform-block-at t) transform-block.Post transform-block-Inv-loop transform-block-μ-loop
 transform-block-mark-requires-2 t c κs =
     let at-register-local = c .before .before .before .before .before .before .before .before in
     let at-loop = at-register-local .before .before .before .before .before .before .before .before .before .before .before .before .before .before .before .before .before .before .before .before .before .before .before .before .before .before .before .before .before .before .before .before in
     (at-loop .loop .inv .owned .sound .held, at-register-local .register-local .ensures .kept .small, omega arith)
 
--- src/lib.rt:143:5
+-- src/lib.rt:142:5
 transform-block-loop-less-3 : (t : ℕ) → transform-block-lts.Need-loop-less-3 (transform-block-claims t) (transform-block-at t) transform-block.Post transform-block-Inv-loop transform-block-μ-loop
 transform-block-loop-less-3 t c =
     let at-turn2 = c .before .before .before .before .before .before .before .before .before .before .before .before .before .before in
     let at-next-change = at-turn2 .before .before .before .before .before .before .before .before .before .before .before in
     at-next-change .next-change .ensures .1 .3 (λ z. register-goes _ _ (sym (at-turn2 .turn2 .given .1) ∙ z))
 
--- src/lib.rt:143:5
+-- src/lib.rt:142:5
 transform-block-loop-again-3 : (t : ℕ) → transform-block-lts.Need-loop-again-3 (transform-block-claims t) (transform-block-at t) transform-block.Post transform-block-Inv-loop transform-block-μ-loop
 transform-block-loop-again-3 t c =
     let at-register-local = c .before .before .before .before .before .before .before .before .before in
@@ -575,14 +575,14 @@ transform-block-loop-again-3 t c =
     (at-register-local .register-local .ensures) (omega (arith, at-full .full .ensures .1 (at-if1 .if1 .left), start .pre .1 .0 .limit)) 0 (c .mark2 .result) (c .mark2 .ensures .0)
     (c .mark2 .ensures .1 (at-register-local .register-local .result) refl refl refl)
 
--- src/lib.rt:143:5
+-- src/lib.rt:142:5
 transform-block-loop-less-4 : (t : ℕ) → transform-block-lts.Need-loop-less-4 (transform-block-claims t) (transform-block-at t) transform-block.Post transform-block-Inv-loop transform-block-μ-loop
 transform-block-loop-less-4 t c =
     let at-turn2 = c .before .before .before .before .before .before .before .before .before .before in
     let at-next-change = at-turn2 .before .before .before .before .before .before .before .before .before .before .before in
     at-next-change .next-change .ensures .1 .3 (λ z. register-goes _ _ (sym (at-turn2 .turn2 .given .1) ∙ z))
 
--- src/lib.rt:143:5
+-- src/lib.rt:142:5
 transform-block-loop-again-4 : (t : ℕ) → transform-block-lts.Need-loop-again-4 (transform-block-claims t) (transform-block-at t) transform-block.Post transform-block-Inv-loop transform-block-μ-loop
 transform-block-loop-again-4 t c =
     let at-needs-revival = c .before in
@@ -603,17 +603,17 @@ transform-block-loop-again-4 t c =
     (at-register-local .register-local .ensures) (omega (arith, at-full .full .ensures .1 (at-if1 .if1 .left), start .pre .1 .0 .limit))
     (at-needs-revival .needs-revival .ensures (aliveAt (at-loop .loop .st)) (at-loop .loop .inv .owned .sound .held .word) (c .if2 .left))
 
--- src/lib.rt:199:26
+-- src/lib.rt:198:26
 transform-block-enum-known-turn-3 : (t : ℕ) → transform-block-lts.Need-enum-known-turn-3 (transform-block-claims t) (transform-block-at t) transform-block.Post transform-block-Inv-loop transform-block-μ-loop
 transform-block-enum-known-turn-3 t c = search needs
 
--- src/lib.rt:200:17
+-- src/lib.rt:199:17
 transform-block-put-place-requires : (t : ℕ) → transform-block-lts.Need-put-place-requires (transform-block-claims t) (transform-block-at t) transform-block.Post transform-block-Inv-loop transform-block-μ-loop
 transform-block-put-place-requires t c κs =
     let at-loop = c .before .before .before .before .before .before .before .before .before .before .before .before .before .before .before .before .before .before .before .before .before .before .before .before .before .before .before .before .before in
     at-loop .loop .inv .long .pl
 
--- src/lib.rt:201:22
+-- src/lib.rt:200:22
 transform-block-transform-blocks-requires : (t : ℕ) → transform-block-lts.Need-transform-blocks-requires (transform-block-claims t) (transform-block-at t) transform-block.Post transform-block-Inv-loop transform-block-μ-loop
 transform-block-transform-blocks-requires t c κs =
     let at-put-place = c .before .before .before .before .before .before .before in
@@ -645,18 +645,18 @@ transform-block-transform-blocks-requires t c κs =
       ),
     )
 
--- src/lib.rt:216:24
+-- src/lib.rt:215:24
 transform-block-element-copy-out-if3 : (t : ℕ) → transform-block-lts.Need-element-copy-out-if3 (transform-block-claims t) (transform-block-at t) transform-block.Post transform-block-Inv-loop transform-block-μ-loop
 transform-block-element-copy-out-if3 t c = search needs
 
--- src/lib.rt:217:21
+-- src/lib.rt:216:21
 transform-block-same-length-11 : (t : ℕ) → transform-block-lts.Need-same-length-11 (transform-block-claims t) (transform-block-at t) transform-block.Post transform-block-Inv-loop transform-block-μ-loop
 transform-block-same-length-11 t c =
     let at-transform-blocks = c .before .before .before .before .before .before .before .before .before .before .before .before in
     let at-loop = at-transform-blocks .before .before .before .before .before .before .before .before .before .before .before .before .before .before .before .before .before .before .before .before .before .before .before .before .before .before .before .before .before .before .before .before .before .before .before .before .before .before in
     omega (arith, at-transform-blocks .transform-blocks .kept .1 .1 .1 .1 .1 .1 .0, at-loop .loop .inv .owned .below .room)
 
--- src/lib.rt:217:21
+-- src/lib.rt:216:21
 transform-block-same-length-12 : (t : ℕ) → transform-block-lts.Need-same-length-12 (transform-block-claims t) (transform-block-at t) transform-block.Post transform-block-Inv-loop transform-block-μ-loop
 transform-block-same-length-12 t c =
     let at-transform-blocks = c .before .before .before .before .before .before .before .before .before .before .before .before in
@@ -665,7 +665,7 @@ transform-block-same-length-12 t c =
     let at-head = at-loop .before .before .before in
     omega (arith, at-transform-blocks .transform-blocks .kept .1 .1 .1 .1 .1 .1 .1 .1 .0, at-next-change .next-change .kept .1 .1 .1 .1 .1 .1 .1 .1 .1 .1 .1 .0, at-loop .loop .inv .long .out, at-head .head .kept .1 .1 .0)
 
--- src/lib.rt:217:21
+-- src/lib.rt:216:21
 transform-block-same-length-13 : (t : ℕ) → transform-block-lts.Need-same-length-13 (transform-block-claims t) (transform-block-at t) transform-block.Post transform-block-Inv-loop transform-block-μ-loop
 transform-block-same-length-13 t c =
     let at-transform-blocks = c .before .before .before .before .before .before .before .before .before .before .before .before in
@@ -673,7 +673,7 @@ transform-block-same-length-13 t c =
     let at-loop = at-next-change .before .before .before .before .before .before .before .before .before .before .before .before .before .before .before .before in
     omega (arith, at-transform-blocks .transform-blocks .kept .1 .1 .1 .1 .1 .1 .1 .1 .1 .0, at-next-change .next-change .kept .1 .1 .1 .1 .1 .1 .1 .1 .1 .1 .1 .1 .0, at-loop .loop .inv .long .errs)
 
--- src/lib.rt:217:21
+-- src/lib.rt:216:21
 transform-block-same-length-14 : (t : ℕ) → transform-block-lts.Need-same-length-14 (transform-block-claims t) (transform-block-at t) transform-block.Post transform-block-Inv-loop transform-block-μ-loop
 transform-block-same-length-14 t c =
     let at-transform-blocks = c .before .before .before .before .before .before .before .before .before .before .before .before in
@@ -681,7 +681,7 @@ transform-block-same-length-14 t c =
     let at-loop = at-next-change .before .before .before .before .before .before .before .before .before .before .before .before .before .before .before .before in
     omega (arith, at-transform-blocks .transform-blocks .kept .1 .1 .1 .1 .1 .1 .1 .1 .1 .1 .0, at-next-change .next-change .kept .1 .1 .1 .1 .1 .1 .1 .1 .1 .1 .1 .1 .1 .0, at-loop .loop .inv .long .warns)
 
--- src/lib.rt:217:21
+-- src/lib.rt:216:21
 transform-block-same-length-15 : (t : ℕ) → transform-block-lts.Need-same-length-15 (transform-block-claims t) (transform-block-at t) transform-block.Post transform-block-Inv-loop transform-block-μ-loop
 transform-block-same-length-15 t c =
     let at-transform-blocks = c .before .before .before .before .before .before .before .before .before .before .before .before in
@@ -689,7 +689,7 @@ transform-block-same-length-15 t c =
     let at-loop = at-next-change .before .before .before .before .before .before .before .before .before .before .before .before .before .before .before .before in
     omega (arith, at-transform-blocks .transform-blocks .kept .1 .1 .1 .1 .1 .1 .1 .1 .1 .1 .1 .0, at-next-change .next-change .kept .1 .1 .1 .1 .1 .1 .1 .1 .1 .1 .1 .1 .1 .1 .0, at-loop .loop .inv .long .lefts)
 
--- src/lib.rt:217:21
+-- src/lib.rt:216:21
 transform-block-returns-3 : (t : ℕ) → transform-block-lts.Need-returns-3 (transform-block-claims t) (transform-block-at t) transform-block.Post transform-block-Inv-loop transform-block-μ-loop
 transform-block-returns-3 t c =
     let at-transform-blocks = c .before .before .before .before .before .before .before .before .before .before .before .before in
@@ -720,11 +720,11 @@ transform-block-returns-3 t c =
     let q = done-as _ _ (start .args .env) (at-inner .inner .result) _ _ _ _ _ _ _ _ _ _ _ _ _ (at-inner .inner .ensures) (at-place-in .place-in .ensures) d in
     ((q .comes, q .nodes), q .walks)
 
--- src/lib.rt:219:17
+-- src/lib.rt:218:17
 transform-block-resumed-requires : (t : ℕ) → transform-block-lts.Need-resumed-requires (transform-block-claims t) (transform-block-at t) transform-block.Post transform-block-Inv-loop transform-block-μ-loop
 transform-block-resumed-requires t c κs = tt
 
--- src/lib.rt:143:5
+-- src/lib.rt:142:5
 transform-block-loop-less-5 : (t : ℕ) → transform-block-lts.Need-loop-less-5 (transform-block-claims t) (transform-block-at t) transform-block.Post transform-block-Inv-loop transform-block-μ-loop
 transform-block-loop-less-5 t c =
     let at-if3 = c .before .before in
@@ -748,7 +748,7 @@ transform-block-loop-less-5 t c =
     (at-transform-blocks .transform-blocks .last .1 .1 .1 .1 .1 .1 .1 .0) (b .0 .1) _
     (at-next-change .next-change .ensures .1 .3 (λ z. blocks-go _ (sym (at-turn3 .turn3 .given .1) ∙ z))) _ _ (c .resumed .ensures)
 
--- src/lib.rt:143:5
+-- src/lib.rt:142:5
 transform-block-loop-again-5 : (t : ℕ) → transform-block-lts.Need-loop-again-5 (transform-block-claims t) (transform-block-at t) transform-block.Post transform-block-Inv-loop transform-block-μ-loop
 transform-block-loop-again-5 t c =
     let at-if3 = c .before .before in
@@ -775,7 +775,7 @@ transform-block-loop-again-5 t c =
     (at-transform-blocks .transform-blocks .kept .1 .1 .1 .1 .1 .1 .1 .1 .1 .1 .0)
     (at-transform-blocks .transform-blocks .kept .1 .1 .1 .1 .1 .1 .1 .1 .1 .1 .1 .0) _ refl _ (c .resumed .ensures)
 
--- src/lib.rt:83:9
+-- src/lib.rt:82:9
 transform-blocks-transform-block-requires : (t : ℕ) → transform-blocks-lts.Need-transform-block-requires (transform-blocks-claims t) (transform-blocks-at t) transform-blocks.Post
 transform-blocks-transform-block-requires t c κs =
     let at-shared-slice-known = c .before .before .before .before .before .before .before .before .before .before .before .before .before .before in
@@ -793,27 +793,27 @@ transform-blocks-transform-block-requires t c κs =
       ),
     )
 
--- src/lib.rt:83:9
+-- src/lib.rt:82:9
 transform-blocks-same-length : (t : ℕ) → transform-blocks-lts.Need-same-length (transform-blocks-claims t) (transform-blocks-at t) transform-blocks.Post
 transform-blocks-same-length t c = omega arith
 
--- src/lib.rt:83:9
+-- src/lib.rt:82:9
 transform-blocks-same-length-2 : (t : ℕ) → transform-blocks-lts.Need-same-length-2 (transform-blocks-claims t) (transform-blocks-at t) transform-blocks.Post
 transform-blocks-same-length-2 t c = omega arith
 
--- src/lib.rt:83:9
+-- src/lib.rt:82:9
 transform-blocks-same-length-3 : (t : ℕ) → transform-blocks-lts.Need-same-length-3 (transform-blocks-claims t) (transform-blocks-at t) transform-blocks.Post
 transform-blocks-same-length-3 t c = omega arith
 
--- src/lib.rt:83:9
+-- src/lib.rt:82:9
 transform-blocks-same-length-4 : (t : ℕ) → transform-blocks-lts.Need-same-length-4 (transform-blocks-claims t) (transform-blocks-at t) transform-blocks.Post
 transform-blocks-same-length-4 t c = omega arith
 
--- src/lib.rt:83:9
+-- src/lib.rt:82:9
 transform-blocks-same-length-5 : (t : ℕ) → transform-blocks-lts.Need-same-length-5 (transform-blocks-claims t) (transform-blocks-at t) transform-blocks.Post
 transform-blocks-same-length-5 t c = omega arith
 
--- src/lib.rt:83:9
+-- src/lib.rt:82:9
 transform-blocks-returns : (t : ℕ) → transform-blocks-lts.Need-returns (transform-blocks-claims t) (transform-blocks-at t) transform-blocks.Post
 transform-blocks-returns t c =
     let at-transform-block = c .before .before .before .before .before .before .before .before .before .before in
@@ -835,7 +835,7 @@ transform-blocks-returns t c =
       },
     )
 
--- src/lib.rt:86:9
+-- src/lib.rt:85:9
 transform-blocks-behind-requires : (t : ℕ) → transform-blocks-lts.Need-behind-requires (transform-blocks-claims t) (transform-blocks-at t) transform-blocks.Post
 transform-blocks-behind-requires t c κs =
     let at-shared-slice-known = c .before .before .before .before .before .before .before in
@@ -847,7 +847,7 @@ transform-blocks-behind-requires t c κs =
           (start .args .rows .now) (start .args .pl .now) (start .pre .1 .0) (start .pre .1 .1) (start .pre .1 .3) .2,
     )
 
--- src/lib.rt:87:9
+-- src/lib.rt:86:9
 transform-blocks-branch-rows-requires : (t : ℕ) → transform-blocks-lts.Need-branch-rows-requires (transform-blocks-claims t) (transform-blocks-at t) transform-blocks.Post
 transform-blocks-branch-rows-requires t c κs =
     let at-behind = c .before .before .before in
@@ -860,15 +860,15 @@ transform-blocks-branch-rows-requires t c κs =
     (blocks-bytes t at-shared-slice-known) (start .args .env) (start .args .tag) (start .args .l) (start .args .t6)
     (start .args .rows .now) (start .args .pl .now) (start .pre .1 .0) (start .pre .1 .1) (start .pre .1 .3) .0))
 
--- src/lib.rt:88:9
+-- src/lib.rt:87:9
 transform-blocks-element-write-pl : (t : ℕ) → transform-blocks-lts.Need-element-write-pl (transform-blocks-claims t) (transform-blocks-at t) transform-blocks.Post
 transform-blocks-element-write-pl t c = search needs
 
--- src/lib.rt:89:9
+-- src/lib.rt:88:9
 transform-blocks-same-length-6 : (t : ℕ) → transform-blocks-lts.Need-same-length-6 (transform-blocks-claims t) (transform-blocks-at t) transform-blocks.Post
 transform-blocks-same-length-6 t c = omega arith
 
--- src/lib.rt:89:9
+-- src/lib.rt:88:9
 transform-blocks-returns-2 : (t : ℕ) → transform-blocks-lts.Need-returns-2 (transform-blocks-claims t) (transform-blocks-at t) transform-blocks.Post
 transform-blocks-returns-2 t c =
     let at-branch-rows = c .before .before .before in
@@ -893,7 +893,7 @@ transform-blocks-returns-2 t c =
       λ T sy reach. absurd (reach f),
     )
 
--- src/lib.rt:91:9
+-- src/lib.rt:90:9
 transform-blocks-transform-block-requires-2 : (t : ℕ) → transform-blocks-lts.Need-transform-block-requires-2 (transform-blocks-claims t) (transform-blocks-at t) transform-blocks.Post
 transform-blocks-transform-block-requires-2 t c κs =
     let at-if2 = c .before .before .before .before .before .before .before in
@@ -915,31 +915,31 @@ transform-blocks-transform-block-requires-2 t c κs =
           (start .args .rows .now) (start .args .pl .now) (start .pre .1 .0) (start .pre .1 .1) (start .pre .1 .3) .1) (start .pre .1 .4) (start .pre .1 .5),
     )
 
--- src/lib.rt:92:12
+-- src/lib.rt:91:12
 transform-blocks-element-copy-out-if3 : (t : ℕ) → transform-blocks-lts.Need-element-copy-out-if3 (transform-blocks-claims t) (transform-blocks-at t) transform-blocks.Post
 transform-blocks-element-copy-out-if3 t c = search needs
 
--- src/lib.rt:93:9
+-- src/lib.rt:92:9
 transform-blocks-same-length-7 : (t : ℕ) → transform-blocks-lts.Need-same-length-7 (transform-blocks-claims t) (transform-blocks-at t) transform-blocks.Post
 transform-blocks-same-length-7 t c = omega arith
 
--- src/lib.rt:93:9
+-- src/lib.rt:92:9
 transform-blocks-same-length-8 : (t : ℕ) → transform-blocks-lts.Need-same-length-8 (transform-blocks-claims t) (transform-blocks-at t) transform-blocks.Post
 transform-blocks-same-length-8 t c = omega arith
 
--- src/lib.rt:93:9
+-- src/lib.rt:92:9
 transform-blocks-same-length-9 : (t : ℕ) → transform-blocks-lts.Need-same-length-9 (transform-blocks-claims t) (transform-blocks-at t) transform-blocks.Post
 transform-blocks-same-length-9 t c = omega arith
 
--- src/lib.rt:93:9
+-- src/lib.rt:92:9
 transform-blocks-same-length-10 : (t : ℕ) → transform-blocks-lts.Need-same-length-10 (transform-blocks-claims t) (transform-blocks-at t) transform-blocks.Post
 transform-blocks-same-length-10 t c = omega arith
 
--- src/lib.rt:93:9
+-- src/lib.rt:92:9
 transform-blocks-same-length-11 : (t : ℕ) → transform-blocks-lts.Need-same-length-11 (transform-blocks-claims t) (transform-blocks-at t) transform-blocks.Post
 transform-blocks-same-length-11 t c = omega arith
 
--- src/lib.rt:93:9
+-- src/lib.rt:92:9
 transform-blocks-returns-3 : (t : ℕ) → transform-blocks-lts.Need-returns-3 (transform-blocks-claims t) (transform-blocks-at t) transform-blocks.Post
 transform-blocks-returns-3 t c =
     let at-transform-block2 = c .before .before .before .before .before .before .before .before .before .before .before .before in
@@ -969,7 +969,7 @@ transform-blocks-returns-3 t c =
           (c .if3 .taken) which,
     )
 
--- src/lib.rt:95:8
+-- src/lib.rt:94:8
 transform-blocks-then-over-requires : (t : ℕ) → transform-blocks-lts.Need-then-over-requires (transform-blocks-claims t) (transform-blocks-at t) transform-blocks.Post
 transform-blocks-then-over-requires t c κs =
     let at-if3 = c .before .before in
@@ -984,7 +984,7 @@ transform-blocks-then-over-requires t c κs =
       come .room,
     )
 
--- src/lib.rt:96:9
+-- src/lib.rt:95:9
 transform-blocks-transform-else-requires : (t : ℕ) → transform-blocks-lts.Need-transform-else-requires (transform-blocks-claims t) (transform-blocks-at t) transform-blocks.Post
 transform-blocks-transform-else-requires t c κs =
     let at-if4 = c .before .before .before .before .before .before .before in
@@ -1034,7 +1034,7 @@ transform-blocks-transform-else-requires t c κs =
       ),
     )
 
--- src/lib.rt:96:9
+-- src/lib.rt:95:9
 transform-blocks-same-length-12 : (t : ℕ) → transform-blocks-lts.Need-same-length-12 (transform-blocks-claims t) (transform-blocks-at t) transform-blocks.Post
 transform-blocks-same-length-12 t c =
     let at-transform-else = c .before .before .before .before .before .before .before .before .before .before in
@@ -1042,7 +1042,7 @@ transform-blocks-same-length-12 t c =
     let at-branch-rows = at-transform-block2 .before .before .before .before .before .before .before .before .before .before .before in
     omega (arith, at-transform-else .transform-else .kept .1 .1 .1 .1 .1 .1 .0, at-transform-block2 .transform-block2 .kept .1 .1 .1 .1 .1 .0, at-branch-rows .branch-rows .kept .1 .1 .0)
 
--- src/lib.rt:96:9
+-- src/lib.rt:95:9
 transform-blocks-same-length-13 : (t : ℕ) → transform-blocks-lts.Need-same-length-13 (transform-blocks-claims t) (transform-blocks-at t) transform-blocks.Post
 transform-blocks-same-length-13 t c =
     let at-transform-else = c .before .before .before .before .before .before .before .before .before .before in
@@ -1050,28 +1050,28 @@ transform-blocks-same-length-13 t c =
     let at-transform-block2 = at-then-over .before .before .before .before .before .before .before .before .before .before .before .before .before .before .before in
     omega (arith, at-transform-else .transform-else .kept .1 .1 .1 .1 .1 .1 .1 .1 .0, at-then-over .then-over .kept .1 .1 .0, at-transform-block2 .transform-block2 .kept .1 .1 .1 .1 .1 .1 .1 .0)
 
--- src/lib.rt:96:9
+-- src/lib.rt:95:9
 transform-blocks-same-length-14 : (t : ℕ) → transform-blocks-lts.Need-same-length-14 (transform-blocks-claims t) (transform-blocks-at t) transform-blocks.Post
 transform-blocks-same-length-14 t c =
     let at-transform-else = c .before .before .before .before .before .before .before .before .before .before in
     let at-transform-block2 = at-transform-else .before .before .before .before .before .before .before .before .before .before .before .before .before .before .before .before .before .before .before .before .before .before .before .before .before .before in
     omega (arith, at-transform-else .transform-else .kept .1 .1 .1 .1 .1 .1 .1 .1 .1 .0, at-transform-block2 .transform-block2 .kept .1 .1 .1 .1 .1 .1 .1 .1 .0)
 
--- src/lib.rt:96:9
+-- src/lib.rt:95:9
 transform-blocks-same-length-15 : (t : ℕ) → transform-blocks-lts.Need-same-length-15 (transform-blocks-claims t) (transform-blocks-at t) transform-blocks.Post
 transform-blocks-same-length-15 t c =
     let at-transform-else = c .before .before .before .before .before .before .before .before .before .before in
     let at-transform-block2 = at-transform-else .before .before .before .before .before .before .before .before .before .before .before .before .before .before .before .before .before .before .before .before .before .before .before .before .before .before in
     omega (arith, at-transform-else .transform-else .kept .1 .1 .1 .1 .1 .1 .1 .1 .1 .1 .0, at-transform-block2 .transform-block2 .kept .1 .1 .1 .1 .1 .1 .1 .1 .1 .0)
 
--- src/lib.rt:96:9
+-- src/lib.rt:95:9
 transform-blocks-same-length-16 : (t : ℕ) → transform-blocks-lts.Need-same-length-16 (transform-blocks-claims t) (transform-blocks-at t) transform-blocks.Post
 transform-blocks-same-length-16 t c =
     let at-transform-else = c .before .before .before .before .before .before .before .before .before .before in
     let at-transform-block2 = at-transform-else .before .before .before .before .before .before .before .before .before .before .before .before .before .before .before .before .before .before .before .before .before .before .before .before .before .before in
     omega (arith, at-transform-else .transform-else .kept .1 .1 .1 .1 .1 .1 .1 .1 .1 .1 .1 .0, at-transform-block2 .transform-block2 .kept .1 .1 .1 .1 .1 .1 .1 .1 .1 .1 .0)
 
--- src/lib.rt:96:9
+-- src/lib.rt:95:9
 transform-blocks-returns-4 : (t : ℕ) → transform-blocks-lts.Need-returns-4 (transform-blocks-claims t) (transform-blocks-at t) transform-blocks.Post
 transform-blocks-returns-4 t c =
     let at-transform-else = c .before .before .before .before .before .before .before .before .before .before in
@@ -1113,7 +1113,7 @@ transform-blocks-returns-4 t c =
           (at-transform-else .transform-else .ensures .1 T sy reach),
     )
 
--- src/lib.rt:112:5
+-- src/lib.rt:111:5
 transform-blocks-merge-first-requires : (t : ℕ) → transform-blocks-lts.Need-merge-first-requires (transform-blocks-claims t) (transform-blocks-at t) transform-blocks.Post
 transform-blocks-merge-first-requires t c κs =
     let at-then-over = c .before .before .before .before .before in
@@ -1143,7 +1143,7 @@ transform-blocks-merge-first-requires t c κs =
       told .1,
     )
 
--- src/lib.rt:60:1
+-- src/lib.rt:59:1
 transform-blocks-same-length-17 : (t : ℕ) → transform-blocks-lts.Need-same-length-17 (transform-blocks-claims t) (transform-blocks-at t) transform-blocks.Post
 transform-blocks-same-length-17 t c =
     let at-merge-first = c .before .before in
@@ -1151,23 +1151,23 @@ transform-blocks-same-length-17 t c =
     let at-branch-rows = at-transform-block2 .before .before .before .before .before .before .before .before .before .before .before in
     omega (arith, at-merge-first .merge-first .kept .1 .1 .1 .0, at-transform-block2 .transform-block2 .kept .1 .1 .1 .1 .1 .0, at-branch-rows .branch-rows .kept .1 .1 .0)
 
--- src/lib.rt:60:1
+-- src/lib.rt:59:1
 transform-blocks-same-length-18 : (t : ℕ) → transform-blocks-lts.Need-same-length-18 (transform-blocks-claims t) (transform-blocks-at t) transform-blocks.Post
 transform-blocks-same-length-18 t c = omega arith
 
--- src/lib.rt:60:1
+-- src/lib.rt:59:1
 transform-blocks-same-length-19 : (t : ℕ) → transform-blocks-lts.Need-same-length-19 (transform-blocks-claims t) (transform-blocks-at t) transform-blocks.Post
 transform-blocks-same-length-19 t c = omega arith
 
--- src/lib.rt:60:1
+-- src/lib.rt:59:1
 transform-blocks-same-length-20 : (t : ℕ) → transform-blocks-lts.Need-same-length-20 (transform-blocks-claims t) (transform-blocks-at t) transform-blocks.Post
 transform-blocks-same-length-20 t c = omega arith
 
--- src/lib.rt:60:1
+-- src/lib.rt:59:1
 transform-blocks-same-length-21 : (t : ℕ) → transform-blocks-lts.Need-same-length-21 (transform-blocks-claims t) (transform-blocks-at t) transform-blocks.Post
 transform-blocks-same-length-21 t c = omega arith
 
--- src/lib.rt:60:1
+-- src/lib.rt:59:1
 transform-blocks-returns-5 : (t : ℕ) → transform-blocks-lts.Need-returns-5 (transform-blocks-claims t) (transform-blocks-at t) transform-blocks.Post
 transform-blocks-returns-5 t c =
     let at-merge-first = c .before .before in
@@ -1252,24 +1252,24 @@ transform-blocks-returns-5 t c =
     ))
     which
 
--- src/lib.rt:49:16
+-- src/lib.rt:48:16
 transform-else-element-copy-out-sure : (t : ℕ) → transform-else-lts.Need-element-copy-out-sure (transform-else-claims t) (transform-else-at t) transform-else.Post
 transform-else-element-copy-out-sure t c = search needs
 
--- src/lib.rt:50:34
+-- src/lib.rt:49:34
 transform-else-behind-requires : (t : ℕ) → transform-else-lts.Need-behind-requires (transform-else-claims t) (transform-else-at t) transform-else.Post
 transform-else-behind-requires t c κs =
     let start = c .before .before .before .before .before .before .before .before in
     (start .pre .1 .0 .sound .kept .small, start .pre .1 .0 .width, omega (arith, start .pre .1 .2))
 
--- src/lib.rt:50:9
+-- src/lib.rt:49:9
 transform-else-behind-requires-2 : (t : ℕ) → transform-else-lts.Need-behind-requires-2 (transform-else-claims t) (transform-else-at t) transform-else.Post
 transform-else-behind-requires-2 t c κs =
     let start = c .before .before .before .before .before .before .before .before .before in
     behind-asked (start .args .s .now) (start .args .tb .now) (start .args .env) (start .args .l) (start .args .t6) _ _
     (start .pre .1 .0) (start .pre .1 .2) _ (c .behind .ensures)
 
--- src/lib.rt:51:9
+-- src/lib.rt:50:9
 transform-else-branch-rows-requires : (t : ℕ) → transform-else-lts.Need-branch-rows-requires (transform-else-claims t) (transform-else-at t) transform-else.Post
 transform-else-branch-rows-requires t c κs =
     let at-behind2 = c .before .before .before in
@@ -1283,15 +1283,15 @@ transform-else-branch-rows-requires t c κs =
     (to-branch (start .args .s .now) (start .args .tb .now) (start .args .env) (start .args .l) (start .args .t6) _
     _ (start .pre .1 .0) _ (low .2) (low .0))
 
--- src/lib.rt:52:9
+-- src/lib.rt:51:9
 transform-else-element-write-pl : (t : ℕ) → transform-else-lts.Need-element-write-pl (transform-else-claims t) (transform-else-at t) transform-else.Post
 transform-else-element-write-pl t c = search needs
 
--- src/lib.rt:53:9
+-- src/lib.rt:52:9
 transform-else-same-length : (t : ℕ) → transform-else-lts.Need-same-length (transform-else-claims t) (transform-else-at t) transform-else.Post
 transform-else-same-length t c = omega arith
 
--- src/lib.rt:53:9
+-- src/lib.rt:52:9
 transform-else-returns : (t : ℕ) → transform-else-lts.Need-returns (transform-else-claims t) (transform-else-at t) transform-else.Post
 transform-else-returns t c =
     let at-branch-rows = c .before .before .before in
@@ -1319,7 +1319,7 @@ transform-else-returns t c =
       λ T sy reach. absurd (reach f),
     )
 
--- src/lib.rt:55:9
+-- src/lib.rt:54:9
 transform-else-transform-block-requires : (t : ℕ) → transform-else-lts.Need-transform-block-requires (transform-else-claims t) (transform-else-at t) transform-else.Post
 transform-else-transform-block-requires t c κs =
     let at-if1 = c .before .before .before .before .before .before .before in
@@ -1339,7 +1339,7 @@ transform-else-transform-block-requires t c κs =
           (start .pre .1 .4) (start .pre .1 .5),
     )
 
--- src/lib.rt:56:5
+-- src/lib.rt:55:5
 transform-else-merge-else-requires : (t : ℕ) → transform-else-lts.Need-merge-else-requires (transform-else-claims t) (transform-else-at t) transform-else.Post
 transform-else-merge-else-requires t c κs =
     let at-transform-block = c .before .before .before .before .before .before .before .before .before .before .before .before in
@@ -1359,7 +1359,7 @@ transform-else-merge-else-requires t c κs =
       come .room,
     )
 
--- src/lib.rt:26:1
+-- src/lib.rt:25:1
 transform-else-same-length-2 : (t : ℕ) → transform-else-lts.Need-same-length-2 (transform-else-claims t) (transform-else-at t) transform-else.Post
 transform-else-same-length-2 t c =
     let at-merge-else = c .before .before in
@@ -1367,23 +1367,23 @@ transform-else-same-length-2 t c =
     let at-branch-rows = at-transform-block .before .before .before .before .before .before .before .before .before .before .before in
     omega (arith, at-merge-else .merge-else .kept .1 .1 .1 .1 .1 .0, at-transform-block .transform-block .kept .1 .1 .1 .1 .1 .0, at-branch-rows .branch-rows .kept .1 .1 .0)
 
--- src/lib.rt:26:1
+-- src/lib.rt:25:1
 transform-else-same-length-3 : (t : ℕ) → transform-else-lts.Need-same-length-3 (transform-else-claims t) (transform-else-at t) transform-else.Post
 transform-else-same-length-3 t c = omega arith
 
--- src/lib.rt:26:1
+-- src/lib.rt:25:1
 transform-else-same-length-4 : (t : ℕ) → transform-else-lts.Need-same-length-4 (transform-else-claims t) (transform-else-at t) transform-else.Post
 transform-else-same-length-4 t c = omega arith
 
--- src/lib.rt:26:1
+-- src/lib.rt:25:1
 transform-else-same-length-5 : (t : ℕ) → transform-else-lts.Need-same-length-5 (transform-else-claims t) (transform-else-at t) transform-else.Post
 transform-else-same-length-5 t c = omega arith
 
--- src/lib.rt:26:1
+-- src/lib.rt:25:1
 transform-else-same-length-6 : (t : ℕ) → transform-else-lts.Need-same-length-6 (transform-else-claims t) (transform-else-at t) transform-else.Post
 transform-else-same-length-6 t c = omega arith
 
--- src/lib.rt:26:1
+-- src/lib.rt:25:1
 transform-else-returns-2 : (t : ℕ) → transform-else-lts.Need-returns-2 (transform-else-claims t) (transform-else-at t) transform-else.Post
 transform-else-returns-2 t c =
     let at-merge-else = c .before .before in

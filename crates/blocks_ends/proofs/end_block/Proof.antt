@@ -17,43 +17,43 @@ use Rattle.expressions_effects.proofs.span_at.Reads as span-at-reads
 use Rattle.image_fields.proofs.two_at.Reads as two-at-reads
 use Rattle.image_writing.proofs.put_two.Reads as put-two-reads
 
--- src/lib.rt:246:41
+-- src/lib.rt:258:41
 add-two-at : tie.Need-add-two-at
 add-two-at c = search needs
 
--- src/lib.rt:246:9
+-- src/lib.rt:258:9
 two-at-requires : tie.Need-two-at-requires
 two-at-requires c κs = search needs
 
--- src/lib.rt:247:34
+-- src/lib.rt:259:34
 sub-ends-in-return : tie.Need-sub-ends-in-return
 sub-ends-in-return c = search needs
 
--- src/lib.rt:247:9
+-- src/lib.rt:259:9
 ends-in-return-requires : tie.Need-ends-in-return-requires
 ends-in-return-requires c κs = (c .before .before .before .before .pre .0 .within .small, λ h. c .before .before .before .before .pre .0 .last (omega (arith, h, c .two-at .ensures .0)))
 
--- src/lib.rt:248:9
+-- src/lib.rt:260:9
 span-at-requires : tie.Need-span-at-requires
 span-at-requires c κs = search needs
 
--- src/lib.rt:255:10
+-- src/lib.rt:267:10
 sub-put-tail : tie.Need-sub-put-tail
 sub-put-tail c = search needs
 
--- src/lib.rt:255:9
+-- src/lib.rt:267:9
 cast-put-tail : tie.Need-cast-put-tail
 cast-put-tail c = search needs
 
--- src/lib.rt:249:9
+-- src/lib.rt:261:9
 put-tail-requires : tie.Need-put-tail-requires
 put-tail-requires c κs = search needs
 
--- src/lib.rt:260:17
+-- src/lib.rt:272:17
 add-count : tie.Need-add-count
 add-count c = search needs
 
--- src/lib.rt:260:17
+-- src/lib.rt:272:17
 add-count-2 : tie.Need-add-count-2
 add-count-2 c =
     let at-put-tail = c .before .before .before .before in
@@ -64,41 +64,41 @@ add-count-2 c =
     let few = at-put-tail .put-tail .ensures .1 in
     omega (arith, h .inserted, h .inside, h .small)
 
--- src/lib.rt:261:33
+-- src/lib.rt:273:33
 add-put-two : tie.Need-add-put-two
 add-put-two c =
     let start = c .before .before .before .before .before .before .before .before .before .before .before .before .before .before in
     omega (arith, start .pre .0 .gap)
 
--- src/lib.rt:261:52
+-- src/lib.rt:273:52
 cast-put-two : tie.Need-cast-put-two
 cast-put-two c = search needs
 
--- src/lib.rt:261:5
+-- src/lib.rt:273:5
 put-two-requires : tie.Need-put-two-requires
 put-two-requires c κs =
     let start = c .before .before .before .before .before .before .before .before .before .before .before .before .before .before in
     omega (arith, start .pre .0 .gap)
 
--- src/lib.rt:262:9
+-- src/lib.rt:274:9
 fitting-requires : tie.Need-fitting-requires
 fitting-requires c κs = search needs
 
--- src/lib.rt:263:19
+-- src/lib.rt:275:19
 ended-requires : tie.Need-ended-requires
 ended-requires c κs = search needs
 
--- src/lib.rt:263:5
+-- src/lib.rt:275:5
 put-place-requires : tie.Need-put-place-requires
 put-place-requires c κs =
     let start = c .before .before .before .before .before .before .before .before .before .before .before .before .before .before .before .before .before .before .before .before in
     start .pre .1
 
--- src/lib.rt:227:1
+-- src/lib.rt:239:1
 same-length : tie.Need-same-length
 same-length c = search needs
 
--- src/lib.rt:227:1
+-- src/lib.rt:239:1
 returns : tie.Need-returns
 returns c =
     let at-put-two = c .before .before .before .before .before .before in

@@ -6,33 +6,33 @@ use Rattle.ownership.proofs.put_pair.Tie as tie
 use Rattle.ownership.proofs.put_pair.Reads as reads
 use Rattle.ownership.proofs.put_pair.Lts as lts
 use Rattle.ownership.proofs.put_numbers.Reads as put-numbers-reads
-use Rattle.ownership.proofs.put_text.Reads as put-text-reads
+use Rattle.programs_text.proofs.put_text.Reads as put-text-reads
 
--- src/main.rt:108:9
+-- src/main.rt:77:9
 put-text-requires : tie.Need-put-text-requires
 put-text-requires c κs = search needs
 
--- src/main.rt:109:53
+-- src/main.rt:78:53
 add-put-numbers : tie.Need-add-put-numbers
 add-put-numbers c = search needs
 
--- src/main.rt:109:9
+-- src/main.rt:78:9
 put-numbers-requires : tie.Need-put-numbers-requires
 put-numbers-requires c κs = search needs
 
--- src/main.rt:110:25
+-- src/main.rt:79:40
 slice-aggregate-put-text : tie.Need-slice-aggregate-put-text
 slice-aggregate-put-text c = search needs
 
--- src/main.rt:110:5
+-- src/main.rt:79:5
 put-text-requires-2 : tie.Need-put-text-requires-2
 put-text-requires-2 c κs = search needs
 
--- src/main.rt:104:1
+-- src/main.rt:73:1
 same-length : tie.Need-same-length
 same-length c = search needs
 
--- src/main.rt:104:1
+-- src/main.rt:73:1
 returns : tie.Need-returns
 returns c = (both-stored (c .before .before .before .before .before .before .before .before .before .before .before .put-text .ensures .0) (both-stored (c .before .before .before .before .before .before .before .put-numbers .ensures .0) (c .before .before .put-text2 .ensures .0)), omega (arith, c .before .before .before .before .before .before .before .before .before .before .before .put-text .ensures .1, c .before .before .before .before .before .before .before .put-numbers .ensures .1, c .before .before .put-text2 .ensures .1))
 

@@ -37,13 +37,13 @@ nothing-put-requires c κs = search needs
 -- src/lib.rt:549:60
 add-behind : tie.Need-add-behind
 add-behind c =
-    let start = c .before .before .before .before .before .before .before .before .before .before .before .before in
+    let start = c .before .before .before .before .before .before .before .before .before .before .before .before .before .before .before in
     let w = room-of (start .pre .0) in omega arith
 
 -- src/lib.rt:549:9
 behind-requires : tie.Need-behind-requires
 behind-requires c κs =
-    let at-shared-slice-known = c .before .before .before .before .before .before .before .before .before .before .before .before in
+    let at-shared-slice-known = c .before .before .before .before .before .before .before .before .before .before .before .before .before .before .before in
     let start = at-shared-slice-known .before in
     let a = start .args in
     let small : Bytes (a .s .now) = λ k. omega (arith, at-shared-slice-known .shared-slice-known .given k) in
@@ -67,8 +67,8 @@ returns : tie.Need-returns
 returns c =
     let at-nothing-put = c .before .before .before .before .before in
     let at-listed = at-nothing-put .before in
-    let at-list-left = at-listed .before .before .before in
-    let at-span-at = at-list-left .before .before in
+    let at-list-left = at-listed .before .before .before .before .before in
+    let at-span-at = at-list-left .before .before .before in
     let at-shared-slice-known = at-span-at .before .before .before .before in
     let start = at-shared-slice-known .before in
     let a = start .args in

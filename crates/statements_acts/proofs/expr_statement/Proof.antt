@@ -1,7 +1,6 @@
 use Rattle.image_fields.specs.Bytes.{Bytes}
 use native.Mathlib.Omega.{arith}
 use Prim.Native.Nat.{_+_}
-use lib.Dec.{eqb}
 use lib.Seq.{length-slice}
 use Rattle.image_fields.specs.Number.{four}
 use Rattle.statements_acts.proofs.Acts.{room-of, expr-reach, expr-grows, expr-acts, head-room}
@@ -70,8 +69,8 @@ copy-bytes-requires-2 c κs =
     let r = expr-reach (a .s .now) small (a .p) (a .end) (q .2) (q .3) in
     let x = at-copy-bytes .copy-bytes .ensures .place in
     let lx = length-slice (a .p .at) (a .p .at + 5) (a .s .now) (omega arith) in
-    let y = at-put-unused .put-unused .ensures .bytes .place in
-    let ly = head-room (eqb (at-unused-callee .unused-callee .result) 0) (four (a .s .now) (a .p .at + 1)) in
+    let y = at-put-unused .put-unused .ensures .long in
+    let ly = head-room (at-unused-callee .unused-callee .result) (four (a .s .now) (a .p .at + 1)) in
     (omega arith, r .1, w .0, omega arith)
 
 -- src/lib.rt:284:9

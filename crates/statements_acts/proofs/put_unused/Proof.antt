@@ -7,42 +7,43 @@ use Rattle.statements_acts.proofs.put_unused.Lts as lts
 use Rattle.expressions_effects.proofs.span_at.Reads as span-at-reads
 use Rattle.image_writing.proofs.put_delete_head.Reads as put-delete-head-reads
 use Rattle.image_writing.proofs.put_pair.Reads as put-pair-reads
+use Rattle.statements_acts.proofs.put_warning.Reads as put-warning-reads
 
--- src/lib.rt:313:9
+-- src/lib.rt:337:9
 returns : tie.Need-returns
-returns c = warns-none (c .if1 .taken) _ _ _ _ _
+returns c = warns-none _ (c .if1 .taken) _ _ _ _ _
 
--- src/lib.rt:318:27
+-- src/lib.rt:342:27
 add-span-at : tie.Need-add-span-at
 add-span-at c = search needs
 
--- src/lib.rt:318:9
+-- src/lib.rt:342:9
 span-at-requires : tie.Need-span-at-requires
 span-at-requires c κs = search needs
 
--- src/lib.rt:319:9
+-- src/lib.rt:343:9
 put-delete-head-requires : tie.Need-put-delete-head-requires
 put-delete-head-requires c κs = search needs
 
--- src/lib.rt:320:53
-cast-put-pair : tie.Need-cast-put-pair
-cast-put-pair c = search needs
+-- src/lib.rt:344:59
+cast-put-warning : tie.Need-cast-put-warning
+cast-put-warning c = search needs
 
--- src/lib.rt:320:9
-put-pair-requires : tie.Need-put-pair-requires
-put-pair-requires c κs = search needs
+-- src/lib.rt:344:9
+put-warning-requires : tie.Need-put-warning-requires
+put-warning-requires c κs = search needs
 
--- src/lib.rt:300:1
+-- src/lib.rt:323:1
 same-length : tie.Need-same-length
 same-length c = search needs
 
--- src/lib.rt:300:1
+-- src/lib.rt:323:1
 same-length-2 : tie.Need-same-length-2
 same-length-2 c = search needs
 
--- src/lib.rt:300:1
+-- src/lib.rt:323:1
 returns-2 : tie.Need-returns-2
-returns-2 c = warns-some (c .before .before .before .before .before .before .before .before .before .if1 .left) (c .before .before .before .before .before .before .before .before .span-at .ensures) (c .before .before .before .before .before .before .put-delete-head .ensures) (c .before .before .put-pair .ensures)
+returns-2 c = warns-some _ (c .before .before .before .before .before .before .before .before .before .before .before .before .if1 .left) (c .before .before .before .before .before .before .before .before .before .before .before .span-at .ensures) (c .before .before .before .before .before .before .before .before .before .put-delete-head .ensures) (c .before .before .before .before .put-warning .ensures .0) (c .before .before .before .before .put-warning .ensures .1)
 
 pub put-unused-spec : {M : Type 1} → statement M
 put-unused-spec =
@@ -52,8 +53,8 @@ put-unused-spec =
     add-span-at
     span-at-requires
     put-delete-head-requires
-    cast-put-pair
-    put-pair-requires
+    cast-put-warning
+    put-warning-requires
     same-length
     same-length-2
     returns-2)

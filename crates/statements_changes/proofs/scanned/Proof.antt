@@ -17,8 +17,8 @@ use Rattle.expressions_scan.proofs.scan_on.Reads as scan-on-reads
 -- src/lib.rt:266:9
 scan-on-requires : tie.Need-scan-on-requires
 scan-on-requires c κs =
-    let r = c .before .before .before .before .before .before .before .pre in
-    (r .0, r .1, r .2 .within (r .3) .ready, begun-room _ _ _ (c .before .before .before .before .before .before .before .args .c) (r .2) (r .3))
+    let r = c .before .before .before .before .before .before .before .before .before .pre in
+    (r .0, r .1, r .2 .within (r .3) .ready, begun-room _ _ _ (c .before .before .before .before .before .before .before .before .before .args .c) (r .2) (r .3))
 
 -- src/lib.rt:267:9
 told-requires : tie.Need-told-requires
@@ -41,17 +41,21 @@ same-length : tie.Need-same-length
 same-length c = search needs
 
 -- src/lib.rt:237:1
+same-length-2 : tie.Need-same-length-2
+same-length-2 c = search needs
+
+-- src/lib.rt:237:1
 returns : tie.Need-returns
 returns c =
-    let at-scan-on = c .before .before .before .before .before .before in
-    let start = at-scan-on .before .before .before .before .before .before .before .before in
+    let at-scan-on = c .before .before .before .before .before .before .before .before in
+    let start = at-scan-on .before .before .before .before .before .before .before .before .before .before in
     let a = start .args in
     let r = start .pre in
     let v = at-scan-on .scan-on in
     let w = c .before .before .within .ensures in
     let e = within-as _ _ _ w (c .before .before .before .told .ensures) in
     let i = c .enum-told .given .1 in (
-      λ T sy types depths σ h all σ₀ p₀ m₀ out warns lefts g. stood-as σ (v .result .change) Nothing (stood-on T _ _ _ all σ₀ p₀ m₀ _ (a .c) σ out _ warns lefts g (r .3) _ (v .ensures .0 T sy types depths σ h)) e i,
+      λ T sy types depths σ h all σ₀ p₀ m₀ warns lefts g. stood-as σ (v .result .change) Nothing (stood-on T _ _ _ all σ₀ p₀ m₀ _ (a .c) σ _ _ warns lefts g (r .3) _ (v .ensures .0 T sy types depths σ h)) e i,
       (
         steady-as e (steady-on _ _ _ (a .c) (r .2) (r .3) _ (v .result) (v .ensures .1)),
         sym (length-opens _) ∙ v .ensures .1 .ready .room,
@@ -62,22 +66,26 @@ returns c =
     )
 
 -- src/lib.rt:237:1
-same-length-2 : tie.Need-same-length-2
-same-length-2 c = search needs
+same-length-3 : tie.Need-same-length-3
+same-length-3 c = search needs
+
+-- src/lib.rt:237:1
+same-length-4 : tie.Need-same-length-4
+same-length-4 c = search needs
 
 -- src/lib.rt:237:1
 returns-2 : tie.Need-returns-2
 returns-2 c =
     let at-told = c .before .before .before .before in
-    let at-scan-on = at-told .before .before .before in
-    let start = at-scan-on .before .before .before .before .before .before .before .before in
+    let at-scan-on = at-told .before .before .before .before .before in
+    let start = at-scan-on .before .before .before .before .before .before .before .before .before .before in
     let a = start .args in
     let r = start .pre in
     let v = at-scan-on .scan-on in
     let w = c .before .before .before .within .ensures in
     let e = within-as _ _ _ w (at-told .told .ensures) in
     let i = c .before .change .given .1 in (
-      λ T sy types depths σ h all σ₀ p₀ m₀ out warns lefts g. stood-as σ (v .result .change) _ (stood-on T _ _ _ all σ₀ p₀ m₀ _ (a .c) σ out _ warns lefts g (r .3) _ (v .ensures .0 T sy types depths σ h)) e i,
+      λ T sy types depths σ h all σ₀ p₀ m₀ warns lefts g. stood-as σ (v .result .change) _ (stood-on T _ _ _ all σ₀ p₀ m₀ _ (a .c) σ _ _ warns lefts g (r .3) _ (v .ensures .0 T sy types depths σ h)) e i,
       (
         mark-fit _ _ _ _ _ e (steady-on _ _ _ (a .c) (r .2) (r .3) _ (v .result) (v .ensures .1)) (v .result .change) (v .ensures .1 .marks) _ _ _ _ i,
         sym (length-opens _) ∙ v .ensures .1 .ready .room,
@@ -97,6 +105,8 @@ scanned-spec =
     enum-told
     enum-known-change
     same-length
-    returns
     same-length-2
+    returns
+    same-length-3
+    same-length-4
     returns-2)

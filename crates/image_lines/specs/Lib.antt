@@ -1,0 +1,3 @@
+pub mod Lined
+pub mod Further
+pub mod Told
