@@ -19,47 +19,47 @@ Inv-loop n rows₀ a b width told₀ then₀ other i₀ rows told then i = (i �
 abbrev μ-loop : tie.MeasureT-loop
 μ-loop n rows₀ a b width told₀ then₀ other i₀ rows told then i = n - i
 
--- src/lib.rt:151:5
+-- src/lib.rt:146:5
 loop-holds : tie.Need-loop-holds Inv-loop μ-loop
 loop-holds c = (search needs, refl, joining-none _ _ _ _ _ _ _ (c .before .pre))
 
--- src/lib.rt:152:17
+-- src/lib.rt:147:17
 element-copy-out-k : tie.Need-element-copy-out-k Inv-loop μ-loop
 element-copy-out-k c = search needs
 
--- src/lib.rt:153:17
+-- src/lib.rt:148:17
 mul-f : tie.Need-mul-f Inv-loop μ-loop
 mul-f c = search needs
 
--- src/lib.rt:153:17
+-- src/lib.rt:148:17
 element-copy-out-f : tie.Need-element-copy-out-f Inv-loop μ-loop
 element-copy-out-f c = search needs
 
--- src/lib.rt:155:17
+-- src/lib.rt:150:17
 element-copy-out-l : tie.Need-element-copy-out-l Inv-loop μ-loop
 element-copy-out-l c = search needs
 
--- src/lib.rt:156:17
+-- src/lib.rt:151:17
 mul-g : tie.Need-mul-g Inv-loop μ-loop
 mul-g c = search needs
 
--- src/lib.rt:156:17
+-- src/lib.rt:151:17
 element-copy-out-g : tie.Need-element-copy-out-g Inv-loop μ-loop
 element-copy-out-g c = search needs
 
--- src/lib.rt:158:12
+-- src/lib.rt:153:12
 differ-requires : tie.Need-differ-requires Inv-loop μ-loop
 differ-requires c κs = search needs
 
--- src/lib.rt:159:28
+-- src/lib.rt:154:28
 add-row : tie.Need-add-row Inv-loop μ-loop
 add-row c = omega (arith, c .before .before .before .before .before .before .before .before .before .pre .wide)
 
--- src/lib.rt:159:23
+-- src/lib.rt:154:23
 mul-row : tie.Need-mul-row Inv-loop μ-loop
 mul-row c = omega (arith, c .before .before .before .before .before .before .before .before .before .pre .fits .0, row-before (c .before .before .before .before .before .before .before .before .before .args .a) (c .before .before .before .before .before .before .before .before .before .args .width) (c .before .before .before .before .before .before .before .loop .i) (c .before .before .before .before .before .before .before .before .before .args .n) (c .before .before .before .before .before .before .loop-test .taken))
 
--- src/lib.rt:160:41
+-- src/lib.rt:155:41
 add-join-at : tie.Need-add-join-at Inv-loop μ-loop
 add-join-at c =
     let at-loop-test = c .before .before .before .before .before .before .before in
@@ -67,7 +67,7 @@ add-join-at c =
     let start = at-loop .before .before in
     omega (arith, start .pre .fits .0, row-before (start .args .a) (start .args .width) (at-loop .loop .i) (start .args .n) (at-loop-test .loop-test .taken))
 
--- src/lib.rt:160:50
+-- src/lib.rt:155:50
 add-join-at-2 : tie.Need-add-join-at-2 Inv-loop μ-loop
 add-join-at-2 c =
     let at-loop-test = c .before .before .before .before .before .before .before in
@@ -75,7 +75,7 @@ add-join-at-2 c =
     let start = at-loop .before .before in
     omega (arith, start .pre .fits .1, row-before (start .args .b) (start .args .width) (at-loop .loop .i) (start .args .n) (at-loop-test .loop-test .taken))
 
--- src/lib.rt:160:17
+-- src/lib.rt:155:17
 join-at-requires : tie.Need-join-at-requires Inv-loop μ-loop
 join-at-requires c κs =
     let at-loop-test = c .before .before .before .before .before .before .before in
@@ -83,14 +83,14 @@ join-at-requires c κs =
     let start = at-loop .before .before in
     (known-a (start .args .n) (start .args .width) (start .args .t1) (start .args .t2) (start .args .rows .now) (start .args .a) (start .args .b) (start .pre) (at-loop .loop .i) (at-loop .loop .then) (at-loop .loop .rows) (at-loop .loop .inv .2) (at-loop .loop .i) (omega arith), known-b (start .args .n) (start .args .width) (start .args .t1) (start .args .t2) (start .args .rows .now) (start .args .a) (start .args .b) (start .pre) (at-loop .loop .i) (at-loop .loop .then) (at-loop .loop .rows) (at-loop .loop .inv .2) (at-loop-test .loop-test .taken), start .pre .wide, omega (arith, start .pre .fits .0, row-before (start .args .a) (start .args .width) (at-loop .loop .i) (start .args .n) (at-loop-test .loop-test .taken)))
 
--- src/lib.rt:163:17
+-- src/lib.rt:158:17
 same-length : tie.Need-same-length Inv-loop μ-loop
 same-length c =
     let at-join-at = c .before .before .before .before in
     let at-loop = at-join-at .before .before .before .before .before .before .before .before .before in
     at-join-at .join-at .ensures .rest .room ∙ at-loop .loop .inv .2 .else .room
 
--- src/lib.rt:163:17
+-- src/lib.rt:158:17
 returns : tie.Need-returns Inv-loop μ-loop
 returns c =
     let at-join-at = c .before .before .before .before in
@@ -99,31 +99,31 @@ returns c =
     let start = at-loop .before .before in
     joining-stop (start .args .n) (start .args .width) (start .args .t1) (start .args .t2) (start .args .rows .now) (start .args .a) (start .args .b) (start .pre) (at-loop .loop .i) (at-loop .loop .then) (at-loop .loop .rows) (at-loop .loop .inv .2) (at-loop-test .loop-test .taken) _ _ (at-join-at .join-at .ensures) _ refl (c .if2 .taken)
 
--- src/lib.rt:165:13
+-- src/lib.rt:160:13
 element-write-then : tie.Need-element-write-then Inv-loop μ-loop
 element-write-then c = search needs
 
--- src/lib.rt:166:13
+-- src/lib.rt:161:13
 mul-then : tie.Need-mul-then Inv-loop μ-loop
 mul-then c = search needs
 
--- src/lib.rt:166:13
+-- src/lib.rt:161:13
 element-write-then-2 : tie.Need-element-write-then-2 Inv-loop μ-loop
 element-write-then-2 c = search needs
 
--- src/lib.rt:167:26
+-- src/lib.rt:162:26
 with-bit-requires : tie.Need-with-bit-requires Inv-loop μ-loop
 with-bit-requires c κs = search needs
 
--- src/lib.rt:169:9
+-- src/lib.rt:164:9
 add-i : tie.Need-add-i Inv-loop μ-loop
 add-i c = search needs
 
--- src/lib.rt:151:5
+-- src/lib.rt:146:5
 loop-less : tie.Need-loop-less Inv-loop μ-loop
 loop-less c = search needs
 
--- src/lib.rt:151:5
+-- src/lib.rt:146:5
 loop-again : tie.Need-loop-again Inv-loop μ-loop
 loop-again c = (
   search needs,
@@ -134,11 +134,11 @@ loop-again c = (
       (c .if1 .came),
 )
 
--- src/lib.rt:136:1
+-- src/lib.rt:131:1
 same-length-2 : tie.Need-same-length-2 Inv-loop μ-loop
 same-length-2 c = c .before .loop .inv .2 .else .room
 
--- src/lib.rt:136:1
+-- src/lib.rt:131:1
 returns-2 : tie.Need-returns-2 Inv-loop μ-loop
 returns-2 c = let end : c .before .loop .i ≡ c .before .before .before .args .n = omega (arith, c .before .loop .inv .0, c .loop-test .left) in
     rw (c .before .loop .inv .1) (joining-all (c .before .before .before .args .n) (c .before .before .before .args .width) (c .before .before .before .args .t1) (c .before .before .before .args .t2) (c .before .before .before .args .rows .now) (c .before .before .before .args .a) (c .before .before .before .args .b) (c .before .before .before .pre) (c .before .loop .i) (c .before .loop .then) (c .before .loop .rows) (c .before .loop .inv .2) end)

@@ -9,7 +9,7 @@ use Rattle.scope_stack.proofs.drop_word.Tie as tie
 use Rattle.scope_stack.proofs.drop_word.Reads as reads
 use Rattle.scope_stack.proofs.drop_word.Lts as lts
 
--- src/lib.rt:138:1
+-- src/lib.rt:121:1
 returns : tie.Need-returns
 returns c = λ T l t e f k h d. ap₂ bitAnd e f ∙ the-mark T l t k h d
 

@@ -11,11 +11,11 @@ use Rattle.scope_stack.proofs.has_bit.Reads as reads
 use Rattle.scope_stack.proofs.has_bit.Lts as lts
 use Rattle.scope_stack.proofs.bit.Reads as bit-reads
 
--- src/lib.rt:134:9
+-- src/lib.rt:117:9
 bit-requires : tie.Need-bit-requires
 bit-requires c κs = search needs
 
--- src/lib.rt:130:1
+-- src/lib.rt:113:1
 returns : tie.Need-returns
 returns c = λ n p le l e. ap₂ (λ (x y : ℕ). not (eqb (bitAnd x y) 0)) e (c .bit .ensures) ∙ word-bit n (c .before .args .i) p l
 
