@@ -22,7 +22,7 @@ use Rattle.image_lines.specs.Lined.{shownAll}
 use Rattle.image_lines.specs.Told.{Listed}
 use Rattle.image_lines.proofs.Cursors.{shown-none, shown-more, shown-single}
 use Rattle.statements_acts.proofs.Laws.{Rest, rest-start, rest-step, rest-end, count-step, count-end}
-use Rattle.scope_stack.specs.Word.{wordOf, Top, Newest}
+use Rattle.scope_stack.specs.Word.{wordOf, wordAt, Top, Newest}
 use Rattle.scope_stack.proofs.Words.{top-below, top-rest, word-zero}
 use Rattle.scope_state.specs.Locals.{foundIn, Finds}
 use Rattle.scope_state.proofs.Stacked.{stacked-more, stacked-none}
@@ -106,7 +106,7 @@ module _ (T : Tables) (names types depths : List ℕ) (g : ℕ → Status) (q : 
       ap some′ z ∙ drop-more (n + k) ∙ ap (λ (b : Bool). cond (q (staticIn names types depths (n + k)) && b) (drop′ (n + k) ∷ some′ (n + k)) (some′ (n + k))) off
       ∙ clear-drop (q (staticIn names types depths (n + k))) (drop′ (n + k)) (some′ (n + k)) ∙ drop-clear n k (λ i a b. c i a (omega arith))
 
-  drops-next : (n m j : ℕ) → Newest n (dropIn T types g) m j → some′ n ≡ cond (q (staticIn names types depths j)) (drop′ j ∷ some′ j) (some′ j)
+  drops-next : (n m j : ℕ) → Newest 0 n (dropIn T types g) m j → some′ n ≡ cond (q (staticIn names types depths j)) (drop′ j ∷ some′ j) (some′ j)
   drops-next n m j w =
       let all : (j + 1) + (n - (j + 1)) ≡ n = omega (arith, w .below) in
       ap some′ (sym all) ∙ drop-clear (j + 1) (n - (j + 1)) (λ i a b. w .clear i (omega arith) (omega arith)) ∙ drop-more j
@@ -131,16 +131,16 @@ module _ (T : Tables) (names types depths : List ℕ) (g : ℕ → Status) (q : 
     left-all m e = record { n = k; word = e; rest = rest-start f old at (some′ k); many = omega arith }
 
     module _ (m : ℕ) (out : List ℕ) (place put : ℕ) (h : Left f old at k m out place put) where
-      module _ (j : ℕ) (w : (n : ℕ) (z : ℕ → Bool) → m ≡ wordOf n z → Newest n z m j) where
+      module _ (j : ℕ) (w : (k n : ℕ) (z : ℕ → Bool) → m ≡ wordAt k n z → Newest k n z m j) where
         next : some′ (h .n) ≡ cond (q (staticIn names types depths j)) (drop′ j ∷ some′ j) (some′ j)
-        next = drops-next (h .n) m j (w (h .n) (dropIn T types g) (h .word))
+        next = drops-next (h .n) m j (w 0 (h .n) (dropIn T types g) (h .word))
 
         pub left-skip : q (staticIn names types depths j) ≡ false → Left f old at k (m - 2 ^ j) out place put
         left-skip off =
             let e : some′ (h .n) ≡ some′ j = next ∙ ap (λ (b : Bool). cond b (drop′ j ∷ some′ j) (some′ j)) off in
             record {
               n = j;
-              word = w (h .n) (dropIn T types g) (h .word) .rest;
+              word = w 0 (h .n) (dropIn T types g) (h .word) .rest;
               rest = subst (λ (x : List Drop). Rest f old at (some′ k) out place x) e (h .rest);
               many = ap (λ (x : List Drop). put + length x) (sym e) ∙ h .many;
             }
@@ -151,7 +151,7 @@ module _ (T : Tables) (names types depths : List ℕ) (g : ℕ → Status) (q : 
             let e : some′ (h .n) ≡ drop′ j ∷ some′ j = next ∙ ap (λ (b : Bool). cond b (drop′ j ∷ some′ j) (some′ j)) on in
             record {
               n = j;
-              word = w (h .n) (dropIn T types g) (h .word) .rest;
+              word = w 0 (h .n) (dropIn T types g) (h .word) .rest;
               rest = rest-step f old at (some′ k) out place (some′ (h .n)) (h .rest) b (some′ j) new to (ap f e ∙ fb (some′ j)) s;
               many = count-step (length (some′ k)) put (some′ (h .n)) (some′ j) (drop′ j) (h .many) e;
             }
@@ -178,7 +178,7 @@ module _ (T : Tables) (names types depths : List ℕ) (g : ℕ → Status) (page
   }
 
   module _ (m : ℕ) (lefts out : List ℕ) (at : ℕ) (h : Listing m lefts out at) where
-    pub listing-put : (j : ℕ) → ((n : ℕ) (z : ℕ → Bool) → m ≡ wordOf n z → Newest n z m j) → {name : ℕ} → name ≡ getD names j 0 → {lefts′ out′ : List ℕ} {at′ : ℕ}
+    pub listing-put : (j : ℕ) → ((k n : ℕ) (z : ℕ → Bool) → m ≡ wordAt k n z → Newest k n z m j) → {name : ℕ} → name ≡ getD names j 0 → {lefts′ out′ : List ℕ} {at′ : ℕ}
         → Listed paged (left span name ∷ []) lefts out at lefts′ out′ at′ → Listing (m - 2 ^ j) lefts′ out′ at′
     listing-put j w {name} en {lefts′} {out′} {at′} l = record {
       numbers = λ n.

@@ -2,7 +2,6 @@ use borrow.Author.Needs.{needs}
 use native.Mathlib.Omega.{arith}
 use Prim.Native.Nat.{suc, _+_, _-_}
 use Rattle.statements_acts.specs.Marks.{lent}
-use Rattle.blocks_laws.proofs.Ends.{depth-is}
 use Rattle.blocks_ends.proofs.Ends.{ends-told, told-ended}
 use Rattle.blocks_ends.proofs.end_block.Statement.{statement}
 use Rattle.blocks_ends.proofs.end_block.Tie as tie
@@ -36,14 +35,6 @@ ends-in-return-requires c κs = (c .before .before .before .before .pre .0 .with
 -- src/lib.rt:260:9
 span-at-requires : tie.Need-span-at-requires
 span-at-requires c κs = search needs
-
--- src/lib.rt:267:10
-sub-put-tail : tie.Need-sub-put-tail
-sub-put-tail c = search needs
-
--- src/lib.rt:267:9
-cast-put-tail : tie.Need-cast-put-tail
-cast-put-tail c = search needs
 
 -- src/lib.rt:261:9
 put-tail-requires : tie.Need-put-tail-requires
@@ -92,7 +83,7 @@ ended-requires c κs = search needs
 put-place-requires : tie.Need-put-place-requires
 put-place-requires c κs =
     let start = c .before .before .before .before .before .before .before .before .before .before .before .before .before .before .before .before .before .before .before .before in
-    start .pre .1
+    start .pre .2
 
 -- src/lib.rt:239:1
 same-length : tie.Need-same-length
@@ -117,9 +108,9 @@ returns c =
     let fits = c .before .before .before .fitting .ensures in
     let is = c .before .ended .ensures in
     let told = c .put-place .ensures in
-    let deep = depth-is (a .left) (h .low) (h .high) in (
-      λ T g n m σ e. ends-told (a .start) (a .p) T (a .s .now) (a .left) (suc (12 - a .left)) (a .start .written + 4) (lent (a .ln .now) (a .lt .now) (a .ld .now) g n) (a .out .now)
-          total span deep last (put .2 T g n m) stored fits told is e,
+    (
+      λ T ld g n m f σ e. ends-told (a .start) (a .p) T (a .s .now) (a .left) (suc (12 - a .left)) (a .start .written + 4) (lent (a .ln .now) (a .lt .now) ld g n) (a .out .now)
+          total span last (put .2 T ld g n (suc (12 - a .left)) m f) stored fits told is e,
       told-ended (a .start) (a .p) told is (put .0),
     )
 
@@ -132,8 +123,6 @@ end-block-spec =
     sub-ends-in-return
     ends-in-return-requires
     span-at-requires
-    sub-put-tail
-    cast-put-tail
     put-tail-requires
     add-count
     add-count-2

@@ -30,7 +30,7 @@ same-length c = search needs
 returns : tie.Need-returns
 returns c =
     let start = c .before .before .before .before .before .before .before .before .before .before in
-    (λ T g n e warns. c .before .before .return-statement .ensures .0 T g n e warns (now (start .args .lefts)), (c .before .before .return-statement .ensures .1 .0, c .before .before .return-statement .ensures .1 .1))
+    (λ T ld g n e warns. c .before .before .return-statement .ensures .0 T ld g n e warns (now (start .args .lefts)), (c .before .before .return-statement .ensures .1 .0, c .before .before .return-statement .ensures .1 .1))
 
 -- src/lib.rt:634:5
 bare-return-requires : tie.Need-bare-return-requires
@@ -55,7 +55,7 @@ returns-2 c =
     let start = at-bare-return .before .before .before .before .before .before .before .before .before in
     let a = start .args in
     let r = at-bare-return .bare-return in
-    (λ T g n e warns. r .ensures .0 T (a .lt .now) (a .ld .now) g n e warns, (r .ensures .1 .0, r .ensures .1 .1))
+    (λ T ld g n e warns. r .ensures .0 T (a .lt .now) ld g n e warns, (r .ensures .1 .0, r .ensures .1 .1))
 
 pub either-return-spec : {M : Type 1} → statement M
 either-return-spec =

@@ -6,7 +6,7 @@ use Rattle.statements_acts.specs.Drops.{admitted}
 use Rattle.statements_acts.specs.declared.Which.the-variants.{All}
 use Rattle.rules.specs.State.{State as Status}
 use Rattle.tables.specs.Tables.{Tables}
-use lib.Pow.{pow-pos}
+use Rattle.scope_stack.proofs.Words.{ones, ones-less}
 use lib.ListN.{length}
 use native.Mathlib.Omega.{arith}
 use mathlib.Core.List.{List, [], _∷_}
@@ -29,7 +29,7 @@ Inv-loop names mark span paged out₀ lefts₀ n text m₀ at₀ out lefts m at 
     × ((T : Tables) (tys depths : List ℕ) (g : ℕ → Status) (k : ℕ) → Marked T tys g k mark → Listing T names tys depths g «paged» span k lefts₀ out₀ n m lefts out at)
 
 abbrev μ-loop : tie.MeasureT-loop
-μ-loop names mark span paged out₀ lefts₀ n text m₀ at₀ out lefts m at = m
+μ-loop names mark span paged out₀ lefts₀ n text m₀ at₀ out lefts m at = ones 64 m
 
 -- src/lib.rt:507:5
 begin-lefts-requires : tie.Need-begin-lefts-requires Inv-loop μ-loop
@@ -66,7 +66,7 @@ without-requires c κs = (c .before .before .before .before .before .before .bef
 
 -- src/lib.rt:510:5
 loop-less : tie.Need-loop-less Inv-loop μ-loop
-loop-less c = omega (arith, c .without .ensures, pow-pos (c .before .before .before .before .before .before .before .before .before .before .before .newest .result), c .before .before .before .before .before .before .before .before .before .before .before .newest .ensures .0 .low)
+loop-less c = rw (c .without .ensures) (ones-less _ _ (c .before .before .before .before .before .before .before .before .before .before .before .newest .ensures .0))
 
 -- src/lib.rt:510:5
 loop-again : tie.Need-loop-again Inv-loop μ-loop

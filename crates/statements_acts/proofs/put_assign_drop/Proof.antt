@@ -49,7 +49,7 @@ returns-2 c =
       omega arith,
       omega arith,
       λ T depths g e. none-put _ _ _ (assign-kept T (a .names .now) (a .tys .now) depths g (a .count) (a .span) (a .name) 0 _ (c .before .before .before .before .before .find-local .ensures) (c .before .before .before .i .given .0 .0) (c .before .before .before .i .given .1)
-          (sym (c .before .has-bit .ensures (a .count) (dropIn T (a .tys .now) g) (c .before .before .before .before .before .before .before .pre .0) lt e) ∙ not-true _ (c .if1 .taken))),
+          (sym (c .before .has-bit .ensures 0 (a .count) (dropIn T (a .tys .now) g) (c .before .before .before .before .before .before .before .pre .0) lt e) ∙ not-true _ (c .if1 .taken))),
     )
 
 -- src/lib.rt:540:62
@@ -88,7 +88,7 @@ returns-3 c =
       omega (arith, l),
       omega arith,
       λ T depths g e. one-put _ _ _ _ _ _ _ _ (assign-drop T (a .names .now) (a .tys .now) depths g (a .count) (a .span) (a .name) 0 _ (at-find-local .find-local .ensures) (at-i .i .given .0 .0) (at-i .i .given .1)
-          (sym (at-has-bit .has-bit .ensures (a .count) (dropIn T (a .tys .now) g) (start .pre .0) lt e) ∙ not-false _ (at-if1 .if1 .left))) (c .before .before .put-delete .ensures),
+          (sym (at-has-bit .has-bit .ensures 0 (a .count) (dropIn T (a .tys .now) g) (start .pre .0) lt e) ∙ not-false _ (at-if1 .if1 .left))) (c .before .before .put-delete .ensures),
     )
 
 pub put-assign-drop-spec : {M : Type 1} → statement M

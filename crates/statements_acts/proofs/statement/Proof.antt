@@ -38,7 +38,7 @@ returns c =
     let at-either-return = c .before .before .before .before in
     let start = at-either-return .before .before .before .before .before .before .before .before .before .before in
     let a = start .args in
-    (λ T h g m. (at-either-return .either-return .ensures .0 T g (a .n) m (a .warns .now)), at-either-return .either-return .ensures .1)
+    (λ T h ld g m. (at-either-return .either-return .ensures .0 T ld g (a .n) m (a .warns .now)), at-either-return .either-return .ensures .1)
 
 -- src/lib.rt:730:9
 expr-statement-requires : tie.Need-expr-statement-requires
@@ -59,7 +59,7 @@ returns-2 c =
     let start = at-expr-statement .before .before .before .before .before .before .before .before .before .before .before in
     let a = start .args in
     let r = at-expr-statement .expr-statement in
-    (λ T h g m. r .ensures .0 T h _ (a .lefts .now), (r .ensures .1, acts-ends (r .ensures .0 (tablesOf (a .s .now) (a .tb .now)) (said (a .s .now) (a .tb .now)) [] [])))
+    (λ T h ld g m. r .ensures .0 T h _ (a .lefts .now), (r .ensures .1, acts-ends (r .ensures .0 (tablesOf (a .s .now) (a .tb .now)) (said (a .s .now) (a .tb .now)) [] [])))
 
 -- src/lib.rt:732:21
 shared-slice-read-names : tie.Need-shared-slice-read-names
@@ -101,7 +101,7 @@ returns-3 c =
     let start = c .before .before .before .before .before .before .before .before .before .before .before .before .before .before .before in
     let a = start .args in
     let e = c .before .before .assign-statement .ensures in
-    (λ T h g m. (e .0 T (names-said h) (a .ld .now) g m (a .warns .now) (a .lefts .now)), e .1)
+    (λ T h ld g m. (e .0 T (names-said h) ld g m (a .warns .now) (a .lefts .now)), e .1)
 
 -- src/lib.rt:737:8
 is-variable-requires : tie.Need-is-variable-requires
@@ -125,7 +125,7 @@ returns-4 c =
     let start = c .before .before .before .before .before .before .before .before .before .before .before .before .before .before .before .before .before in
     let a = start .args in
     let e = c .before .before .variable-statement .ensures in (
-      λ T h g m. (e .0 T (names-said h) (a .ld .now) g (a .warns .now) (a .lefts .now)),
+      λ T h ld g m. (e .0 T (names-said h) ld g (a .warns .now) (a .lefts .now)),
       (e .1, acts-ends (e .0 (tablesOf (a .s .now) (a .tb .now)) (names-said (said (a .s .now) (a .tb .now))) [] (λ i. alive) [] [])),
     )
 
@@ -148,7 +148,7 @@ returns-5 c =
     let start = c .before .before .before .before .before .before .before .before .before .before .before .before .before .before .before .before .before in
     let a = start .args in
     let r = c .before .before .plain-statement in
-    (λ T h g m. r .ensures .0 T _ (a .warns .now) (a .lefts .now), (r .ensures .1, acts-ends (r .ensures .0 (tablesOf (a .s .now) (a .tb .now)) [] [] [])))
+    (λ T h ld g m. r .ensures .0 T _ (a .warns .now) (a .lefts .now), (r .ensures .1, acts-ends (r .ensures .0 (tablesOf (a .s .now) (a .tb .now)) [] [] [])))
 
 pub statement-spec : {M : Type 1} → statement M
 statement-spec =

@@ -70,8 +70,8 @@ returns c =
     let e = at-told .told .ensures in
     let small : Bytes (a .s .now) = λ k. omega (arith, at-shared-slice-known .shared-slice-known .given k) in
     let m = came-told (getD (a .s .now) (a .c .place .at) 0) (a .c .left - 1) (b .result .change) (b .result .taken) (c .turn-of .ensures) (c .before .before .told2 .ensures) in (
-      λ T tb at σ h all σ₀ p₀ m₀ nodes errs g. acted-after T (a .s .now) small (a .env .left) all σ₀ p₀ m₀ nodes (a .c) σ _ errs _ _ _ _ _ (g .within (r .4)) (omega (arith, r .5)) (b .result)
-          (acts-of (h .held) (acts-told e (b .ensures .0 T tb at (h .marked)))) (let l = ap length (h .held) ∙ length-stacked _ at _ in let f = r .1 in omega arith) _ m,
+      λ T tb ld at σ h all σ₀ p₀ m₀ nodes errs g. acted-after T (a .s .now) small (a .env .left) all σ₀ p₀ m₀ nodes (a .c) σ _ errs _ _ _ _ _ (g .within (r .4)) (omega (arith, r .5)) (b .result)
+          (acts-of (h .held) (acts-told e (b .ensures .0 T tb ld at (h .marked)))) (let l = ap length (h .held) ∙ length-stacked _ at _ in let f = r .1 in omega arith) _ m,
       fit-came (a .s .now) (a .env .left) (a .c) (r .3) (r .4) (r .5) small (b .result) (ends-told _ _ _ _ e (b .ensures .1 .1)) (grows-told e (b .ensures .1 .0)) _ m,
     )
 

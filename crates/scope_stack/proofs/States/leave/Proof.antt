@@ -45,7 +45,7 @@ loop-less c = search needs
 
 -- src/lib.rt:208:9
 loop-again : tie.Need-loop-again Inv-loop μ-loop
-loop-again c = (search needs, search needs, leaves-more _ _ _ _ _ _ (c .before .before .loop .inv .2) (search needs) (search needs) refl (c .with-bit .ensures _ (c .before .before .loop .inv .2 .held .word)))
+loop-again c = (search needs, search needs, leaves-more _ _ _ _ _ _ (c .before .before .loop .inv .2) (search needs) (search needs) refl (c .with-bit .ensures 0 _ (c .before .before .loop .inv .2 .held .word)))
 
 -- src/lib.rt:203:5
 returns : tie.Need-returns Inv-loop μ-loop

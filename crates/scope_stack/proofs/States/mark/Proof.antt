@@ -75,7 +75,7 @@ loop-again : tie.Need-loop-again Inv-loop μ-loop
 loop-again c = (
   search needs,
   ⊎-elim
-      (λ x. marking-put _ _ _ _ _ _ _ _ _ _ (c .before .before .before .before .before .before .loop .inv .1) _ _ _ (x .2) refl (x .1 .ensures _ (c .before .before .before .before .before .before .loop .inv .1 .held .word)) (search needs) (sym (c .before .is-marked .ensures) ∙ x .0 .taken))
+      (λ x. marking-put _ _ _ _ _ _ _ _ _ _ (c .before .before .before .before .before .before .loop .inv .1) _ _ _ (x .2) refl (x .1 .ensures 0 _ (c .before .before .before .before .before .before .loop .inv .1 .held .word)) (search needs) (sym (c .before .is-marked .ensures) ∙ x .0 .taken))
       (λ x. marking-skip _ _ _ _ _ _ _ _ _ _ (c .before .before .before .before .before .before .loop .inv .1) _ (x .1) (sym (c .before .is-marked .ensures) ∙ x .0 .left))
       (c .if1 .came),
 )
