@@ -347,3 +347,34 @@ ones-less m j t =
     let up : 2 ^ (j + 1) ≤ 2 ^ 64 = pow-mono {i = j + 1} {j = 64} (omega (arith, t .small)) in
     let h : m < 2 ^ 64 = omega (arith, t .high) in
     omega (arith, ones-without 64 m j h t)
+
+-- how many of the first n p says so of
+unfoldable pub many : ℕ → (ℕ → Bool) → ℕ
+many zero p = 0
+many (suc n) p = cond (p n) (suc (many n p)) (many n p)
+
+ones-step : (b : Bool) (n w k : ℕ) → w < 2 ^ n → ones n w ≡ k → ones (suc n) (cond b 1 0 * 2 ^ n + w) ≡ cond b (suc k) k
+ones-step true n w k h e =
+    let s : 1 * 2 ^ n + w - 2 ^ n ≡ w = omega arith in
+    ones-long n (1 * 2 ^ n + w) (omega arith) ∙ ap (λ (x : ℕ). suc (ones n x)) s ∙ ap suc e
+ones-step false n w k h e =
+    let s : 0 * 2 ^ n + w ≡ w = omega arith in
+    ap (ones (suc n)) s ∙ ones-short n w h ∙ e
+
+ones-bits : (n : ℕ) (p : ℕ → Bool) → ones n (wordOf n p) ≡ many n p
+unfolding wordOf ones many
+ones-bits zero p = refl
+ones-bits (suc n) p = ones-step (p n) n (wordOf n p) (many n p) (word-lt n p) (ones-bits n p)
+
+ones-wider : (n k m : ℕ) → m < 2 ^ n → ones (n + k) m ≡ ones n m
+ones-wider n zero m h = let z : n + 0 ≡ n = omega arith in rw z
+ones-wider n (suc k) m h =
+    let z : n + suc k ≡ suc (n + k) = omega arith in
+    let up : 2 ^ n ≤ 2 ^ (n + k) = pow-mono {i = n} {j = n + k} (omega arith) in
+    ap (λ (x : ℕ). ones x m) z ∙ ones-short (n + k) m (omega arith) ∙ ones-wider n k m h
+
+-- the set bits of a word are those that p says so of
+pub ones-word : (n : ℕ) (p : ℕ → Bool) → n ≤ 64 → ones 64 (wordOf n p) ≡ many n p
+ones-word n p le =
+    let z : 64 ≡ n + (64 - n) = omega arith in
+    ap (λ (x : ℕ). ones x (wordOf n p)) z ∙ ones-wider n (64 - n) (wordOf n p) (word-lt n p) ∙ ones-bits n p

@@ -23,12 +23,12 @@ use Rattle.image_lines.specs.Told.{Listed}
 use Rattle.image_lines.proofs.Cursors.{shown-none, shown-more, shown-single}
 use Rattle.statements_acts.proofs.Laws.{Rest, rest-start, rest-step, rest-end, count-step, count-end}
 use Rattle.scope_stack.specs.Word.{wordOf, wordAt, Top, Newest}
-use Rattle.scope_stack.proofs.Words.{top-below, top-rest, word-zero}
-use Rattle.scope_state.specs.Locals.{foundIn, Finds}
+use Rattle.scope_stack.proofs.Words.{top-below, top-rest, word-zero, ones, many, ones-word}
+use Rattle.scope_state.specs.Locals.{stacked, foundIn, Finds}
 use Rattle.scope_state.proofs.Stacked.{stacked-more, stacked-none}
 use Rattle.statements_acts.specs.Drops.{admitted}
 use Rattle.statements_acts.specs.declared.Which.the-variants.{All}
-use Rattle.statements_acts.specs.Marks.{staticIn, lent, dropIn}
+use Rattle.statements_acts.specs.Marks.{staticIn, lent, dropIn, Marked}
 use Rattle.statements_acts.proofs.Lent.{found-as}
 
 -- what is left behind at a span, as numbers and as lines
@@ -161,6 +161,21 @@ module _ (T : Tables) (names types depths : List ℕ) (g : ℕ → Status) (q : 
           let zero : wordOf (h .n) (dropIn T types g) ≡ 0 = sym (h .word) ∙ (let e : m ≡ 0 = omega arith in e) in
           let e : some′ (h .n) ≡ [] = drops-none (h .n) zero in
           (rest-end f old at (some′ k) out place (some′ (h .n)) (h .rest) (some′ k) refl (ap f e ∙ fn), count-end (length (some′ k)) put (some′ (h .n)) (h .many) e)
+
+-- a turn for each set bit is a turn for each delete
+module _ (T : Tables) (names types depths : List ℕ) (g : ℕ → Status) (p : ℕ) where
+  many-drops : (n : ℕ) → many n (dropIn T types g) ≡ length (some′ T names types depths g (admitted All) p n)
+  unfolding stacked many
+  many-drops zero = refl
+  many-drops (suc n) =
+      by-bit (dropIn T types g n) (many n (dropIn T types g)) (dropOf p (getD names n 0) (getD types n 0)) (some′ T names types depths g (admitted All) p n) (many-drops n)
+    where
+      by-bit : (b : Bool) (k : ℕ) (d : Drop) (ds : List Drop) → k ≡ length ds → cond b (suc k) k ≡ length (cond b (d ∷ ds) ds)
+      by-bit true k d ds e = ap suc e
+      by-bit false k d ds e = e
+
+  pub turns-drops : (n mark : ℕ) → n ≤ 64 → Marked T types g n mark → ones 64 mark ≡ length (some′ T names types depths g (admitted All) p n)
+  turns-drops n mark le e = ap (ones 64) e ∙ ones-word n (dropIn T types g) le ∙ many-drops n
 
 -- the entries of what is left behind, in either form
 module _ (T : Tables) (names types depths : List ℕ) (g : ℕ → Status) (paged : Bool) (span k : ℕ) (lefts₀ out₀ : List ℕ) (at₀ : ℕ) where

@@ -29,8 +29,7 @@ returns-2 : tie.Need-returns-2
 returns-2 c =
     let a = c .before .before .before .before .before .before .before .args in
     let put = c .before .before .put-drops .ensures in
-    let own = c .before .before .before .before .since in
-    (
+    let own = c .before .before .before .before .since in (
       put .0,
       put .1,
       λ T ld g n depth h f. tail-frame T (a .sure) depth (a .span) (lent (a .ln .now) (a .lt .now) ld g n) (c .before .before .before .before .before .if1 .left)
