@@ -101,9 +101,15 @@ pub fn before(runs: usize) -> i32 {
 fn beside_before(what: &str, i: &Image, runs: usize) {
     let mut m = Memory::new(i);
     let (mut old, mut new) = (vec![], vec![]);
-    for _ in 0..runs {
-        old.push(m.timed(ours::pass_before));
+    for run in 0..runs {
+        // each comes first in every second run
+        if run % 2 == 0 {
+            old.push(m.timed(ours::pass_before));
+        }
         new.push(m.pass());
+        if run % 2 == 1 {
+            old.push(m.timed(ours::pass_before));
+        }
     }
     let (old, new) = (median(old), median(new));
     println!("{what:>52}{:>8}{:>10}{:>14.2}{:>14.2}{:>8.2}", m.image.len(), m.output.len(), old / 1e3, new / 1e3, new / old);

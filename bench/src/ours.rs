@@ -2,37 +2,34 @@
 use crate::answer::Error;
 use std::mem::{align_of, offset_of, size_of};
 
+macro_rules! declare_pass {
+    ($name:ident) => {
+        unsafe extern "C" {
+            fn $name(
+                image: *const u8,
+                image_len: usize,
+                output: *mut u8,
+                output_len: usize,
+                errors: *mut u32,
+                errors_len: usize,
+                warnings: *mut u32,
+                warnings_len: usize,
+                left: *mut u32,
+                left_len: usize,
+                totals: *mut u64,
+            ) -> u32;
+        }
+    };
+}
+
+declare_pass!(ownership_pass);
+// the entry of an earlier library, under another name
+#[cfg(before)]
+declare_pass!(before_pass);
+
 unsafe extern "C" {
-    fn ownership_pass(
-        image: *const u8,
-        image_len: usize,
-        output: *mut u8,
-        output_len: usize,
-        errors: *mut u32,
-        errors_len: usize,
-        warnings: *mut u32,
-        warnings_len: usize,
-        left: *mut u32,
-        left_len: usize,
-        totals: *mut u64,
-    ) -> u32;
     fn ownership_room(image: *const u8, image_len: usize, room: *mut u64) -> u32;
     fn ownership_page(image: *const u8, image_len: usize, page: *mut u8, page_len: usize, written: *mut u64) -> u32;
-    // the entry of an earlier library, under another name
-    #[cfg(before)]
-    fn before_pass(
-        image: *const u8,
-        image_len: usize,
-        output: *mut u8,
-        output_len: usize,
-        errors: *mut u32,
-        errors_len: usize,
-        warnings: *mut u32,
-        warnings_len: usize,
-        left: *mut u32,
-        left_len: usize,
-        totals: *mut u64,
-    ) -> u32;
     #[cfg(reports)]
     fn ownership_reports(numbers: *const u32, numbers_len: usize, count: usize, reports: *mut Report, reports_len: usize) -> u32;
 }
@@ -92,8 +89,7 @@ pub struct Lent<'a> {
     pub totals: &'a mut [u64; 4],
 }
 
-type Pass =
-    unsafe extern "C" fn(*const u8, usize, *mut u8, usize, *mut u32, usize, *mut u32, usize, *mut u32, usize, *mut u64) -> u32;
+type Pass = unsafe extern "C" fn(*const u8, usize, *mut u8, usize, *mut u32, usize, *mut u32, usize, *mut u32, usize, *mut u64) -> u32;
 
 /// 0 or the fault's number.
 pub fn pass(image: &[u8], lent: Lent<'_>) -> u32 {

@@ -140,7 +140,7 @@ pub fn transform_block(
     let mut st = states;
     let mut c = blocks_ends::head(s, start, out);
     loop {
-        let mark = scope_stack::mark_of(st.words, l.dtors);
+        let mark = scope_stack::mark_of(st.alive, l.dtors);
         let r = statements_changes::next_change(
             s,
             tb,
@@ -190,7 +190,7 @@ pub fn transform_block(
                     depth,
                     tables_lookup::auto_deleted(tb, ty as usize),
                 );
-                if scope_stack::needs_revival(&l.names, &l.depths, st.words, name, depth) {
+                if scope_stack::needs_revival(&l.names, &l.depths, st.alive, name, depth) {
                     st = st.mark(&l.names, &l.depths, l.count, name, 0, 0, false);
                 }
             }

@@ -1,4 +1,4 @@
--- Whole stacks: registrations, the end of a block and drops, as the rules say them.
+-- Whole stacks: registrations and the end of a block, as the rules say them; what keeps them sound.
 -- Assumes nothing.
 use Prim.Native.Nat.{ℕ, zero, suc, _+_, _-_, _≤_, _<_}
 use mathlib.Core.Path.{_≡_, refl, sym, ap, ap₂, _∙_, subst}
@@ -13,7 +13,7 @@ use lib.ListN.{length, getD}
 use Rattle.image_fields.proofs.Tests.{split, less, and-true}
 use Rattle.tables.specs.Tables.{Tables}
 use Rattle.rules.specs.Questions.{auto}
-use Rattle.rules.specs.State.{State as Status, deleted, moved, consumed, alive, isAlive, handState}
+use Rattle.rules.specs.State.{State as Status, deleted, moved, consumed, alive, handState}
 use Rattle.rules.specs.Stack.{Static, local, shape, mark, pop, Stack as Scope}
 use Rattle.rules.specs.Rules.{states, register}
 use Rattle.rules.proofs.Bools.{eqb-self}

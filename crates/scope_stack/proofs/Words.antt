@@ -12,7 +12,6 @@ use lib.Count.{leadingZeros, leading-top}
 use lib.Dec.{eqb, ltb, leb}
 use lib.Pow.{pow-pos, pow-mono}
 use Rattle.image_fields.proofs.Tests.{split, less}
-use Rattle.rules.proofs.Bools.{eqb-self}
 use Rattle.scope_stack.specs.Word.{wordOf, slot, wordAt, Top, Newest}
 
 at-or-below : (j n : ℕ) → j < suc n → (j ≡ n) ⊎ (j < n)
@@ -160,17 +159,20 @@ word-clear k i p h =
     ∙ word-same 64 (λ j. p (slot k j) && not (eqb j i)) (λ j. cond (eqb (slot k j) (slot k i)) false (p (slot k j))) (λ j l. rw (slot-eqb k j i) (choose-off (eqb j i) (p (slot k j))))
 
 -- the bit j alone is as high as the word
+top-at : (n m j : ℕ) → 2 ^ n ≤ m → m < 2 ^ suc n → 2 ^ j ≤ m → m < 2 ^ suc j → j ≡ n
+top-at n m j low high lo hi =
+    ⊎-elim
+    (λ (l : j < n). absurd (let up : 2 ^ suc j ≤ 2 ^ n = pow-mono (omega arith) in omega arith))
+    (λ (l : n ≤ j). ⊎-elim
+    (λ (g : n < j). absurd (let up : 2 ^ suc n ≤ 2 ^ j = pow-mono (omega arith) in omega arith))
+    (λ (g : j ≤ n). omega arith) (less n j))
+    (less j n)
+
 top-step : (b : Bool) (n : ℕ) (p : ℕ → Bool) (m j : ℕ) → p n ≡ b → m ≡ cond b 1 0 * 2 ^ n + wordOf n p → 2 ^ j ≤ m → m < 2 ^ suc j
     → (m ≡ wordOf n p → Newest 0 n p m j) → Newest 0 (suc n) p m j
 top-step true n p m j e is lo hi ih =
     let w = word-lt n p in
-    let eq : j ≡ n =
-    ⊎-elim
-    (λ (l : j < n). absurd (let up : 2 ^ suc j ≤ 2 ^ n = pow-mono (omega arith) in omega arith))
-    (λ (l : n ≤ j). ⊎-elim
-    (λ (g : n < j). absurd (let up : 2 ^ suc n ≤ 2 ^ j = pow-mono (omega arith) in omega (arith, pow-suc 2 n)))
-    (λ (g : j ≤ n). omega arith) (less n j))
-    (less j n) in
+    let eq : j ≡ n = top-at n m j (omega arith) (omega (arith, pow-suc 2 n)) lo hi in
     record {
       below = omega arith;
       set = ap p eq ∙ e;
@@ -332,12 +334,8 @@ ones-without (suc n) m j h t =
     let s : m - 2 ^ j < 2 ^ n = omega arith in
     ones-short n m l ∙ ones-without n m j l t ∙ ap suc (sym (ones-short n (m - 2 ^ j) s)))
     (λ (l : 2 ^ n ≤ m).
-    let b : j < suc n = top-below m j (suc n) t h in
-    let e : j ≡ n =
-    ⊎-elim
-    (λ (q : j < n). absurd (let up : 2 ^ (j + 1) ≤ 2 ^ n = pow-mono {i = j + 1} {j = n} (omega arith) in omega (arith, t .high)))
-    (λ (q : n ≤ j). omega arith)
-    (less j n) in
+    let one : j + 1 ≡ suc j = omega arith in
+    let e : j ≡ n = top-at n m j l h (t .low) (subst (λ (x : ℕ). m < 2 ^ x) one (t .high)) in
     let s : m - 2 ^ n < 2 ^ n = subst (λ (x : ℕ). m - 2 ^ x < 2 ^ x) e (top-rest m j t) in
     ones-long n m l ∙ ap suc (sym (ones-short n (m - 2 ^ n) s) ∙ ap (λ (x : ℕ). ones (suc n) (m - 2 ^ x)) (sym e)))
     (less m (2 ^ n))

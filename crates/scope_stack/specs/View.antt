@@ -58,11 +58,11 @@ pub record Kept (l : Locals) : Type 0 where
   pub depthRoom : length (l .depths) ≡ 64
   pub dtorRoom : l .dtors < 2 ^ (l .count)
 
--- the arrays of states: a bit of the word is set where the local is Alive
+-- the arrays of states: a bit of alive is set where the local is Alive
 pub record Held (t : States) : Type 0 where
   pub kindRoom : length (t .kinds) ≡ 64
   pub firstRoom : length (t .firsts) ≡ 64
-  pub word : t .words ≡ wordAt 0 64 (aliveAt t)
+  pub word : t .alive ≡ wordAt 0 64 (aliveAt t)
 
 -- the states of n locals, with the rows that they need; what is past them is Alive
 pub record Rowed (n : ℕ) (t : States) (rows : List ℕ) (cur width : ℕ) : Type 0 where
@@ -86,7 +86,7 @@ Marked T types at n mark = mark ≡ wordAt 0 n (dropIn T types at)
 
 -- the mark of a stack: the AND of the two words that are kept
 abbrev pub markOf : Locals → States → ℕ
-markOf l t = bitAnd (t .words) (l .dtors)
+markOf l t = bitAnd (t .alive) (l .dtors)
 
 -- what every stack of the pass meets; P says which tables are those of the image
 pub record Sound (P : Tables → Type 0) (l : Locals) (t : States) (rows : List ℕ) (cur width : ℕ) : Type 0 where

@@ -28,12 +28,12 @@ pub struct Locals {
     pub dtors: u64,
 }
 
-// Their states: kind 0 Alive, 1 to 6 the error that a use reports, with one place, and 8 more where a row has the places. A bit of words
+// Their states: kind 0 Alive, 1 to 6 the error that a use reports, with one place, and 8 more where a row has the places. A bit of alive
 // for each that is Alive; what is past the locals is Alive.
 pub struct States {
     pub kinds: Kinds,
     pub firsts: Firsts,
-    pub words: u64,
+    pub alive: u64,
 }
 
 // A state of States.
@@ -112,16 +112,16 @@ pub fn without(m: u64, j: usize) -> u64
 // Whether a word marks a local.
 pub fn has_bit(w: u64, i: usize) -> bool
     requires { ⌜ i < 64 ⌝ }
-    ensures { λ r. ⌜ ((k n : ℕ) (p : ℕ → Bool) → n ≤ 64 → i < n → w ≡ wordAt k n p → r ≡ p (slot k i)) ⌝ }
+    ensures { λ r. ⌜ ((k n : ℕ) (p : ℕ → Bool) → i < n → w ≡ wordAt k n p → r ≡ p (slot k i)) ⌝ }
 {
     w & bit(i) != 0
 }
 
 // The mark of a stack.
-pub fn mark_of(words: u64, dtors: u64) -> u64
-    ensures { λ r. ⌜ ((l : Locals) (t : States) → words ≡ t .words → dtors ≡ l .dtors → r ≡ markOf l t) ⌝ }
+pub fn mark_of(alive: u64, dtors: u64) -> u64
+    ensures { λ r. ⌜ ((l : Locals) (t : States) → alive ≡ t .alive → dtors ≡ l .dtors → r ≡ markOf l t) ⌝ }
 {
-    words & dtors
+    alive & dtors
 }
 
 // The bits of a word from base on.
@@ -172,7 +172,7 @@ impl States {
         States {
             kinds: [0; 64],
             firsts: [0; 64],
-            words: 18446744073709551615,
+            alive: 18446744073709551615,
         }
     }
 
@@ -203,7 +203,7 @@ impl States {
             ) {
                 self.kinds[at] = kind;
                 self.firsts[at] = place;
-                self.words = with_bit(self.words, at, kind == 0);
+                self.alive = with_bit(self.alive, at, kind == 0);
             }
             at += 1;
         }
@@ -219,7 +219,7 @@ impl States {
         while i < m {
             self.kinds[i] = 0;
             self.firsts[i] = 0;
-            self.words = with_bit(self.words, i, true);
+            self.alive = with_bit(self.alive, i, true);
             i += 1;
         }
         self
@@ -230,13 +230,13 @@ impl States {
 pub fn needs_revival<'a>(
     names: &'a Names,
     depths: &'a Depths,
-    words: u64,
+    alive: u64,
     name: u16,
     depth: u8,
 ) -> bool
-    ensures { λ r. ⌜ ((p : ℕ → Bool) → words ≡ wordAt 0 64 p → r ≡ false → (i : ℕ) → i < 64 → p i ≡ false → Named (now (names .entry)) (now (depths .entry)) name depth i → ⊥) ⌝ }
+    ensures { λ r. ⌜ ((p : ℕ → Bool) → alive ≡ wordAt 0 64 p → r ≡ false → (i : ℕ) → i < 64 → p i ≡ false → Named (now (names .entry)) (now (depths .entry)) name depth i → ⊥) ⌝ }
 {
-    let mut m = 18446744073709551615 - words;
+    let mut m = 18446744073709551615 - alive;
     while 0 < m {
         let k = newest(m);
         if names[k] == name {

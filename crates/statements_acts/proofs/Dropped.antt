@@ -162,7 +162,7 @@ module _ (T : Tables) (names types depths : List ℕ) (g : ℕ → Status) (q : 
           let e : some′ (h .n) ≡ [] = drops-none (h .n) zero in
           (rest-end f old at (some′ k) out place (some′ (h .n)) (h .rest) (some′ k) refl (ap f e ∙ fn), count-end (length (some′ k)) put (some′ (h .n)) (h .many) e)
 
--- a turn for each set bit is a turn for each delete
+-- the set bits of a mark are as many as the deletes by it, if no name is spared
 module _ (T : Tables) (names types depths : List ℕ) (g : ℕ → Status) (p : ℕ) where
   many-drops : (n : ℕ) → many n (dropIn T types g) ≡ length (some′ T names types depths g (admitted All) p n)
   unfolding stacked many

@@ -1,9 +1,9 @@
 -- Laws of a mark whose bits below a local are masked off: what is deleted of the locals from there on.
 -- Assumes nothing.
 use Prim.Native.Nat.{ℕ, zero, suc, _<_}
-use mathlib.Core.Path.{_≡_, refl, sym, ap, _∙_}
+use mathlib.Core.Path.{_≡_, refl, _∙_}
 use mathlib.Core.Bool.{Bool, true, false, cond, _&&_}
-use mathlib.Core.List.{List, [], _∷_}
+use mathlib.Core.List.{List, []}
 use native.Mathlib.Omega.{arith}
 use lib.Dec.{leb}
 use lib.ListN.{getD}
@@ -11,7 +11,7 @@ use Rattle.tables.specs.Tables.{Tables}
 use Rattle.rules.specs.Questions.{auto}
 use Rattle.rules.specs.State.{State as Status, gone, deleted, isAlive}
 use Rattle.rules.specs.Stack.{Static}
-use Rattle.rules.specs.Rules.{states, Drop, dropOf, collect}
+use Rattle.rules.specs.Rules.{states, collect}
 use Rattle.scope_stack.specs.Word.{wordAt}
 use Rattle.scope_stack.proofs.Words.{word-same}
 use Rattle.scope_state.specs.Locals.{stacked}

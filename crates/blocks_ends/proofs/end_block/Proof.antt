@@ -40,11 +40,11 @@ span-at-requires c κs = search needs
 put-tail-requires : tie.Need-put-tail-requires
 put-tail-requires c κs = search needs
 
--- src/lib.rt:272:17
+-- src/lib.rt:262:17
 add-count : tie.Need-add-count
 add-count c = search needs
 
--- src/lib.rt:272:17
+-- src/lib.rt:262:17
 add-count-2 : tie.Need-add-count-2
 add-count-2 c =
     let at-put-tail = c .before .before .before .before in
@@ -55,31 +55,31 @@ add-count-2 c =
     let few = at-put-tail .put-tail .ensures .1 in
     omega (arith, h .inserted, h .inside, h .small)
 
--- src/lib.rt:273:33
+-- src/lib.rt:263:33
 add-put-two : tie.Need-add-put-two
 add-put-two c =
     let start = c .before .before .before .before .before .before .before .before .before .before .before .before .before .before in
     omega (arith, start .pre .0 .gap)
 
--- src/lib.rt:273:52
+-- src/lib.rt:263:52
 cast-put-two : tie.Need-cast-put-two
 cast-put-two c = search needs
 
--- src/lib.rt:273:5
+-- src/lib.rt:263:5
 put-two-requires : tie.Need-put-two-requires
 put-two-requires c κs =
     let start = c .before .before .before .before .before .before .before .before .before .before .before .before .before .before in
     omega (arith, start .pre .0 .gap)
 
--- src/lib.rt:274:9
+-- src/lib.rt:264:9
 fitting-requires : tie.Need-fitting-requires
 fitting-requires c κs = search needs
 
--- src/lib.rt:275:19
+-- src/lib.rt:265:19
 ended-requires : tie.Need-ended-requires
 ended-requires c κs = search needs
 
--- src/lib.rt:275:5
+-- src/lib.rt:265:5
 put-place-requires : tie.Need-put-place-requires
 put-place-requires c κs =
     let start = c .before .before .before .before .before .before .before .before .before .before .before .before .before .before .before .before .before .before .before .before in

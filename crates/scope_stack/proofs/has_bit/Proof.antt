@@ -18,7 +18,7 @@ bit-requires c κs = search needs
 
 -- src/lib.rt:113:1
 returns : tie.Need-returns
-returns c = λ k n p le l e. ap₂ (λ (x y : ℕ). not (eqb (bitAnd x y) 0)) e (c .bit .ensures) ∙ word-bit n (c .before .args .i) (λ j. p (slot k j)) l
+returns c = λ k n p l e. ap₂ (λ (x y : ℕ). not (eqb (bitAnd x y) 0)) e (c .bit .ensures) ∙ word-bit n (c .before .args .i) (λ j. p (slot k j)) l
 
 pub has-bit-spec : {M : Type 1} → statement M
 has-bit-spec = tie.close (tie.spec bit-requires returns)
