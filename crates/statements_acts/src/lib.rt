@@ -501,12 +501,12 @@ pub fn list_left(
 {
     let mut text = [32u8; 73];
     begin_lefts(paged, span, &mut text);
-    let mut m = mark;
+    let mut rest = mark;
     let mut at = n;
-    while 0 < m {
-        let i = scope_stack::newest(m);
+    while 0 < rest {
+        let i = scope_stack::newest(rest);
         at = put_left(paged, &text, out, lefts, at, span, number(names[i]));
-        m = scope_stack::without(m, i);
+        rest = scope_stack::without(rest, i);
     }
     at
 }
