@@ -1,12 +1,14 @@
-//! Links the static library `ownership_pass`, if there is one: the cfg `ours`; and `lent` beside it: the cfg `reports`. With the feature
-//! `mistakes`: a copy of src/rules.rs for each mistake of mistakes.txt, and the list of them.
+//! Links the static library `ownership_pass`, if there is one: the cfg `ours`; `lent` beside it: the cfg `reports`; and an earlier
+//! `ownership_pass`, its entry under another name: the cfg `before`. With the feature `mistakes`: a copy of src/rules.rs for each mistake of mistakes.txt, and the list of them.
 use std::fmt::Write;
 use std::path::{Path, PathBuf};
+use std::process::Command;
 
 fn main() {
     println!("cargo:rerun-if-changed=build.rs");
     let here = PathBuf::from(std::env::var("CARGO_MANIFEST_DIR").unwrap());
     link(&here);
+    link_before();
     if std::env::var("CARGO_FEATURE_MISTAKES").is_ok() {
         copies(&here);
     }
@@ -26,6 +28,29 @@ fn link(here: &Path) {
             println!("cargo:rustc-cfg={cfg}");
         }
     }
+}
+
+// The library of the folder that OWNERSHIP_PASS_BEFORE names, if it names one.
+fn link_before() {
+    println!("cargo:rerun-if-env-changed=OWNERSHIP_PASS_BEFORE");
+    println!("cargo:rustc-check-cfg=cfg(before)");
+    let Ok(folder) = std::env::var("OWNERSHIP_PASS_BEFORE") else { return };
+    let library = Path::new(&folder).join("libownership_pass.a");
+    println!("cargo:rerun-if-changed={}", library.display());
+    let out = std::env::var("OUT_DIR").unwrap();
+    // one object that exports nothing else, so that no name of the two libraries is the same
+    let (object, archive) = (format!("{out}/before.o"), format!("{out}/libbefore.a"));
+    tool("ld", &["-r", "--whole-archive", library.to_str().unwrap(), "-o", &object]);
+    tool("objcopy", &["--redefine-sym=ownership_pass=before_pass", "--keep-global-symbol=before_pass", &object]);
+    let _ = std::fs::remove_file(&archive);
+    tool("ar", &["rcs", &archive, &object]);
+    println!("cargo:rustc-link-search=native={out}");
+    println!("cargo:rustc-link-lib=static=before");
+    println!("cargo:rustc-cfg=before");
+}
+
+fn tool(name: &str, words: &[&str]) {
+    assert!(Command::new(name).args(words).status().is_ok_and(|s| s.success()), "{name} {words:?} failed");
 }
 
 fn copies(here: &Path) {

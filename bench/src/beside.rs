@@ -71,18 +71,86 @@ pub fn beside(runs: usize) {
         let [pass, page] = [Memory::pass, Memory::page].map(|f| median((0..runs).map(|_| f(&mut m)).collect()));
         println!("{what}, {} bytes: pass {:.3} ms, page {:.3} ms, {:.2}", m.image.len(), pass / 1e6, page / 1e6, page / pass);
     }
+    for (what, i) in drops() {
+        let mut m = Memory::new(&i);
+        let pass = median((0..runs).map(|_| m.pass()).collect());
+        println!("{what}, {} bytes: pass {:.1} us", m.image.len(), pass / 1e3);
+    }
     let mut slow = Memory::new(&deep_types(58_000));
     let [pass, room] = [Memory::pass, Memory::room].map(|f| median((0..runs).map(|_| f(&mut slow)).collect()));
     println!("64 locals of a type as deep as may be, {} bytes: pass {:.2} ms, room {:.2} ms", slow.image.len(), pass / 1e6, room / 1e6);
 }
 
-/// The bodies of four sizes with 4 locals, and the one of deep types, a file each, for `reading.rs` and counts of instructions.
+/// The pass of an earlier library and this one's, each body by both in turn: the generated bodies, and those that spend their time on drops.
+#[cfg(before)]
+pub fn before(runs: usize) -> i32 {
+    println!("{:>52}{:>8}{:>10}{:>14}{:>14}{:>8}", "body", "bytes", "bytes out", "before, us", "now, us", "ratio");
+    for bytes in [200, 2_000, 20_000, 60_000] {
+        for locals in [4, 16, 64] {
+            beside_before(&format!("generated, {bytes} bytes, {locals} locals"), &generated(bytes, locals, 0), runs);
+        }
+    }
+    for (what, i) in drops() {
+        beside_before(&what, &i, runs);
+    }
+    beside_before("64 locals of a type as deep as may be", &deep_types(58_000), runs);
+    0
+}
+
+#[cfg(before)]
+fn beside_before(what: &str, i: &Image, runs: usize) {
+    let mut m = Memory::new(i);
+    let (mut old, mut new) = (vec![], vec![]);
+    for run in 0..runs {
+        // each comes first in every second run
+        if run % 2 == 0 {
+            old.push(m.timed(ours::pass_before));
+        }
+        new.push(m.pass());
+        if run % 2 == 1 {
+            old.push(m.timed(ours::pass_before));
+        }
+    }
+    let (old, new) = (median(old), median(new));
+    println!("{what:>52}{:>8}{:>10}{:>14.2}{:>14.2}{:>8.2}", m.image.len(), m.output.len(), old / 1e3, new / 1e3, new / old);
+}
+
+/// Bodies that are mostly drops (document 02, (b)): returns with 64 locals of which some live, and blocks of one local in one with 63 that live.
+fn drops() -> Vec<(String, Image)> {
+    let mut list = vec![];
+    for (live, times) in [(1, 4_000), (8, 4_000), (64, 1_000)] {
+        list.push((format!("64 locals, {live} live, {times} returns of a value"), living(64, live, times, || give(40, literal()))));
+    }
+    for live in [1, 8, 64] {
+        list.push((format!("64 locals, {live} live, 4000 bare returns"), living(64, live, 4_000, || back(40))));
+    }
+    let own = || Stmt::Block(block(41, vec![set(42, V, T, literal())]));
+    list.push(("63 live locals, 2000 blocks of one more".into(), living(63, 63, 2_000, own)));
+    list
+}
+
+/// So many locals, of which some live, as far apart as can be; then a statement many times.
+fn living(locals: usize, live: usize, times: usize, statement: impl Fn() -> Stmt) -> Image {
+    let mut i = tables();
+    let first = i.names.len() as Name;
+    i.names.extend((0..locals).map(|k| format!("l{k}").into_bytes()));
+    i.body.statements = (0..locals).map(|k| set(30, first + k as Name, T, literal())).collect();
+    let gone = (0..locals).filter(|k| k % (locals / live) != 0);
+    i.body.statements.extend(gone.map(|k| deletion(31, first + k as Name)));
+    i.body.statements.extend((0..times).map(|_| statement()));
+    i
+}
+
+/// The bodies of four sizes with 4 locals, the one of deep types and those of drops, a file each, for `reading.rs` and counts of instructions.
 pub fn write_bodies(folder: &std::path::Path) -> i32 {
     let write = |name: String, i: &Image| std::fs::write(folder.join(name), image::write(i).bytes).unwrap();
     for bytes in [200, 2_000, 20_000, 60_000] {
         write(format!("generated-{bytes}"), &generated(bytes, 4, 0));
     }
     write("deep-types".into(), &deep_types(58_000));
+    for (k, (_, i)) in drops().iter().enumerate() {
+        write(format!("drops-{k}"), i);
+    }
     0
 }
 
@@ -203,11 +271,15 @@ impl Memory {
     }
 
     fn pass(&mut self) -> f64 {
+        self.timed(ours::pass)
+    }
+
+    fn timed(&mut self, pass: fn(&[u8], Lent<'_>) -> u32) -> f64 {
         let mut totals = [0; 4];
         let [errors, warnings, left] = &mut self.lists;
         let lent = Lent { output: &mut self.output, errors, warnings, left, totals: &mut totals };
         let start = Instant::now();
-        let answer = ours::pass(&self.image, lent);
+        let answer = pass(&self.image, lent);
         let time = start.elapsed().as_nanos() as f64;
         assert_eq!(answer, 0);
         time

@@ -65,6 +65,15 @@ pub fn all() -> Vec<(String, Image)> {
     for total in [65_535, 65_536, 65_537] {
         add(format!("{total} bytes"), long(total));
     }
+    // a block of some locals in one with the rest of 64: at its end the outer ones are masked off, all of them where it has none
+    for own in [0, 1, 2, 32, 63, 64] {
+        let inner = Stmt::Block(block(23, locals(own)));
+        let last = Stmt::Block(block(24, [locals(own), vec![back(25)]].concat()));
+        add(
+            format!("{own} of 64 locals in a block"),
+            body(&[], [locals(64 - own), vec![inner.clone(), deletion(26, V), inner, last]].concat()),
+        );
+    }
     // 64 locals and so many returns: 64 deletes before each
     let returns = |n| body(&[], [locals(64), vec![give(20, literal()); n]].concat());
     add("65,535 statements or fewer out".into(), returns((65_535 - 64) / 65));

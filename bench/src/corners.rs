@@ -59,6 +59,14 @@ pub fn rows() -> Vec<Row> {
             vec![],
             vec![],
         ),
+        row(
+            "K4: revived, both",
+            body(&[], vec![let_v(21), moving(22, v(23)), let_v(24)]),
+            vec![let_v(21), moving(22, v(23)), let_v(24), deletion(10, V), deletion(10, V)],
+            vec![],
+            vec![],
+            vec![],
+        ),
         as_is("K4: one state", &[], vec![let_v(21), let_v(22), moving(23, v(24))], vec![], vec![], vec![]),
         as_is(
             "K5",

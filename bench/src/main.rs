@@ -62,9 +62,16 @@ fn command() -> i32 {
         #[cfg(ours)]
         ["bodies", folder] => beside::write_bodies(&files.from.join(folder)),
         ["speed", runs] => speeds(runs.parse().unwrap()),
+        #[cfg(all(ours, before))]
+        ["before", runs] => beside::before(runs.parse().unwrap()),
+        #[cfg(not(all(ours, before)))]
+        ["before", ..] => {
+            eprintln!("there is no library, or no earlier one: OWNERSHIP_PASS_BEFORE names its folder; then build anew");
+            2
+        }
         _ => {
             eprintln!(
-                "bench compare IMAGES DAMAGED SEED | differ IMAGES DAMAGED SEED | answer < IMAGE | image LABEL | images FILE MANY | store FILE | replay FILE | records FOLDER BYTES SEED | bodies FOLDER | speed RUNS"
+                "bench compare IMAGES DAMAGED SEED | differ IMAGES DAMAGED SEED | answer < IMAGE | image LABEL | images FILE MANY | store FILE | replay FILE | records FOLDER BYTES SEED | bodies FOLDER | speed RUNS | before RUNS"
             );
             2
         }

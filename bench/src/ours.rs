@@ -2,20 +2,32 @@
 use crate::answer::Error;
 use std::mem::{align_of, offset_of, size_of};
 
+macro_rules! declare_pass {
+    ($name:ident) => {
+        unsafe extern "C" {
+            fn $name(
+                image: *const u8,
+                image_len: usize,
+                output: *mut u8,
+                output_len: usize,
+                errors: *mut u32,
+                errors_len: usize,
+                warnings: *mut u32,
+                warnings_len: usize,
+                left: *mut u32,
+                left_len: usize,
+                totals: *mut u64,
+            ) -> u32;
+        }
+    };
+}
+
+declare_pass!(ownership_pass);
+// the entry of an earlier library, under another name
+#[cfg(before)]
+declare_pass!(before_pass);
+
 unsafe extern "C" {
-    fn ownership_pass(
-        image: *const u8,
-        image_len: usize,
-        output: *mut u8,
-        output_len: usize,
-        errors: *mut u32,
-        errors_len: usize,
-        warnings: *mut u32,
-        warnings_len: usize,
-        left: *mut u32,
-        left_len: usize,
-        totals: *mut u64,
-    ) -> u32;
     fn ownership_room(image: *const u8, image_len: usize, room: *mut u64) -> u32;
     fn ownership_page(image: *const u8, image_len: usize, page: *mut u8, page_len: usize, written: *mut u64) -> u32;
     #[cfg(reports)]
@@ -77,11 +89,23 @@ pub struct Lent<'a> {
     pub totals: &'a mut [u64; 4],
 }
 
+type Pass = unsafe extern "C" fn(*const u8, usize, *mut u8, usize, *mut u32, usize, *mut u32, usize, *mut u32, usize, *mut u64) -> u32;
+
 /// 0 or the fault's number.
 pub fn pass(image: &[u8], lent: Lent<'_>) -> u32 {
+    call(ownership_pass, image, lent)
+}
+
+/// The same of the earlier library.
+#[cfg(before)]
+pub fn pass_before(image: &[u8], lent: Lent<'_>) -> u32 {
+    call(before_pass, image, lent)
+}
+
+fn call(pass: Pass, image: &[u8], lent: Lent<'_>) -> u32 {
     // the pointers and lengths are those of slices
     unsafe {
-        ownership_pass(
+        pass(
             image.as_ptr(),
             image.len(),
             lent.output.as_mut_ptr(),

@@ -21,7 +21,7 @@ use Rattle.scope_stack.specs.declared.Locals.{Locals}
 use Rattle.scope_stack.specs.declared.States.{States}
 use Rattle.scope_stack.specs.View.{rowOf, view, Sound}
 use Rattle.scope_rows.specs.Rows.{Copied, Copies}
-use Rattle.scope_stack.proofs.Scopes.{nested-view}
+use Rattle.scope_stack.proofs.Scopes.{nested-view, sound-states}
 use Rattle.scope_rows.proofs.Elsewhere.{view-same, rowed-same, view-copied, rowed-copied}
 use Rattle.statements_changes.specs.Turns.{retold}
 use Rattle.blocks_laws.specs.Walks.{Walked, BlockWalks}
@@ -46,11 +46,13 @@ module _ (l : Locals) (t : States) (rows new : List ℕ) (cur width at : ℕ) (b
   pub kept-view : view l t new cur width ≡ view l t rows cur width
   kept-view = view-same l t rows new cur width (h .rowed) (b .room) (λ k lo hi. b .same k (omega arith))
 
-pub stands-in : (l : Locals) (t : States) (rows : List ℕ) (cur width : ℕ) → Sound l t rows cur width → RowsStand (l .count) t rows cur width
+pub stands-in : {P : Tables → Type 0} (l : Locals) (t : States) (rows : List ℕ) (cur width : ℕ) → Sound P l t rows cur width → RowsStand (l .count) t rows cur width
 stands-in l t rows cur width h = record { held = h .held; rowed = h .rowed }
 
-pub sound-of : (l : Locals) (t u : States) (rows new : List ℕ) (cur at width : ℕ) → Sound l t rows cur width → RowsStand (l .count) u new at width → Sound l u new at width
-sound-of l t u rows new cur at width s h = record { kept = s .kept; held = h .held; rowed = h .rowed }
+-- a merge keeps a stack sound
+pub sound-merge : {P : Tables → Type 0} (l : Locals) (t u : States) (rows new : List ℕ) (cur at width : ℕ) → Sound P l t rows cur width → RowsStand (l .count) u new at width
+    → Sound P l u new at width
+sound-merge l t u rows new cur at width s h = sound-states l t u rows new cur at width s (h .held) (h .rowed)
 
 pub below-less : (cur at : ℕ) (rows new : List ℕ) → cur ≤ at → Below at rows new → Below cur rows new
 below-less cur at rows new l b = record { room = b .room; same = λ k lk. b .same k (omega arith) }
@@ -88,9 +90,8 @@ module _ (s tb : List ℕ) (env : Env) (l : Locals) (t : States) (rows : List �
       depth = h .depth;
       limit = h .limit;
       width = h .width;
-      sound = record { kept = h .sound .kept; held = h .sound .held; rowed = rowed-copied l t rows new (env .cur) at (env .width) (h .sound .rowed) (copies-true e) };
+      sound = sound-states l t t rows new (env .cur) at (env .width) (h .sound) (h .sound .held) (rowed-copied l t rows new (env .cur) at (env .width) (h .sound .rowed) (copies-true e));
       nested = nested-view (12 - env .left) l t t rows new (env .cur) at (env .width) (h .nested);
-      drops = h .drops;
     })
 
     -- 254: the rows end before the copy
@@ -111,9 +112,9 @@ module _ (env r : Env) (at : ℕ) (is : r ≡ movedOf env at) where
   pub copies-at : {n : ℕ} {kinds rows : List ℕ} {ok : Bool} {new : List ℕ} → Copies n (env .width) kinds rows (env .cur) (r .cur) ok new → Copies n (env .width) kinds rows (env .cur) at ok new
   copies-at {n} {kinds} {rows} {ok} {new} h = subst (λ (x : Env). Copies n (env .width) kinds rows (env .cur) (x .cur) ok new) is h
 
-  pub comes-at : {s : List ℕ} {l : Locals} {rows : List ℕ} {p : Place} {o : States} {rows′ pl′ : List ℕ} → Comes s (r .cur) (r .width) (blockRows (r .cur) (r .left)) l rows p o rows′ pl′
-      → Comes s at (env .width) (blockRows at (env .left)) l rows p o rows′ pl′
-  comes-at {s} {l} {rows} {p} {o} {rows′} {pl′} h = subst (λ (x : Env). Comes s (x .cur) (x .width) (blockRows (x .cur) (x .left)) l rows p o rows′ pl′) is h
+  pub comes-at : {s tb : List ℕ} {l : Locals} {rows : List ℕ} {p : Place} {o : States} {rows′ pl′ : List ℕ} → Comes s tb (r .cur) (r .width) (blockRows (r .cur) (r .left)) l rows p o rows′ pl′
+      → Comes s tb at (env .width) (blockRows at (env .left)) l rows p o rows′ pl′
+  comes-at {s} {tb} {l} {rows} {p} {o} {rows′} {pl′} h = subst (λ (x : Env). Comes s tb (x .cur) (x .width) (blockRows (x .cur) (x .left)) l rows p o rows′ pl′) is h
 
   pub walks-at : (s tb : List ℕ) (l : Locals) (t : States) (rows : List ℕ) (p : Place) (m : Memory) (o : States) (rows′ pl′ : List ℕ) (m′ : Memory)
       → ((T : Tables) → Says s tb T → (faultIn pl′ ≡ 254 → ⊥)
@@ -148,9 +149,9 @@ behind-asked s tb env l t rows p h low r is =
     subst (λ (x : Env). (l .count ≤ 64) × (x .width ≡ 8) × (x .cur < 4294967296)) (sym is) (h .sound .kept .small, h .width, omega arith)
 
 -- a walk that ends where the rows do not reach, or with a fault
-pub comes-faulty : (s : List ℕ) (cur width least : ℕ) (l : Locals) (rows : List ℕ) (p : Place) (r : States) (rows′ pl′ : List ℕ) → length pl′ ≡ 10 → 0 < faultIn pl′ → Below cur rows rows′
-    → (faultIn pl′ ≡ 254 → length rows < least) → Comes s cur width least l rows p r rows′ pl′
-comes-faulty s cur width least l rows p r rows′ pl′ room lt below short = record {
+pub comes-faulty : (s tb : List ℕ) (cur width least : ℕ) (l : Locals) (rows : List ℕ) (p : Place) (r : States) (rows′ pl′ : List ℕ) → length pl′ ≡ 10 → 0 < faultIn pl′ → Below cur rows rows′
+    → (faultIn pl′ ≡ 254 → length rows < least) → Comes s tb cur width least l rows p r rows′ pl′
+comes-faulty s tb cur width least l rows p r rows′ pl′ room lt below short = record {
   room = room;
   below = below;
   short = short;
@@ -178,7 +179,7 @@ module _ (s tb : List ℕ) (env : Env) (l : Locals) (t first : States) (rows pl 
   else-short lt = let f = few s tb env l t rows (placeIn pl) h in let e = enough in omega arith
 
   module _ {ok : Bool} {rows₁ : List ℕ} (c : Copies (l .count) (env .width) (t .kinds) rows (env .cur) b ok rows₁) (yes : ok ≡ true) {other : States} {rows₂ pl₂ : List ℕ}
-      (come : Comes s b (env .width) (blockRows b (env .left)) l rows₁ (placeIn pl) other rows₂ pl₂) where
+      (come : Comes s tb b (env .width) (blockRows b (env .left)) l rows₁ (placeIn pl) other rows₂ pl₂) where
     whole : Below b rows rows₂
     whole = below-both b b rows rows₁ rows₂ (omega arith) (branch-below s tb env l t rows (placeIn pl) h b c) (come .below)
 
@@ -242,7 +243,7 @@ module _ (s tb : List ℕ) (env : Env) (l : Locals) (t first : States) (rows pl 
       }
 
     else-comes : faultIn pl₂ ≡ 0 → {r : States} {rows₃ pl₃ : List ℕ} {x y : Bool} → MergesIn x y (l .count) t first other rows₂ (env .cur) (env .width) b pl₂ r rows₃ pl₃
-        → Comes s (env .cur) (env .width) (stmtRows (env .cur) (env .left)) l rows (placeIn pl) r rows₃ pl₃
+        → Comes s tb (env .cur) (env .width) (stmtRows (env .cur) (env .left)) l rows (placeIn pl) r rows₃ pl₃
     else-comes z {r} {rows₃} {pl₃} g = record {
       room = g .room;
       below = below-both (env .cur) (env .cur) rows rows₂ rows₃ (omega arith) else-below (g .below);
@@ -252,20 +253,20 @@ module _ (s tb : List ℕ) (env : Env) (l : Locals) (t first : States) (rows pl 
           let f = few s tb env l t rows (placeIn pl) h in
           let e = enough in
           omega arith;
-      sound = λ q. sound-of l t r rows rows₃ (env .cur) (env .cur) (env .width) (h .sound) (g .stands q);
+      sound = λ q. sound-merge l t r rows rows₃ (env .cur) (env .cur) (env .width) (h .sound) (g .stands q);
       within = λ q. subst (Within s) (sym (g .place)) (come .within z);
       grows = λ q. subst (λ (x : Place). Further s (retold (placeIn pl) 0) (retold x 0)) (sym (g .place)) (come .grows z);
     }
 
     -- whatever the merge is told
     module _ {x : Bool} {r : States} {rows₃ pl₃ : List ℕ} (g : MergesElse x (l .count) t first other rows₂ (env .cur) (env .width) b pl₂ r rows₃ pl₃) where
-      pub merged-comes : Comes s (env .cur) (env .width) (stmtRows (env .cur) (env .left)) l rows (placeIn pl) r rows₃ pl₃
+      pub merged-comes : Comes s tb (env .cur) (env .width) (stmtRows (env .cur) (env .left)) l rows (placeIn pl) r rows₃ pl₃
       merged-comes =
           ⊎-elim
           (λ (q : 0 < faultIn pl₂). let e = g .faulty q in
-          subst (λ (z : List ℕ). Comes s (env .cur) (env .width) (stmtRows (env .cur) (env .left)) l rows (placeIn pl) r rows₃ z) (sym (e .2))
-          (subst (λ (z : List ℕ). Comes s (env .cur) (env .width) (stmtRows (env .cur) (env .left)) l rows (placeIn pl) r z pl₂) (sym (e .1))
-          (comes-faulty s (env .cur) (env .width) (stmtRows (env .cur) (env .left)) l rows (placeIn pl) r rows₂ pl₂ (come .room) q else-below else-least)))
+          subst (λ (z : List ℕ). Comes s tb (env .cur) (env .width) (stmtRows (env .cur) (env .left)) l rows (placeIn pl) r rows₃ z) (sym (e .2))
+          (subst (λ (z : List ℕ). Comes s tb (env .cur) (env .width) (stmtRows (env .cur) (env .left)) l rows (placeIn pl) r z pl₂) (sym (e .1))
+          (comes-faulty s tb (env .cur) (env .width) (stmtRows (env .cur) (env .left)) l rows (placeIn pl) r rows₂ pl₂ (come .room) q else-below else-least)))
           (λ (q : faultIn pl₂ ≤ 0). else-comes (no-fault q) (g .merges (no-fault q)))
           (less 0 (faultIn pl₂))
 

@@ -22,8 +22,8 @@ use Rattle.statements_acts.specs.declared.Place.{Place}
 use Rattle.statements_acts.specs.Act.{Within, Grows as Further}
 use Rattle.scope_stack.specs.declared.Locals.{Locals}
 use Rattle.scope_stack.specs.declared.States.{States}
-use Rattle.scope_stack.specs.View.{view, Kept, Held, Nested, Leaves}
-use Rattle.scope_stack.proofs.Scopes.{Extends, leaves-pop, sound-leave, nested-view}
+use Rattle.scope_stack.specs.View.{view, Kept, Drops, Nested, Leaves}
+use Rattle.scope_stack.proofs.Scopes.{Extends, extends-own, leaves-pop, sound-leave, nested-view}
 use Rattle.scope_stack.proofs.Frames.{nested-deeper}
 use Rattle.statements_acts.specs.Marks.{lent}
 use Rattle.statements_changes.specs.declared.Cursor.{Cursor}
@@ -35,14 +35,14 @@ use Rattle.blocks_laws.specs.Ends.{Ends}
 use Rattle.blocks_laws.proofs.Heads.{stmts-in, head-fault, head-walks, depth-inner}
 use Rattle.blocks_ends.specs.declared.Env.{Env}
 use Rattle.blocks_laws.specs.Places.{headed}
-use Rattle.blocks_ends.specs.Ends.{placeIn, faultIn, walkedIn, innerOf, EndThere, Ended}
+use Rattle.blocks_ends.specs.Ends.{placeIn, faultIn, walkedIn, innerOf, Frame, EndThere, Ended}
 use Rattle.blocks_merge.specs.Merges.{Below}
 use Rattle.blocks.specs.Blocks.{Enters, Comes}
 use Rattle.blocks.proofs.Standing.{Turned, below-both, blocks-fault}
 
 -- what is promised of the walk of a block with so much depth left, from a place and a stack
 pub record Done (s tb : List ℕ) (cur width left least : ℕ) (start : Place) (outer : Locals) (t₀ : States) (rows₀ : List ℕ) (m : Memory) (r : States) (rows ns′ pl : List ℕ) (m′ : Memory) : Type 0 where
-  pub comes : Comes s cur width least outer rows₀ start r rows pl
+  pub comes : Comes s tb cur width least outer rows₀ start r rows pl
   pub nodes : length ns′ ≡ 26
   pub walks : (T : Tables) → Says s tb T → (faultIn pl ≡ 254 → ⊥)
       → BlockWalks T s left (suc (12 - left)) (view outer t₀ rows₀ cur width) start m (walkedIn pl (view outer r rows cur width)) m′
@@ -88,7 +88,7 @@ module _ (s tb : List ℕ) (small : Bytes s) (e : Env) (left : ℕ) (low : 0 < l
   module _ {rows nodes out errs warns lefts pl : List ℕ} {l : Locals} {t : States} {c : Cursor} where
     -- a fault of the blocks of a statement
     pub blocks-done : (tag : ℕ) → Turned s tb e start outer t₀ rows₀ out₁ errs₀ warns₀ lefts₀ rows nodes out errs warns lefts pl l t c (Blocks tag) → (p : Place) → p ≡ c .place → {r : States} {rows′ pl′ : List ℕ}
-        (enough : ℕ) → Comes s (e .cur) (e .width) enough l rows p r rows′ pl′ → {out′ errs′ warns′ lefts′ : List ℕ}
+        (enough : ℕ) → Comes s tb (e .cur) (e .width) enough l rows p r rows′ pl′ → {out′ errs′ warns′ lefts′ : List ℕ}
         → ((T : Tables) → Says s tb T → (faultIn pl′ ≡ 254 → ⊥)
         → TagWalks T s (e .left) (12 - e .left) tag (view l t rows (e .cur) (e .width)) p (memory out errs warns lefts) (walkedIn pl′ (view l r rows′ (e .cur) (e .width))) (memory out′ errs′ warns′ lefts′))
         → 0 < faultIn pl′ → (nodes′ : List ℕ) → length nodes′ ≡ 26 → (least : ℕ) → (faultIn pl′ ≡ 254 → length rows₀ < least)
@@ -113,14 +113,19 @@ module _ (s tb : List ℕ) (small : Bytes s) (e : Env) (left : ℕ) (low : 0 < l
             subst (λ (n : ℕ). StmtThere s n (c .place .last)) el (record { t = g .t; deep = g .deep; x = k .0; next = k .1; read = k .2 });
       }
 
+      depth-is : 12 - e .left ≡ suc (12 - left)
+      depth-is = depth-inner left (e .left) low high el
+
+      outside : Extends (suc (12 - left)) outer l
+      outside = subst (λ (d : ℕ). Extends d outer l) depth-is (h .owned .extends)
+
+      -- the block's own frame is what it registered
+      pub end-frame : Nested (12 - left) (shape (view outer t₀ rows₀ (e .cur) (e .width))) → Frame (l .depths) (outer .count) (suc (12 - left)) (l .count)
+      end-frame nested = record { few = h .owned .sound .kept .small; own = extends-own (12 - left) outer l t₀ rows₀ (e .cur) (e .width) outside nested }
+
       module _ (least : ℕ) (pl′ : List ℕ) (ended : Ended start (c .place) pl′) (r : States) (v : Leaves (outer .count) (l .count) t r) (kept : Kept outer)
+          (drops : (T : Tables) → Says s tb T → Drops T outer)
           (nested : Nested (12 - left) (shape (view outer t₀ rows₀ (e .cur) (e .width)))) where
-        depth-is : 12 - e .left ≡ suc (12 - left)
-        depth-is = depth-inner left (e .left) low high el
-
-        outside : Extends (suc (12 - left)) outer l
-        outside = subst (λ (d : ℕ). Extends d outer l) depth-is (h .owned .extends)
-
         popped : view outer r rows (e .cur) (e .width) ≡ pop (suc (12 - left)) (view l t rows (e .cur) (e .width))
         popped = leaves-pop (12 - left) outer l t r rows (e .cur) (e .width) outside v (nested-view (12 - left) outer t₀ t rows₀ rows (e .cur) (e .cur) (e .width) nested)
 
@@ -159,7 +164,7 @@ module _ (s tb : List ℕ) (small : Bytes s) (e : Env) (left : ℕ) (low : 0 < l
             room = ended .room;
             below = h .owned .below;
             short = λ z. let q = ended .fault in absurd (omega arith);
-            sound = λ z. sound-leave (12 - left) outer l t r rows (e .cur) (e .width) outside v kept (h .owned .sound);
+            sound = λ z. sound-leave (12 - left) outer l t r rows (e .cur) (e .width) outside v kept drops (h .owned .sound);
             within = λ z. inside;
             grows = λ z. further;
           };
@@ -190,5 +195,4 @@ enters-inner s tb env e l t rows p is h = subst (λ (x : Env). Enters s tb x l t
   width = h .width;
   sound = h .sound;
   nested = nested-deeper (12 - env .left) (12 - (env .left - 1)) (shape (view l t rows (env .cur) (env .width))) (omega arith) (h .nested);
-  drops = h .drops;
 })

@@ -35,8 +35,7 @@ use Rattle.statements_acts.specs.declared.Place.{Place}
 use Rattle.statements_acts.specs.Act.{Within, Grows as Further}
 use Rattle.scope_stack.specs.declared.Locals.{Locals}
 use Rattle.scope_stack.specs.declared.States.{States}
-use Rattle.scope_stack.specs.Word.{wordOf}
-use Rattle.scope_stack.specs.View.{view, aliveAt, dropAt, Held, Sound, Drops, Nested, Grows, Marks, Named}
+use Rattle.scope_stack.specs.View.{view, aliveAt, markOf, Held, Sound, Nested, Grows, Marks, Named}
 use Rattle.scope_stack.proofs.Scopes.{Extends, register-length, sound-mark, sound-register, registers-marked, registers-fresh, extends-none, extends-more, nested-view}
 use Rattle.scope_stack.proofs.Frames.{nested-register}
 use Rattle.statements_changes.specs.declared.Cursor.{Cursor}
@@ -103,9 +102,8 @@ module _ (s tb : List ℕ) (e : Env) (start : Place) (outer : Locals) (t₀ : St
 
   -- the stack
   pub record Owned (rows : List ℕ) (l : Locals) (t : States) : Type 0 where
-    pub sound : Sound l t rows (e .cur) (e .width)
+    pub sound : Sound (Says s tb) l t rows (e .cur) (e .width)
     pub nested : Nested (12 - e .left) (shape (view l t rows (e .cur) (e .width)))
-    pub drops : (T : Tables) → Says s tb T → Drops T l
     pub extends : Extends (12 - e .left) outer l
     pub below : Below (e .cur) rows₀ rows
 
@@ -140,7 +138,7 @@ module _ (s tb : List ℕ) (e : Env) (start : Place) (outer : Locals) (t₀ : St
   -- the loop begins behind the block's head
   module _ (h : Enters s tb e outer t₀ rows₀ start) (left : ℕ) (el : e .left ≡ left - 1) (there : BlockThere s left (start .at)) where
     start-owned : Owned rows₀ outer t₀
-    start-owned = record { sound = h .sound; nested = h .nested; drops = h .drops; extends = extends-none (12 - e .left) outer; below = below-none (e .cur) rows₀ }
+    start-owned = record { sound = h .sound; nested = h .nested; extends = extends-none (12 - e .left) outer; below = below-none (e .cur) rows₀ }
 
     further : Further s start p₀
     further = head-grows s start (start .written + 4) (block-there s left (start .at) there .1) refl
@@ -168,15 +166,15 @@ module _ (s tb : List ℕ) (e : Env) (start : Place) (outer : Locals) (t₀ : St
   -- what it answers, of the stack
   abbrev Answers : List ℕ → List ℕ → List ℕ → List ℕ → List ℕ → List ℕ → Locals → States → Cursor → List ℕ → List ℕ → List ℕ → List ℕ → List ℕ → Cursor → Turn → Scanning → Type 0
   Answers rows nodes out errs warns lefts l t c nodes′ out′ errs′ warns′ lefts′ c′ turn here =
-      ((T : Tables) → Says s tb T → (σ : Scope Status)
-      → Lends T (here .mark) (l .names) (l .types) (l .depths) (stateIn (t .kinds) (t .firsts) rows (here .cur) (here .width)) (here .locals) σ
+      ((T : Tables) → Says s tb T → (ld : List ℕ) (σ : Scope Status)
+      → Lends T (here .mark) (l .names) (l .types) ld (stateIn (t .kinds) (t .firsts) rows (here .cur) (here .width)) (here .locals) σ
       → (n : ℕ) (τ : Scope Status) (q : Place) (m : Memory)
       → Stood T s (here .left) (12 - here .left) n τ q m nodes c σ (memory out errs warns lefts)
       → After T s (here .left) (12 - here .left) n τ q m nodes′ c′ σ (memory out′ errs′ warns′ lefts′) turn)
       × (Fit s (here .left) nodes′ c′ turn × (length nodes′ ≡ 26) × (turn ≡ Nothing → ⊥) × ((turn ≡ Over → ⊥) → ahead s c′ < ahead s c) × Further s (retold (c .place) 0) (retold (c′ .place) 0))
 
   pub turned : {rows nodes out errs warns lefts pl : List ℕ} {l : Locals} {t : States} {c : Cursor} → Standing rows nodes out errs warns lefts pl l t c → (mark : ℕ)
-      → ((T : Tables) → Drops T l → mark ≡ wordOf (l .count) (dropAt T l t)) → (here : Scanning)
+      → mark ≡ markOf l t → (here : Scanning)
       → here ≡ record { left = e .left; locals = l .count; mark = mark; cur = e .cur; width = e .width }
       → {nodes′ out′ errs′ warns′ lefts′ : List ℕ} {c′ : Cursor} {turn turn′ : Turn} → Answers rows nodes out errs warns lefts l t c nodes′ out′ errs′ warns′ lefts′ c′ turn here
       → turn ≡ turn′ → length out′ ≡ length out → length errs′ ≡ length errs → length warns′ ≡ length warns → length lefts′ ≡ length lefts
@@ -189,7 +187,7 @@ module _ (s tb : List ℕ) (e : Env) (start : Place) (outer : Locals) (t₀ : St
         long = record { nodes = b .1 .1; pl = st .long .pl; out = lo ∙ st .long .out; errs = le ∙ st .long .errs; warns = lw ∙ st .long .warns; lefts = ll ∙ st .long .lefts };
         fit = b .1 .0;
         grows = grows-both (st .grows) (b .1 .4);
-        after = λ T sy. b .0 T sy (seen l t rows) (lends-view l t rows (e .cur) (e .width) T mark (st .owned .sound .rowed) (word T (st .owned .drops T sy))) all σ₀ p₀ m₀ (st .stood T sy);
+        after = λ T sy. b .0 T sy (l .depths) (seen l t rows) (lends-view l t rows (e .cur) (e .width) (st .owned .sound) T sy mark word) all σ₀ p₀ m₀ (st .stood T sy);
       }
 
   module _ {rows nodes out errs warns lefts pl : List ℕ} {l : Locals} {t : States} {c : Cursor} where
@@ -202,7 +200,6 @@ module _ (s tb : List ℕ) (e : Env) (start : Place) (outer : Locals) (t₀ : St
           owned = record {
             sound = sound-mark l t r n (put o (said k (p ∷ []))) rows (e .cur) (e .width) (h .owned .sound) held m;
             nested = nested-view (12 - e .left) l t r rows rows (e .cur) (e .cur) (e .width) (h .owned .nested);
-            drops = h .owned .drops;
             extends = h .owned .extends;
             below = h .owned .below;
           };
@@ -221,12 +218,11 @@ module _ (s tb : List ℕ) (e : Env) (start : Place) (outer : Locals) (t₀ : St
       many = register-length l n y (12 - e .left) t rows (e .cur) (e .width)
 
       module _ (dtor : Bool) (asked : (T : Tables) → Says s tb T → dtor ≡ auto T y) (r : Locals) (g : Grows l n y (12 - e .left) dtor r) (room : l .count < 64) where
-        standing-more : (u : States) → Sound r u rows (e .cur) (e .width) → view r u rows (e .cur) (e .width) ≡ more → Standing rows nodes out errs warns lefts pl r u c
+        standing-more : (u : States) → Sound (Says s tb) r u rows (e .cur) (e .width) → view r u rows (e .cur) (e .width) ≡ more → Standing rows nodes out errs warns lefts pl r u c
         standing-more u sound is = record {
           owned = record {
             sound = sound;
             nested = subst (λ (σ : Scope Status). Nested (12 - e .left) (shape σ)) (sym is) (nested-register n y (12 - e .left) (seen l t rows) (h .owned .nested));
-            drops = λ T sy. g .drops T (asked T sy) (h .owned .drops T sy);
             extends = extends-more (12 - e .left) outer l r n y dtor (h .owned .extends) g;
             below = h .owned .below;
           };
@@ -238,12 +234,12 @@ module _ (s tb : List ℕ) (e : Env) (start : Place) (outer : Locals) (t₀ : St
 
         pub standing-fresh : ((i : ℕ) → i < 64 → aliveAt t i ≡ false → Named (r .names) (r .depths) n (12 - e .left) i → ⊥) → Standing rows nodes out errs warns lefts pl r t c
         standing-fresh calm =
-            standing-more t (sound-register l r n y (12 - e .left) dtor g t rows (e .cur) (e .width) (h .owned .sound .rowed) (h .owned .sound .held))
+            standing-more t (sound-register l r n y (12 - e .left) dtor g t rows (e .cur) (e .width) (h .owned .sound .rowed) (h .owned .sound .held) (h .owned .sound .drops) asked)
             (registers-fresh l r n y (12 - e .left) dtor g t rows (e .cur) (e .width) (h .owned .sound .rowed) calm (omega arith))
 
         pub standing-revived : (p : ℕ) (u : States) → Held u → Marks r n (put false (said 0 (p ∷ []))) t u → Standing rows nodes out errs warns lefts pl r u c
         standing-revived p u held m =
-            let sound = sound-register l r n y (12 - e .left) dtor g t rows (e .cur) (e .width) (h .owned .sound .rowed) (h .owned .sound .held) in
+            let sound = sound-register l r n y (12 - e .left) dtor g t rows (e .cur) (e .width) (h .owned .sound .rowed) (h .owned .sound .held) (h .owned .sound .drops) asked in
             standing-more u (sound-mark r t u n (put false (said 0 (p ∷ []))) rows (e .cur) (e .width) sound held m)
             (registers-marked l r n y (12 - e .left) dtor g t rows (e .cur) (e .width) (h .owned .sound .rowed) p u m)
 
@@ -271,13 +267,12 @@ module _ (s tb : List ℕ) (e : Env) (start : Place) (outer : Locals) (t₀ : St
         width = env .width;
         sound = h .owned .sound;
         nested = h .owned .nested;
-        drops = h .owned .drops;
       }
 
       pub there-blocks : (p : Place) → p ≡ c .place → TagThere s (e .left) (p .at) tag
       there-blocks p is = subst (λ (q : Place). TagThere s (e .left) (q .at) tag) (sym is) (h .fit .0)
 
-      module _ (p : Place) (ep : p ≡ c .place) {rows′ out′ errs′ warns′ lefts′ pl′ : List ℕ} {r : States} (least : ℕ) (come : Comes s (e .cur) (e .width) least l rows p r rows′ pl′)
+      module _ (p : Place) (ep : p ≡ c .place) {rows′ out′ errs′ warns′ lefts′ pl′ : List ℕ} {r : States} (least : ℕ) (come : Comes s tb (e .cur) (e .width) least l rows p r rows′ pl′)
           (tag-walks : (T : Tables) → Says s tb T → (faultIn pl′ ≡ 254 → ⊥)
           → TagWalks T s (e .left) (12 - e .left) tag (view l t rows (e .cur) (e .width)) p (memory out errs warns lefts) (walkedIn pl′ (view l r rows′ (e .cur) (e .width))) (memory out′ errs′ warns′ lefts′)) where
         walks-there : (T : Tables) → Says s tb T → (faultIn pl′ ≡ 254 → ⊥)
@@ -305,7 +300,6 @@ module _ (s tb : List ℕ) (e : Env) (start : Place) (outer : Locals) (t₀ : St
             owned = record {
               sound = come .sound z;
               nested = nested-view (12 - e .left) l t r rows rows′ (e .cur) (e .cur) (e .width) (h .owned .nested);
-              drops = h .owned .drops;
               extends = h .owned .extends;
               below = below-both (e .cur) (e .cur) rows₀ rows rows′ (omega arith) (h .owned .below) (come .below);
             };

@@ -36,7 +36,7 @@ use Rattle.blocks_merge.specs.Merges.{Below, RowsStand, Branches, MergesIn}
 use Rattle.blocks.specs.Blocks.{Enters, Comes, blockRows, stmtRows, ElseMerges}
 use Rattle.blocks.proofs.Standing.{below-both}
 use Rattle.blocks.proofs.Ending.{fault-walks}
-use Rattle.blocks.proofs.Branching.{kept-stands, kept-view, stands-in, sound-of, below-less, few, branch-below, branch-view}
+use Rattle.blocks.proofs.Branching.{kept-stands, kept-view, stands-in, sound-merge, below-less, few, branch-below, branch-view}
 
 -- the tags of statements with blocks, but for a block
 pub tag-of : (tag : ℕ) → blocked tag ≡ true → (tag ≡ 1 → ⊥) → (tag ≡ 7) ⊎ (tag ≡ 8)
@@ -109,13 +109,13 @@ module _ (s tb : List ℕ) (small : Bytes s) (env : Env) (tag : ℕ) (l : Locals
   then-short lt = let f = narrow in let e = enough in omega arith
 
   -- a block is walked as it is
-  pub plain-comes : {r : States} {rows′ pl′ : List ℕ} → Comes s (env .cur) (env .width) (blockRows (env .cur) (env .left)) l rows (placeIn pl) r rows′ pl′
-      → Comes s (env .cur) (env .width) (stmtRows (env .cur) (env .left)) l rows (placeIn pl) r rows′ pl′
+  pub plain-comes : {r : States} {rows′ pl′ : List ℕ} → Comes s tb (env .cur) (env .width) (blockRows (env .cur) (env .left)) l rows (placeIn pl) r rows′ pl′
+      → Comes s tb (env .cur) (env .width) (stmtRows (env .cur) (env .left)) l rows (placeIn pl) r rows′ pl′
   plain-comes c = record { room = c .room; below = c .below; short = λ z. let q = c .short z in omega arith; sound = c .sound; within = c .within; grows = c .grows }
 
   -- behind the first block
   module _ {ok : Bool} {rows₁ : List ℕ} (c : Copies (l .count) (env .width) (t .kinds) rows (env .cur) a ok rows₁) (yes : ok ≡ true) {one : States} {rows₂ pl₂ : List ℕ}
-      (come : Comes s a (env .width) (blockRows a (env .left)) l rows₁ (placeIn pl) one rows₂ pl₂) where
+      (come : Comes s tb a (env .width) (blockRows a (env .left)) l rows₁ (placeIn pl) one rows₂ pl₂) where
     whole : Below a rows rows₂
     whole = below-both a a rows rows₁ rows₂ (omega arith) (branch-below s tb env l t rows (placeIn pl) h a c) (come .below)
 
@@ -182,9 +182,8 @@ module _ (s tb : List ℕ) (small : Bytes s) (env : Env) (tag : ℕ) (l : Locals
             depth = h .depth;
             limit = h .limit;
             width = h .width;
-            sound = sound-of l t t rows rows₂ (env .cur) (env .cur) (env .width) (h .sound) base-stands;
+            sound = sound-merge l t t rows rows₂ (env .cur) (env .cur) (env .width) (h .sound) base-stands;
             nested = subst (λ (τ : Scope Status). Nested (12 - env .left) (shape τ)) (sym base-view) (h .nested);
-            drops = h .drops;
           }
 
           at-flag : getD s (placeIn pl₂ .at) 0 ≡ 1
@@ -196,8 +195,8 @@ module _ (s tb : List ℕ) (small : Bytes s) (env : Env) (tag : ℕ) (l : Locals
           pub else-first : RowsStand (l .count) one rows₂ (rowOf (env .cur) (env .width) (l .count)) (env .width)
           else-first = stands-in l one rows₂ a (env .width) (come .sound z)
 
-          pub else-comes-to : {r : States} {rows₄ pl₄ : List ℕ} → Comes s (env .cur) (env .width) (stmtRows (env .cur) (env .left)) l rows₂ (placeIn pl₃) r rows₄ pl₄
-              → Comes s (env .cur) (env .width) (stmtRows (env .cur) (env .left)) l rows (placeIn pl) r rows₄ pl₄
+          pub else-comes-to : {r : States} {rows₄ pl₄ : List ℕ} → Comes s tb (env .cur) (env .width) (stmtRows (env .cur) (env .left)) l rows₂ (placeIn pl₃) r rows₄ pl₄
+              → Comes s tb (env .cur) (env .width) (stmtRows (env .cur) (env .left)) l rows (placeIn pl) r rows₄ pl₄
           else-comes-to {r} {rows₄} {pl₄} x = record {
             room = x .room;
             below = below-both (env .cur) (env .cur) rows rows₂ rows₄ (omega arith) then-below (x .below);
@@ -240,12 +239,12 @@ module _ (s tb : List ℕ) (small : Bytes s) (env : Env) (tag : ℕ) (l : Locals
         }
 
         module _ {r : States} {rows₄ pl₄ : List ℕ} {x : Bool} (g : MergesIn x false (l .count) t one t rows₂ (env .cur) (env .width) (env .cur) pl₃ r rows₄ pl₄) where
-          pub without-comes : Further s (placeIn pl₂) (placeIn pl₃) → Comes s (env .cur) (env .width) (stmtRows (env .cur) (env .left)) l rows (placeIn pl) r rows₄ pl₄
+          pub without-comes : Further s (placeIn pl₂) (placeIn pl₃) → Comes s tb (env .cur) (env .width) (stmtRows (env .cur) (env .left)) l rows (placeIn pl) r rows₄ pl₄
           without-comes on = record {
             room = g .room;
             below = below-both (env .cur) (env .cur) rows rows₂ rows₄ (omega arith) then-below (g .below);
             short = λ q. then-short (let k = g .short q in let n : length rows₂ ≡ length rows = whole .room in omega arith);
-            sound = λ q. sound-of l t r rows rows₄ (env .cur) (env .cur) (env .width) (h .sound) (g .stands q);
+            sound = λ q. sound-merge l t r rows rows₄ (env .cur) (env .cur) (env .width) (h .sound) (g .stands q);
             within = λ q. subst (Within s) (sym (g .place)) (within-on (come .within z) on);
             grows = λ q. subst (λ (y : Place). Further s (retold (placeIn pl) 0) (retold y 0)) (sym (g .place)) (grows-both (come .grows z) (retold-further on));
           }

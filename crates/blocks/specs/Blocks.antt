@@ -13,7 +13,7 @@ use Rattle.statements_acts.specs.declared.Place.{Place}
 use Rattle.statements_acts.specs.Act.{Within, Grows}
 use Rattle.scope_stack.specs.declared.Locals.{Locals}
 use Rattle.scope_stack.specs.declared.States.{States}
-use Rattle.scope_stack.specs.View.{view, Sound, Drops, Nested}
+use Rattle.scope_stack.specs.View.{view, Sound, Nested}
 use Rattle.statements_changes.specs.Turns.{retold}
 use Rattle.blocks_laws.specs.Walks.{Walked, BlockWalks}
 use Rattle.blocks_laws.specs.Ends.{Merges}
@@ -28,16 +28,15 @@ pub record Enters (s tb : List ℕ) (env : Env) (l : Locals) (t : States) (rows 
   pub depth : env .left ≤ 12
   pub limit : env .limit ≡ 64
   pub width : env .width ≡ 8
-  pub sound : Sound l t rows (env .cur) (env .width)
+  pub sound : Sound (Says s tb) l t rows (env .cur) (env .width)
   pub nested : Nested (12 - env .left) (shape (view l t rows (env .cur) (env .width)))
-  pub drops : (T : Tables) → Says s tb T → Drops T l
 
 -- Where a walk with these locals comes to; fault 254 says that there are fewer rows than `least`.
-pub record Comes (s : List ℕ) (cur width least : ℕ) (l : Locals) (rows : List ℕ) (p : Place) (r : States) (rows′ pl′ : List ℕ) : Type 0 where
+pub record Comes (s tb : List ℕ) (cur width least : ℕ) (l : Locals) (rows : List ℕ) (p : Place) (r : States) (rows′ pl′ : List ℕ) : Type 0 where
   pub room : length pl′ ≡ 10
   pub below : Below cur rows rows′
   pub short : faultIn pl′ ≡ 254 → length rows < least
-  pub sound : faultIn pl′ ≡ 0 → Sound l r rows′ cur width
+  pub sound : faultIn pl′ ≡ 0 → Sound (Says s tb) l r rows′ cur width
   pub within : faultIn pl′ ≡ 0 → Within s (placeIn pl′)
   pub grows : faultIn pl′ ≡ 0 → Grows s (retold p 0) (retold (placeIn pl′) 0)
 

@@ -39,7 +39,7 @@ fn transform_else(
 ) -> States
     requires { ⌜ Enters (now s) (now tb) env l st (now rows) (placeIn (now pl)) × BlockThere (now s) (env .left) (placeIn (now pl) .at)
         × (env .cur + 1152 ≤ 1152 * (12 - env .left)) × RowsStand (l .count) first (now rows) (rowOf (env .cur) (env .width) (l .count)) (env .width) × (length (now nodes) ≡ 26) × (length (now pl) ≡ 10) ⌝ }
-    ensures { λ r. ⌜ Comes (now (s .entry)) (env .cur) (env .width) (stmtRows (env .cur) (env .left)) l (now (rows .entry)) (placeIn (now (pl .entry))) r (now (rows .exit)) (now (pl .exit)) × (length (now (nodes .exit)) ≡ 26) ⌝ }
+    ensures { λ r. ⌜ Comes (now (s .entry)) (now (tb .entry)) (env .cur) (env .width) (stmtRows (env .cur) (env .left)) l (now (rows .entry)) (placeIn (now (pl .entry))) r (now (rows .exit)) (now (pl .exit)) × (length (now (nodes .exit)) ≡ 26) ⌝ }
     ensures { λ r. ⌜ ((T : Tables) → Says (now (s .entry)) (now (tb .entry)) T → (faultIn (now (pl .exit)) ≡ 254 → ⊥)
         → ElseMerges T (now (s .entry)) (env .left) (12 - env .left) (sureIn (now (pl .entry))) (view l st (now (rows .entry)) (env .cur) (env .width)) (view l first (now (rows .entry)) (rowOf (env .cur) (env .width) (l .count)) (env .width))
         (placeIn (now (pl .entry))) (memory (now (out .entry)) (now (errs .entry)) (now (warns .entry)) (now (lefts .entry))) (walkedIn (now (pl .exit)) (view l r (now (rows .exit)) (env .cur) (env .width))) (memory (now (out .exit)) (now (errs .exit)) (now (warns .exit)) (now (lefts .exit)))) ⌝ }
@@ -73,7 +73,7 @@ fn transform_blocks(
 ) -> States
     requires { ⌜ Enters (now s) (now tb) env l st (now rows) (placeIn (now pl)) × TagThere (now s) (env .left) (placeIn (now pl) .at) tag × (blocked tag ≡ true)
         × (env .cur + 1152 ≤ 1152 * (12 - env .left)) × (length (now nodes) ≡ 26) × (length (now pl) ≡ 10) ⌝ }
-    ensures { λ r. ⌜ Comes (now (s .entry)) (env .cur) (env .width) (stmtRows (env .cur) (env .left)) l (now (rows .entry)) (placeIn (now (pl .entry))) r (now (rows .exit)) (now (pl .exit)) × (length (now (nodes .exit)) ≡ 26) ⌝ }
+    ensures { λ r. ⌜ Comes (now (s .entry)) (now (tb .entry)) (env .cur) (env .width) (stmtRows (env .cur) (env .left)) l (now (rows .entry)) (placeIn (now (pl .entry))) r (now (rows .exit)) (now (pl .exit)) × (length (now (nodes .exit)) ≡ 26) ⌝ }
     ensures { λ r. ⌜ ((T : Tables) → Says (now (s .entry)) (now (tb .entry)) T → (faultIn (now (pl .exit)) ≡ 254 → ⊥)
         → TagWalks T (now (s .entry)) (env .left) (12 - env .left) tag (view l st (now (rows .entry)) (env .cur) (env .width))
         (placeIn (now (pl .entry))) (memory (now (out .entry)) (now (errs .entry)) (now (warns .entry)) (now (lefts .entry))) (walkedIn (now (pl .exit)) (view l r (now (rows .exit)) (env .cur) (env .width))) (memory (now (out .exit)) (now (errs .exit)) (now (warns .exit)) (now (lefts .exit)))) ⌝ }
@@ -128,7 +128,7 @@ pub fn transform_block(
 ) -> States
     requires { ⌜ Enters (now s) (now tb) env outer states (now rows) (placeIn (now pl)) × BlockThere (now s) (env .left) (placeIn (now pl) .at)
         × (env .cur ≤ 1152 * (12 - env .left)) × (length (now nodes) ≡ 26) × (length (now pl) ≡ 10) ⌝ }
-    ensures { λ r. ⌜ Comes (now (s .entry)) (env .cur) (env .width) (blockRows (env .cur) (env .left)) outer (now (rows .entry)) (placeIn (now (pl .entry))) r (now (rows .exit)) (now (pl .exit)) × (length (now (nodes .exit)) ≡ 26) ⌝ }
+    ensures { λ r. ⌜ Comes (now (s .entry)) (now (tb .entry)) (env .cur) (env .width) (blockRows (env .cur) (env .left)) outer (now (rows .entry)) (placeIn (now (pl .entry))) r (now (rows .exit)) (now (pl .exit)) × (length (now (nodes .exit)) ≡ 26) ⌝ }
     ensures { λ r. ⌜ ((T : Tables) → Says (now (s .entry)) (now (tb .entry)) T → (faultIn (now (pl .exit)) ≡ 254 → ⊥)
         → BlockWalks T (now (s .entry)) (env .left) (suc (12 - env .left)) (view outer states (now (rows .entry)) (env .cur) (env .width))
         (placeIn (now (pl .entry))) (memory (now (out .entry)) (now (errs .entry)) (now (warns .entry)) (now (lefts .entry))) (walkedIn (now (pl .exit)) (view outer r (now (rows .exit)) (env .cur) (env .width))) (memory (now (out .exit)) (now (errs .exit)) (now (warns .exit)) (now (lefts .exit)))) ⌝ }
@@ -140,14 +140,13 @@ pub fn transform_block(
     let mut st = states;
     let mut c = blocks_ends::head(s, start, out);
     loop {
-        let mark = scope_stack::drop_word(st.words, l.dtors);
+        let mark = scope_stack::mark_of(st.alive, l.dtors);
         let r = statements_changes::next_change(
             s,
             tb,
             blocks_ends::scanning(e, l.count, mark),
             &l.names,
             &l.types,
-            &l.depths,
             &st.kinds,
             &st.firsts,
             &*rows,
@@ -170,8 +169,8 @@ pub fn transform_block(
                     c.place,
                     &l.names,
                     &l.types,
-                    &l.depths,
                     mark,
+                    outer.count,
                     out,
                     pl,
                 );
@@ -191,7 +190,7 @@ pub fn transform_block(
                     depth,
                     tables_lookup::auto_deleted(tb, ty as usize),
                 );
-                if scope_stack::needs_revival(&l.names, &l.depths, st.words, name, depth) {
+                if scope_stack::needs_revival(&l.names, &l.depths, st.alive, name, depth) {
                     st = st.mark(&l.names, &l.depths, l.count, name, 0, 0, false);
                 }
             }

@@ -51,14 +51,14 @@ module _ (start p : Place) where
         most = subst (λ (x : Place). x .written ≤ p .written + 1344) (sym is) most;
       }
 
-  -- the end, from its parts: total, span and depth as the code has them
+  -- the end, from its parts: total and span as the code has them
   module _ (T : Tables) (s : List ℕ) (left d gap : ℕ) (σ : Scope Status) (out : List ℕ) where
-    pub ends-told : {mid out′ pl : List ℕ} {total span depth written count next : ℕ} {sure fits : Bool} {q : Place} {after : Scope Status} → total ≡ two s (start .at + 4)
-        → span ≡ four s (start .at) → depth ≡ d → LastReturns s (left - 1) total (p .last) sure
-        → Stored out (p .written) (deleteBytes (tail T sure depth span σ)) mid written × (count ≡ length (tail T sure depth span σ))
+    pub ends-told : {mid out′ pl : List ℕ} {total span written count next : ℕ} {sure fits : Bool} {q : Place} {after : Scope Status} → total ≡ two s (start .at + 4)
+        → span ≡ four s (start .at) → LastReturns s (left - 1) total (p .last) sure
+        → Stored out (p .written) (deleteBytes (tail T sure d span σ)) mid written × (count ≡ length (tail T sure d span σ))
         → Stored mid gap (twoBytes ((total + p .inserted + count) % 65536)) out′ next
         → fits ≡ (p .fits && leb (total + p .inserted + count) 65535) → Tells pl 0 sure q → q ≡ endedIn start p written fits → after ≡ pop d σ
         → Ends T s left d σ start gap p out (walkedIn pl after) out′
-    ends-told {mid} {out′} {pl} {total} {span} {depth} {written} {count} {next} {sure} {fits} {q} {after} et es ed last put stored fit t e is =
+    ends-told {mid} {out′} {pl} {total} {span} {written} {count} {next} {sure} {fits} {q} {after} et es last put stored fit t e is =
         subst (λ (w : Walked). Ends T s left d σ start gap p out w out′) (sym (told-walked pl 0 sure q (endedIn start p written fits) t e after))
-        (block-ends T s left d σ start gap p out et es ed last put stored fit (is ∙ ap (λ (k : ℕ). pop k σ) (sym ed)))
+        (block-ends T s left d σ start gap p out et es last put stored fit is)

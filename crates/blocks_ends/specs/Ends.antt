@@ -60,6 +60,11 @@ pub record Flags (s out pl : List ℕ) (r : ℕ) (out′ pl′ : List ℕ) : Typ
   pub stored : Stored out (placeIn pl .written) (r ∷ []) out′ (placeIn pl′ .written)
   pub tells : Tells pl′ (faultIn pl) (sureIn pl) (flagged (placeIn pl) (placeIn pl′ .written))
 
+-- of n locals, at most 64, those from base on, and no others, are of depth d: a block's own frame
+pub record Frame (depths : List ℕ) (base d n : ℕ) : Type 0 where
+  pub few : n ≤ 64
+  pub own : (i : ℕ) → i < n → eqb (getD depths i 0) d ≡ leb base i
+
 -- what the end of a block requires
 pub record EndThere (s : List ℕ) (left : ℕ) (start p : Place) : Type 0 where
   pub low : 0 < left

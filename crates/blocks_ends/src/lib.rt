@@ -1,8 +1,9 @@
 // What stands before, between and behind the blocks of a body: a head, a flag, an end.
-// Throughout, pl has the place of a walk, its fault and whether it surely returns, and ln, lt and ld are the names, types and depths of
-// the locals, all lent.
+// Throughout, pl has the place of a walk, its fault and whether it surely returns, and ln and lt are the names and types of the locals,
+// all lent.
 ghost use mathlib.Core.Path.{_≡_};
 ghost use mathlib.Core.Bool.{true, false, _&&_};
+ghost use mathlib.Core.List.{List};
 ghost use Prim.Native.Nat.{ℕ, suc, _+_, _-_, _*_, _%_, _≤_, _<_};
 ghost use lib.Dec.{leb, eqb};
 ghost use lib.ListN.{length, getD};
@@ -18,8 +19,7 @@ ghost use Rattle.statements_changes.specs.Turns.{betweenOf};
 ghost use Rattle.statements_acts.specs.Marks.{lent, Marked};
 ghost use Rattle.blocks_laws.specs.Ends.{LastReturns, tail, Ends};
 ghost use Rattle.blocks_laws.specs.Places.{headed};
-ghost use Rattle.blocks_ends.specs.Ends.{placeIn, walkedIn, Tells, innerOf, Heads, Loops, Flags, EndThere, Ended};
-use scope_state::Depths;
+ghost use Rattle.blocks_ends.specs.Ends.{placeIn, walkedIn, Tells, innerOf, Heads, Loops, Flags, Frame, EndThere, Ended};
 use scope_state::Names;
 use scope_state::Types;
 use statements_acts::Named;
@@ -188,24 +188,24 @@ fn ends_in_return(s: &[u8], left: usize, total: usize, last: usize) -> bool
 fn put_tail<'a>(
     ln: &'a Names,
     lt: &'a Types,
-    ld: &'a Depths,
     mark: u64,
+    base: usize,
     sure: bool,
-    depth: u8,
     span: u32,
     out: &mut [u8],
     at: usize,
 ) -> statements_acts::Put
-    requires { ⌜ at < 4294900000 ⌝ }
-    ensures { λ r. ⌜ (r .at ≤ at + 1344) × (r .count ≤ 64) × ((T : Tables) (g : ℕ → Status) (n : ℕ) → Marked T (now (lt .entry)) g n mark
-        → Stored (now (out .entry)) at (deleteBytes (tail T «sure» depth span (lent (now (ln .entry)) (now (lt .entry)) (now (ld .entry)) g n))) (now (out .exit)) (r .at)
-        × (r .count ≡ length (tail T «sure» depth span (lent (now (ln .entry)) (now (lt .entry)) (now (ld .entry)) g n)))) ⌝ }
+    requires { ⌜ (at < 4294900000) × (base ≤ 64) ⌝ }
+    ensures { λ r. ⌜ (r .at ≤ at + 1344) × (r .count ≤ 64) × ((T : Tables) (ld : List ℕ) (g : ℕ → Status) (n depth : ℕ) → Marked T (now (lt .entry)) g n mark → Frame ld base depth n
+        → Stored (now (out .entry)) at (deleteBytes (tail T «sure» depth span (lent (now (ln .entry)) (now (lt .entry)) ld g n))) (now (out .exit)) (r .at)
+        × (r .count ≡ length (tail T «sure» depth span (lent (now (ln .entry)) (now (lt .entry)) ld g n)))) ⌝ }
 {
     if sure {
         return statements_acts::Put { at: at, count: 0 };
     }
-    let frame = statements_acts::Which::Frame(depth);
-    statements_acts::put_drops(ln, lt, ld, mark, frame, span, out, at)
+    let own = scope_stack::since(mark, base);
+    let all = statements_acts::Which::All;
+    statements_acts::put_drops(ln, lt, own, all, span, out, at)
 }
 
 // Whether all blocks so far, and one of so many statements, count at most 65,535.
@@ -235,7 +235,7 @@ fn ended(start: Place, p: Place, at: usize, fits: bool) -> Place
     }
 }
 
-// The end of the block that began at a place: deletes, the count.
+// The end of the block that began at a place: the deletes of its own locals, those from base on, and the count.
 pub fn end_block<'a>(
     s: &[u8],
     left: usize,
@@ -243,32 +243,22 @@ pub fn end_block<'a>(
     p: Place,
     ln: &'a Names,
     lt: &'a Types,
-    ld: &'a Depths,
     mark: u64,
+    base: usize,
     out: &mut [u8],
     pl: &mut [usize; 10],
 )
-    requires { ⌜ EndThere (now s) left start p × (length (now pl) ≡ 10) ⌝ }
-    ensures { λ r. ⌜ ((T : Tables) (g : ℕ → Status) (n : ℕ) → Marked T (now (lt .entry)) g n mark
-        → (σ : Scope Status) → σ ≡ pop (suc (12 - left)) (lent (now (ln .entry)) (now (lt .entry)) (now (ld .entry)) g n)
-        → Ends T (now (s .entry)) left (suc (12 - left)) (lent (now (ln .entry)) (now (lt .entry)) (now (ld .entry)) g n) start (start .written + 4) p (now (out .entry))
+    requires { ⌜ EndThere (now s) left start p × (base ≤ 64) × (length (now pl) ≡ 10) ⌝ }
+    ensures { λ r. ⌜ ((T : Tables) (ld : List ℕ) (g : ℕ → Status) (n : ℕ) → Marked T (now (lt .entry)) g n mark → Frame ld base (suc (12 - left)) n
+        → (σ : Scope Status) → σ ≡ pop (suc (12 - left)) (lent (now (ln .entry)) (now (lt .entry)) ld g n)
+        → Ends T (now (s .entry)) left (suc (12 - left)) (lent (now (ln .entry)) (now (lt .entry)) ld g n) start (start .written + 4) p (now (out .entry))
         (walkedIn (now (pl .exit)) σ) (now (out .exit)))
         × Ended start p (now (pl .exit)) ⌝ }
 {
     let total = image_fields::two_at(s, start.at + 4);
     let sure = ends_in_return(s, left - 1, total, p.last);
     let span = expressions_effects::span_at(s, start.at);
-    let put = put_tail(
-        ln,
-        lt,
-        ld,
-        mark,
-        sure,
-        (13 - left) as u8,
-        span,
-        out,
-        p.written,
-    );
+    let put = put_tail(ln, lt, mark, base, sure, span, out, p.written);
     let count = total + p.inserted + put.count;
     image_writing::put_two(out, start.written + 4, (count % 65536) as u16);
     let fits = fitting(p.fits, count);

@@ -1,7 +1,6 @@
 -- The end of a block: its deletes, its count, the frame left.
 -- Assumes nothing.
-use Prim.Native.Nat.{ℕ, suc, _+_, _-_, _%_, _≤_, _<_}
-use native.Mathlib.Omega.{arith}
+use Prim.Native.Nat.{ℕ, _+_, _-_, _%_, _<_}
 use mathlib.Core.Path.{_≡_, refl, sym, ap, _∙_, subst}
 use mathlib.Core.Bool.{Bool, true, false, _&&_}
 use mathlib.Core.List.{List}
@@ -12,9 +11,7 @@ use Rattle.image_fields.specs.Bytes.{twoBytes}
 use Rattle.tables.specs.Tables.{Tables}
 use Rattle.rules.specs.State.{State as Status}
 use Rattle.rules.specs.Stack.{pop, Stack as Scope}
-use Rattle.rules.specs.Rules.{Drop, states, collect}
-use Rattle.statements_acts.specs.Drops.{admitted}
-use Rattle.statements_acts.specs.declared.Which.the-variants.{Frame}
+use Rattle.rules.specs.Rules.{Drop, states, tailDrops}
 use Rattle.image_writing.specs.Stored.{Stored}
 use Rattle.statements_acts.specs.declared.Place.{Place}
 use Rattle.statements_acts.proofs.Laws.{none-put}
@@ -31,14 +28,10 @@ module _ (T : Tables) (sure : Bool) (d sp : ℕ) (σ : Scope Status) where
   pub tail-none : sure ≡ true → (old : List ℕ) (at : ℕ) → Puts old at (tail T sure d sp σ) old at 0
   tail-none e old at = none-put old at (tail T sure d sp σ) (rw e refl)
 
-  -- another has those of its frame
-  pub tail-frame : sure ≡ false → (old : List ℕ) (at : ℕ) (new : List ℕ) (next count : ℕ)
-      → Puts old at (collect states T (admitted (Frame d)) sp σ) new next count → Puts old at (tail T sure d sp σ) new next count
-  tail-frame e old at new next count h = rw e h
-
--- the depth as the code has it
-pub depth-is : (left : ℕ) → 0 < left → left ≤ 12 → 13 - left ≡ suc (12 - left)
-depth-is left low high = omega arith
+  -- another has those of its frame, however they are come by
+  pub tail-frame : sure ≡ false → {x : List Drop} → x ≡ tailDrops states T d sp σ → {old : List ℕ} {at : ℕ} {new : List ℕ} {next count : ℕ} → Puts old at x new next count
+      → Puts old at (tail T sure d sp σ) new next count
+  tail-frame e ex {old} {at} {new} {next} {count} h = rw e (subst (λ (y : List Drop). Puts old at y new next count) ex h)
 
 -- what the walk comes to
 abbrev endedAt : Place → Place → ℕ → Bool → Bool → Scope Status → Walked
@@ -49,15 +42,15 @@ endedAt start p written fits sure after = record {
   locals = after;
 }
 
--- the end of a block, from its parts: total, span and depth as the code has them
+-- the end of a block, from its parts: total and span as the code has them
 module _ (T : Tables) (s : List ℕ) (left d : ℕ) (σ : Scope Status) (start : Place) (gap : ℕ) (p : Place) (out : List ℕ) where
-  pub block-ends : {mid out′ : List ℕ} {total span depth written count next : ℕ} {sure fits : Bool} {after : Scope Status} → total ≡ two s (start .at + 4)
-      → span ≡ four s (start .at) → depth ≡ d → LastReturns s (left - 1) total (p .last) sure
-      → Puts out (p .written) (tail T sure depth span σ) mid written count → Stored mid gap (twoBytes ((total + p .inserted + count) % 65536)) out′ next
-      → fits ≡ (p .fits && leb (total + p .inserted + count) 65535) → after ≡ pop depth σ
+  pub block-ends : {mid out′ : List ℕ} {total span written count next : ℕ} {sure fits : Bool} {after : Scope Status} → total ≡ two s (start .at + 4)
+      → span ≡ four s (start .at) → LastReturns s (left - 1) total (p .last) sure
+      → Puts out (p .written) (tail T sure d span σ) mid written count → Stored mid gap (twoBytes ((total + p .inserted + count) % 65536)) out′ next
+      → fits ≡ (p .fits && leb (total + p .inserted + count) 65535) → after ≡ pop d σ
       → Ends T s left d σ start gap p out (endedAt start p written fits sure after) out′
-  block-ends {mid} {out′} {total} {span} {depth} {written} {count} {next} {sure} {fits} {after} et es ed last put stored fit is =
-      let tails : tail T sure depth span σ ≡ tail T sure d (four s (start .at)) σ = rw (es, ed) in
+  block-ends {mid} {out′} {total} {span} {written} {count} {next} {sure} {fits} {after} et es last put stored fit is =
+      let tails : tail T sure d span σ ≡ tail T sure d (four s (start .at)) σ = rw es in
       let many : total + p .inserted + count ≡ two s (start .at + 4) + p .inserted + length (tail T sure d (four s (start .at)) σ) = rw (et, put .1, tails) in
       record {
         none-last = λ z. last .none (et ∙ z);
@@ -75,5 +68,5 @@ module _ (T : Tables) (s : List ℕ) (left d : ℕ) (σ : Scope Status) (start :
         lefts = refl;
         paged = refl;
         fault = refl;
-        locals = is ∙ ap (λ (k : ℕ). pop k σ) ed;
+        locals = is;
       }

@@ -49,7 +49,7 @@ use Rattle.tables_lookup.specs.Lent.{Says}
 use Rattle.scope_stack.specs.declared.Locals.{Locals}
 use Rattle.scope_stack.specs.declared.States.{States}
 use Rattle.scope_stack.specs.View.{view, Held, Nested}
-use Rattle.scope_stack.proofs.Scopes.{length-view, rowed-none}
+use Rattle.scope_stack.proofs.Scopes.{length-view, rowed-none, sound-of}
 use Rattle.scope_entered.specs.Entered.{EntryThere, Fresh, Enters as Entered}
 use Rattle.blocks_ends.specs.declared.Env.{Env}
 use Rattle.blocks_ends.specs.Ends.{placeIn, faultIn, walkedIn}
@@ -245,9 +245,8 @@ module _ (s tb : List ℕ) (small : Bytes s) (env : Env) (entry body : ℕ) (h :
       depth = let e = h .left in omega arith;
       limit = h .limit;
       width = h .width;
-      sound = record { kept = entered .kept; held = held; rowed = rowed-none (l .count) t rows (env .cur) (env .width) fresh };
+      sound = sound-of l t rows (env .cur) (env .width) (entered .kept) held (rowed-none (l .count) t rows (env .cur) (env .width) fresh) (λ T says. entered .drops T (h .lent) says);
       nested = subst (λ k. Nested (12 - k) (shape stack)) (sym (h .left)) (entered .nested t rows (env .cur) (env .width));
-      drops = λ T says. entered .drops T (h .lent) says;
     }
 
     pub there : BlockThere s (env .left) (q .at)
@@ -262,7 +261,7 @@ module _ (s tb : List ℕ) (small : Bytes s) (env : Env) (entry body : ℕ) (h :
     few-locals-in = let n = length-view l t rows (env .cur) (env .width) in omega (arith, entered .few)
 
     module _ (m m′ : Memory) (r : States) (rows′ pl′ : List ℕ)
-        (c : Comes s (env .cur) (env .width) (blockRows (env .cur) (env .left)) l rows q r rows′ pl′)
+        (c : Comes s tb (env .cur) (env .width) (blockRows (env .cur) (env .left)) l rows q r rows′ pl′)
         (w : (T : Tables) → Says s tb T → (faultIn pl′ ≡ 254 → ⊥)
         → BlockWalks T s (env .left) (suc (12 - env .left)) stack q m (walkedIn pl′ (view l r rows′ (env .cur) (env .width))) m′) where
       abbrev W : Walked

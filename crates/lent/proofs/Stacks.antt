@@ -11,6 +11,8 @@ use lib.Dec.{ltb}
 use lib.ListN.{length}
 use Rattle.image_fields.proofs.Tests.{less, false-true}
 use Rattle.tables.specs.Limits.{version1}
+use Rattle.tables.specs.Tables.{Tables}
+use Rattle.rules.specs.Questions.{auto}
 use Rattle.rules.specs.State.{State as Status}
 use Rattle.rules.specs.Stack.{mark}
 use Rattle.rules.specs.Rules.{states, register}
@@ -18,7 +20,7 @@ use Rattle.scope_state.specs.Kinds.{said, put}
 use Rattle.scope_stack.specs.declared.Locals.{Locals}
 use Rattle.scope_stack.specs.declared.States.{States}
 use Rattle.scope_stack.specs.View.{Kept, Held, Sound, Marks, Grows, Named, aliveAt, view as seen}
-use Rattle.scope_stack.proofs.Scopes.{rowed-more, registers-marked, registers-fresh, register-length, sound-mark}
+use Rattle.scope_stack.proofs.Scopes.{rowed-more, registers-marked, registers-fresh, register-length, sound-of, sound-mark}
 use Rattle.lent.specs.declared.Stack.{Stack}
 use Rattle.lent.specs.Changed.{Whole, Marked, Registered, view}
 
@@ -62,11 +64,11 @@ module _ (s r : Stack) (name : ℕ) (f : Status → Status) (m : Marked s name f
   pub marked-whole : Whole s → Whole r
   marked-whole w = (subst Kept (sym (m .locals)) (w .0), m .held)
 
-  pub marked-view : (rows : List ℕ) (cur width : ℕ) → Sound (s .locals) (s .states) rows cur width
-      → (view r rows cur width ≡ mark name f (view s rows cur width)) × Sound (r .locals) (r .states) rows cur width
-  marked-view rows cur width h = (
+  pub marked-view : {P : Tables → Type 0} (rows : List ℕ) (cur width : ℕ) → Sound P (s .locals) (s .states) rows cur width
+      → (view r rows cur width ≡ mark name f (view s rows cur width)) × Sound P (r .locals) (r .states) rows cur width
+  marked-view {P} rows cur width h = (
     ap (λ (l : Locals). seen l (r .states) rows cur width) (m .locals) ∙ m .marks .is rows cur width (h .rowed),
-    subst (λ (l : Locals). Sound l (r .states) rows cur width) (sym (m .locals)) (sound-mark (s .locals) (s .states) (r .states) name f rows cur width h (m .held) (m .marks)),
+    subst (λ (l : Locals). Sound P l (r .states) rows cur width) (sym (m .locals)) (sound-mark (s .locals) (s .states) (r .states) name f rows cur width h (m .held) (m .marks)),
   )
 
 -- what a registration leaves, refused or not, and when it is refused: fault 12
@@ -75,11 +77,12 @@ module _ (s r : Stack) (name ty depth : ℕ) (dtor : Bool) where
   registered-whole true w g = (g .grows refl .kept, g .held)
   registered-whole false w g = subst Whole (sym (g .kept refl)) w
 
-  pub registered-view : (rows : List ℕ) (cur width : ℕ) → Registered s name ty depth dtor true r → Sound (s .locals) (s .states) rows cur width
-      → (view r rows cur width ≡ register states name ty depth (view s rows cur width)) × Sound (r .locals) (r .states) rows cur width
-  registered-view rows cur width g h = (
+  pub registered-view : {P : Tables → Type 0} (rows : List ℕ) (cur width : ℕ) → Registered s name ty depth dtor true r → Sound P (s .locals) (s .states) rows cur width
+      → ((T : Tables) → P T → dtor ≡ auto T ty)
+      → (view r rows cur width ≡ register states name ty depth (view s rows cur width)) × Sound P (r .locals) (r .states) rows cur width
+  registered-view rows cur width g h asked = (
     g .is refl rows cur width (h .rowed),
-    record { kept = g .grows refl .kept; held = g .held; rowed = g .rowed refl rows cur width (h .rowed) },
+    sound-of (r .locals) (r .states) rows cur width (g .grows refl .kept) (g .held) (g .rowed refl rows cur width (h .rowed)) (λ T p. g .grows refl .drops T (asked T p) (h .drops T p)),
   )
 
   pub registered-answer : (ok : Bool) (rows : List ℕ) (cur width : ℕ) → Registered s name ty depth dtor ok r

@@ -69,7 +69,7 @@ fn registered(stack: Stack, name: u16, ty: u16, depth: u8, dtor: bool) -> Next
     }
     let m = l.register_local(name, ty, depth, dtor);
     let mut t = stack.states;
-    if scope_stack::needs_revival(&m.names, &m.depths, t.words, name, depth) {
+    if scope_stack::needs_revival(&m.names, &m.depths, t.alive, name, depth) {
         t = t.mark(&m.names, &m.depths, m.count, name, 0, 0, false);
     }
     let new = Stack {

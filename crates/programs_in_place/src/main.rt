@@ -182,7 +182,7 @@ fn same_locals(a: Locals, b: Locals) -> bool {
 }
 
 fn same_states(a: States, b: States) -> bool {
-    if a.words != b.words {
+    if a.alive != b.alive {
         return false;
     }
     let mut i = 0;

@@ -101,7 +101,7 @@ module _ (s tb : List ℕ) where
       whole T t f rows cur width = a .is T t f rows cur width ∙ ap (entered states T ps) (view-none l t rows cur width z)
 
       none : States
-      none = record { kinds = []; firsts = []; words = 0 }
+      none = record { kinds = []; firsts = []; alive = 0 }
 
       T₀ : Tables
       T₀ = record { names = []; types = []; structs = []; globals = [] }

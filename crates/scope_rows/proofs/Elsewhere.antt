@@ -8,13 +8,20 @@ use mathlib.Core.Logic.{⊎-elim}
 use native.Mathlib.Omega.{arith}
 use lib.ListN.{length, getD}
 use Rattle.image_fields.proofs.Tests.{less}
+use Rattle.tables.specs.Tables.{Tables}
 use Rattle.scope_stack.specs.declared.Locals.{Locals}
 use Rattle.scope_stack.specs.declared.States.{States}
-use Rattle.scope_stack.specs.View.{staticAt, entryAt, rowOf, stateAt, view, Known, Rowed}
+use Rattle.scope_stack.specs.View.{staticAt, entryAt, rowOf, stateAt, view, Known, Rowed, Sound}
 use Rattle.scope_state.proofs.Stacked.{agree}
 use Rattle.scope_stack.proofs.Marked.{known-one}
-use Rattle.scope_rows.specs.Rows.{Copied, Copies}
+use Rattle.scope_stack.proofs.Scopes.{sound-states}
+use Rattle.scope_rows.specs.Rows.{JoinsAll, Copied, Copies}
 use Rattle.scope_rows.proofs.Rowing.{known-same, said-same, row-before}
+
+-- a join keeps a stack sound: the bits of its mark are those of the joined states
+pub sound-join : {P : Tables → Type 0} (l : Locals) (t u r : States) (rows new : List ℕ) (a b width : ℕ) → Sound P l t rows a width → JoinsAll (l .count) width t u rows a b r new 0
+    → Sound P l r new a width
+sound-join l t u r rows new a b width s j = sound-states l t r rows new a a width s (j .held refl) (j .rowed refl)
 
 -- rows that changed elsewhere
 module _ (l : Locals) (t : States) (rows new : List ℕ) (cur width : ℕ) (h : Rowed (l .count) t rows cur width) (room : length new ≡ length rows)

@@ -159,7 +159,7 @@ pub fn join(
             }
             then.kinds[i] = z.kind;
             then.firsts[i] = z.first;
-            then.words = scope_stack::with_bit(then.words, i, z.kind == 0);
+            then.alive = scope_stack::with_bit(then.alive, i, z.kind == 0);
         }
         i += 1;
     }

@@ -7,7 +7,7 @@ use mathlib.Core.List.{List}
 use mathlib.Core.Logic.{⊎-elim}
 use native.Mathlib.Omega.{arith}
 use Rattle.image_fields.proofs.Tests.{less, false-true}
-use Rattle.scope_stack.specs.Word.{wordOf, Newest}
+use Rattle.scope_stack.specs.Word.{wordOf, wordAt, Newest}
 use Rattle.scope_stack.specs.View.{Named}
 use Rattle.scope_stack.proofs.Words.{word-not, word-zero}
 
@@ -22,9 +22,9 @@ module _ (names depths : List ℕ) (name depth : ℕ) (p : ℕ → Bool) where
   pub looked-none : (w : ℕ) → w ≡ wordOf 64 p → Looked (18446744073709551615 - w)
   looked-none w e = record { at = 64; small = omega arith; word = ap (λ (x : ℕ). 18446744073709551615 - x) e ∙ word-not 64 p; none = λ k a b. absurd (omega arith) }
 
-  pub looked-more : (m j : ℕ) → Looked m → ((n : ℕ) (q : ℕ → Bool) → m ≡ wordOf n q → Newest n q m j) → (Named names depths name depth j → ⊥) → Looked (m - 2 ^ j)
+  pub looked-more : (m j : ℕ) → Looked m → ((k n : ℕ) (q : ℕ → Bool) → m ≡ wordAt k n q → Newest k n q m j) → (Named names depths name depth j → ⊥) → Looked (m - 2 ^ j)
   looked-more m j h top other =
-      let t = top (h .at) (λ k. not (p k)) (h .word) in
+      let t = top 0 (h .at) (λ k. not (p k)) (h .word) in
       record {
         at = j;
         small = omega (arith, t .below, h .small);

@@ -1,29 +1,28 @@
--- Whole stacks: registrations, the end of a block and drops, as the rules say them.
+-- Whole stacks: registrations and the end of a block, as the rules say them; what keeps them sound.
 -- Assumes nothing.
 use Prim.Native.Nat.{ℕ, zero, suc, _+_, _-_, _≤_, _<_}
 use mathlib.Core.Path.{_≡_, refl, sym, ap, ap₂, _∙_, subst}
 use mathlib.Core.Bool.{Bool, true, false, cond, _&&_}
 use mathlib.Core.List.{List, [], _∷_}
 use mathlib.Core.Logic.{⊎-elim}
-use borrow.Author.Tests.{eqb-true, eq-eqb}
+use borrow.Author.Tests.{eqb-true, eq-eqb, ne-eqb, le-leb, lt-leb}
 use native.Mathlib.Omega.{arith}
 use lib.Bits.{bitAnd}
-use lib.Dec.{eqb}
+use lib.Dec.{eqb, leb}
 use lib.ListN.{length, getD}
 use Rattle.image_fields.proofs.Tests.{split, less, and-true}
 use Rattle.tables.specs.Tables.{Tables}
 use Rattle.rules.specs.Questions.{auto}
-use Rattle.rules.specs.State.{State as Status, deleted, moved, consumed, alive, isAlive, handState}
+use Rattle.rules.specs.State.{State as Status, deleted, moved, consumed, alive, handState}
 use Rattle.rules.specs.Stack.{Static, local, shape, mark, pop, Stack as Scope}
-use Rattle.rules.specs.Rules.{states, register, Drop, dropOf, collect}
+use Rattle.rules.specs.Rules.{states, register}
 use Rattle.rules.proofs.Bools.{eqb-self}
 use Rattle.scope_state.specs.Kinds.{said, put}
 use Rattle.scope_stack.specs.declared.Locals.{Locals}
 use Rattle.scope_stack.specs.declared.States.{States}
 use Rattle.scope_stack.specs.declared.Entry.{Entry}
-use Rattle.scope_stack.specs.Word.{wordOf, Newest}
-use Rattle.scope_stack.specs.View.{stacked, staticAt, entryAt, aliveAt, rowOf, saidAt, stateAt, view, Known, Kept, Held, Rowed, Sound, Drops, dtorAt, dropAt, Nested, Grows, Marks, Named, Leaves}
-use Rattle.scope_stack.proofs.Words.{word-both, word-zero}
+use Rattle.scope_stack.specs.View.{stacked, staticAt, entryAt, aliveAt, rowOf, saidAt, stateAt, view, Known, Kept, Held, Rowed, Sound, Drops, dtorAt, dropIn, Marked, markOf, Nested, Grows, Marks, Named, Leaves}
+use Rattle.scope_stack.proofs.Words.{word-both, word-same}
 use Rattle.scope_state.proofs.Stacked.{length-stacked, shape-same, stacked-more, stacked-none, agree, framed}
 use Rattle.scope_stack.proofs.Frames.{pop-keeps, mark-same, hand-put}
 use Rattle.scope_stack.proofs.Marked.{known-one, lives-at}
@@ -65,10 +64,26 @@ marked-alive n p σ = refl
 pub handed : (n p : ℕ) (σ : Scope Status) → mark n (put true (said 2 (p ∷ []))) σ ≡ mark n (handState p) σ
 handed n p σ = mark-same n (put true (said 2 (p ∷ []))) (handState p) (hand-put p) σ
 
--- a mark keeps a stack sound
-pub sound-mark : (l : Locals) (t r : States) (name : ℕ) (f : Status → Status) (rows : List ℕ) (cur width : ℕ) → Sound l t rows cur width → Held r → Marks l name f t r
-    → Sound l r rows cur width
-sound-mark l t r name f rows cur width s h m = record { kept = s .kept; held = h; rowed = m .rowed rows cur width (s .rowed) }
+-- the AND of the two words that are kept is the mark (document 02, (b))
+pub the-mark : (T : Tables) (l : Locals) (t : States) (rows : List ℕ) (cur width : ℕ) → Kept l → Held t → Rowed (l .count) t rows cur width → Drops T l
+    → Marked T (l .types) (stateAt t rows cur width) (l .count) (markOf l t)
+the-mark T l t rows cur width k h r d =
+    ap₂ bitAnd (h .word) d ∙ word-both (l .count) 64 (aliveAt t) (dtorAt T l) (k .small)
+    ∙ word-same (l .count) (λ i. aliveAt t i && dtorAt T l i) (dropIn T (l .types) (stateAt t rows cur width))
+    (λ i li. ap (λ (b : Bool). b && dtorAt T l i) (sym (lives-at rows width (rowOf cur width i) (entryAt t i) (r .known i))))
+
+module _ {P : Tables → Type 0} where
+  pub sound-of : (l : Locals) (t : States) (rows : List ℕ) (cur width : ℕ) → Kept l → Held t → Rowed (l .count) t rows cur width → ((T : Tables) → P T → Drops T l) → Sound P l t rows cur width
+  sound-of l t rows cur width k h r d = record { kept = k; held = h; rowed = r; drops = d; marked = λ T p. the-mark T l t rows cur width k h r (d T p) }
+
+  -- other states of the same locals: a mark, a join, a merge
+  pub sound-states : (l : Locals) (t u : States) (rows new : List ℕ) (cur at width : ℕ) → Sound P l t rows cur width → Held u → Rowed (l .count) u new at width → Sound P l u new at width
+  sound-states l t u rows new cur at width s h r = sound-of l u new at width (s .kept) h r (s .drops)
+
+  -- a mark keeps a stack sound
+  pub sound-mark : (l : Locals) (t r : States) (name : ℕ) (f : Status → Status) (rows : List ℕ) (cur width : ℕ) → Sound P l t rows cur width → Held r → Marks l name f t r
+      → Sound P l r rows cur width
+  sound-mark l t r name f rows cur width s h m = sound-states l t r rows rows cur cur width s h (m .rowed rows cur width (s .rowed))
 
 -- fault 12 is decided by the count, whatever is registered
 pub register-length : (l : Locals) (name ty depth : ℕ) (t : States) (rows : List ℕ) (cur width : ℕ)
@@ -93,8 +108,8 @@ module _ (l r : Locals) (name ty depth : ℕ) (dtor : Bool) (g : Grows l name ty
   pub rowed-more : Rowed (r .count) t rows cur width
   rowed-more = record { known = h .known; free = λ i li. h .free i (omega (arith, g .count)) }
 
-  pub sound-register : Held t → Sound r t rows cur width
-  sound-register held = record { kept = g .kept; held = held; rowed = rowed-more }
+  pub sound-register : {P : Tables → Type 0} → Held t → ((T : Tables) → P T → Drops T l) → ((T : Tables) → P T → dtor ≡ auto T ty) → Sound P r t rows cur width
+  sound-register held d asked = sound-of r t rows cur width (g .kept) held rowed-more (λ T p. g .drops T (asked T p) (d T p))
 
   pub registers-marked : (p : ℕ) (u : States) → Marks r name (put false (said 0 (p ∷ []))) t u → view r u rows cur width ≡ register states name ty depth (view l t rows cur width)
   registers-marked p u m = m .is rows cur width rowed-more ∙ ap (mark name (λ (a : Status). alive)) new-view ∙ rw (eqb-self name)
@@ -147,6 +162,29 @@ pop-newer f g d n (suc k) h =
     let e : f (n + k) .depth ≡ d = h (n + k) (omega arith) (omega arith) in
     rw (z, eq-eqb (f (n + k) .depth) d e) (pop-newer f g d n k (λ i a b. h i a (omega arith)))
 
+-- no local of a nested stack is deeper than its block
+nested-at : (d n : ℕ) (f : ℕ → Static) (g : ℕ → Status) → Nested d (shape (stacked n f g)) → (i : ℕ) → i < n → f i .depth ≤ d
+unfolding stacked
+nested-at d zero f g h i l = absurd (omega arith)
+nested-at d (suc n) f g h i l =
+    ⊎-elim
+    (λ (q : i < n). let le = nested-at (f n .depth) n f g (h .1) i q in omega (arith, h .0))
+    (λ (q : n ≤ i). let z : i ≡ n = omega arith in rw z (h .0))
+    (less i n)
+
+-- a block's own locals are those that it registered: those of its depth
+pub extends-own : (d : ℕ) (l m : Locals) (t : States) (rows : List ℕ) (cur width : ℕ) → Extends (suc d) l m → Nested d (shape (view l t rows cur width))
+    → (i : ℕ) → i < m .count → eqb (getD (m .depths) i 0) (suc d) ≡ leb (l .count) i
+extends-own d l m t rows cur width e nested i li =
+    ⊎-elim
+    (λ (q : i < l .count).
+    let low : staticAt l i .depth ≤ d = nested-at d (l .count) (staticAt l) (stateAt t rows cur width) nested i q in
+    let same : getD (m .depths) i 0 ≡ staticAt l i .depth = ap (λ (s : Static). s .depth) (e .older i q) in
+    let ne : getD (m .depths) i 0 ≡ suc d → ⊥ = λ z. omega arith in
+    ne-eqb (getD (m .depths) i 0) (suc d) ne ∙ sym (lt-leb (l .count) i q))
+    (λ (q : l .count ≤ i). eq-eqb (getD (m .depths) i 0) (suc d) (e .newer i q li) ∙ sym (le-leb (l .count) i q))
+    (less i (l .count))
+
 -- the end of a block of depth d, whose locals m are more than those l that it was entered with
 module _ (d : ℕ) (l m : Locals) (t r : States) (rows : List ℕ) (cur width : ℕ) (e : Extends (suc d) l m) (v : Leaves (l .count) (m .count) t r) where
   pub leaves-pop : Nested d (shape (view l t rows cur width)) → view l r rows cur width ≡ pop (suc d) (view m t rows cur width)
@@ -172,61 +210,5 @@ module _ (d : ℕ) (l m : Locals) (t r : States) (rows : List ℕ) (cur width : 
           (λ (q : l .count ≤ i). subst (Known rows width (rowOf cur width i)) (sym (free i q)) (known-one rows width (rowOf cur width i) 0 (omega arith)))
           (less i (l .count))
 
-  pub sound-leave : Kept l → Sound m t rows cur width → Sound l r rows cur width
-  sound-leave k s = record { kept = k; held = v .held; rowed = leaves-rowed (s .rowed) }
-
--- the mark of a stack
-pub the-mark : (T : Tables) (l : Locals) (t : States) → Kept l → Held t → Drops T l → bitAnd (t .words) (l .dtors) ≡ wordOf (l .count) (dropAt T l t)
-the-mark T l t k h d = ap₂ bitAnd (h .word) d ∙ word-both (l .count) 64 (aliveAt t) (dtorAt T l) (k .small)
-
-and-assoc : (a b c : Bool) → ((a && b) && c) ≡ (a && (b && c))
-and-assoc true b c = refl
-and-assoc false b c = refl
-
-clear-drop : (b : Bool) (d : Drop) (ds : List Drop) → cond (b && false) (d ∷ ds) ds ≡ ds
-clear-drop true d ds = refl
-clear-drop false d ds = refl
-
--- drops by the mark: the newest set bit, then those below it
-module _ (T : Tables) (l : Locals) (t : States) (rows : List ℕ) (cur width : ℕ) (h : Rowed (l .count) t rows cur width) (q : Static → Bool) (p : ℕ) where
-  abbrev first : ℕ → Scope Status
-  first n = stacked n (staticAt l) (stateAt t rows cur width)
-
-  abbrev drop′ : ℕ → Drop
-  drop′ i = dropOf p (staticAt l i .name) (staticAt l i .ty)
-
-  drop-more : (n : ℕ) → collect states T q p (first (n + 1))
-      ≡ cond (q (staticAt l n) && dropAt T l t n) (drop′ n ∷ collect states T q p (first n)) (collect states T q p (first n))
-  drop-more n =
-      ap (collect states T q p) (stacked-more (staticAt l) (stateAt t rows cur width) n)
-      ∙ ap (λ (b : Bool). cond b (drop′ n ∷ collect states T q p (first n)) (collect states T q p (first n)))
-      (and-assoc (q (staticAt l n)) (isAlive (stateAt t rows cur width n)) (auto T (staticAt l n .ty))
-      ∙ ap (λ (b : Bool). q (staticAt l n) && (b && auto T (staticAt l n .ty))) (lives-at rows width (rowOf cur width n) (entryAt t n) (h .known n)))
-
-  drop-clear : (n k : ℕ) → ((i : ℕ) → n ≤ i → i < n + k → dropAt T l t i ≡ false) → collect states T q p (first (n + k)) ≡ collect states T q p (first n)
-  drop-clear n zero c = let z : n + 0 ≡ n = omega arith in rw z
-  drop-clear n (suc k) c =
-      let z : n + suc k ≡ (n + k) + 1 = omega arith in
-      let off : dropAt T l t (n + k) ≡ false = c (n + k) (omega arith) (omega arith) in
-      ap (λ (x : ℕ). collect states T q p (first x)) z ∙ drop-more (n + k)
-      ∙ ap (λ (b : Bool). cond (q (staticAt l (n + k)) && b) (drop′ (n + k) ∷ collect states T q p (first (n + k))) (collect states T q p (first (n + k)))) off
-      ∙ clear-drop (q (staticAt l (n + k))) (drop′ (n + k)) (collect states T q p (first (n + k))) ∙ drop-clear n k (λ i a b. c i a (omega arith))
-
-  pub drops-next : (n m j : ℕ) → Newest n (dropAt T l t) m j
-      → collect states T q p (first n) ≡ cond (q (staticAt l j)) (drop′ j ∷ collect states T q p (first j)) (collect states T q p (first j))
-  drops-next n m j w =
-      let all : (j + 1) + (n - (j + 1)) ≡ n = omega (arith, w .below) in
-      ap (λ (x : ℕ). collect states T q p (first x)) (sym all)
-      ∙ drop-clear (j + 1) (n - (j + 1)) (λ i a b. w .clear i (omega arith) (omega arith)) ∙ drop-more j
-      ∙ ap (λ (b : Bool). cond (q (staticAt l j) && b) (drop′ j ∷ collect states T q p (first j)) (collect states T q p (first j))) (w .set)
-      ∙ ap (λ (b : Bool). cond b (drop′ j ∷ collect states T q p (first j)) (collect states T q p (first j))) (and-one (q (staticAt l j)))
-    where
-      and-one : (b : Bool) → (b && true) ≡ b
-      and-one true = refl
-      and-one false = refl
-
-  pub drops-none : (n : ℕ) → wordOf n (dropAt T l t) ≡ 0 → collect states T q p (first n) ≡ []
-  drops-none n z =
-      let all : 0 + n ≡ n = omega arith in
-      ap (λ (x : ℕ). collect states T q p (first x)) (sym all) ∙ drop-clear 0 n (λ i a b. word-zero n (dropAt T l t) z i (omega arith))
-      ∙ ap (collect states T q p) (stacked-none (staticAt l) (stateAt t rows cur width) 0 (omega arith))
+  pub sound-leave : {P : Tables → Type 0} → Kept l → ((T : Tables) → P T → Drops T l) → Sound P m t rows cur width → Sound P l r rows cur width
+  sound-leave k d s = sound-of l r rows cur width k (v .held) (leaves-rowed (s .rowed)) d

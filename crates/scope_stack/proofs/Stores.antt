@@ -19,7 +19,7 @@ use Rattle.scope_stack.proofs.Words.{word-same}
 
 -- another state at i, and a word
 abbrev pub stored : States → ℕ → ℕ → ℕ → ℕ → States
-stored t i k f w = record { kinds = set (t .kinds) i k; firsts = set (t .firsts) i f; words = w }
+stored t i k f w = record { kinds = set (t .kinds) i k; firsts = set (t .firsts) i f; alive = w }
 
 module _ (t : States) (i k f w : ℕ) (h : Held t) (l : i < 64) where
   pub stored-at : entryAt (stored t i k f w) i ≡ record { kind = k; first = f }

@@ -3,11 +3,12 @@ use Prim.Native.Nat.{ℕ, _+_, _^_, _≤_, _<_}
 use mathlib.Core.Path.{_≡_}
 use mathlib.Core.Bool.{Bool, cond, _&&_}
 use mathlib.Core.List.{List, [], _∷_}
+use lib.Bits.{bitAnd}
 use lib.Dec.{eqb}
 use lib.ListN.{length, getD}
 use Rattle.tables.specs.Tables.{Tables}
 use Rattle.rules.specs.Questions.{auto}
-use Rattle.rules.specs.State.{State as Status}
+use Rattle.rules.specs.State.{State as Status, isAlive}
 use Rattle.rules.specs.Stack.{Static, local, Shape, mark, Stack as Scope}
 use Rattle.scope_state.specs.Locals.{staticIn, statusOf, stateIn, lent}
 unfoldable pub use Rattle.scope_state.specs.Locals.{stacked}
@@ -15,7 +16,7 @@ pub use Rattle.scope_state.specs.Locals.{rowOf, rowAt}
 use Rattle.scope_stack.specs.declared.Locals.{Locals}
 use Rattle.scope_stack.specs.declared.States.{States}
 use Rattle.scope_stack.specs.declared.Entry.{Entry}
-use Rattle.scope_stack.specs.Word.{wordOf}
+use Rattle.scope_stack.specs.Word.{wordAt}
 
 abbrev pub staticAt : Locals → ℕ → Static
 staticAt l = staticIn (l .names) (l .types) (l .depths)
@@ -57,33 +58,43 @@ pub record Kept (l : Locals) : Type 0 where
   pub depthRoom : length (l .depths) ≡ 64
   pub dtorRoom : l .dtors < 2 ^ (l .count)
 
--- the arrays of states: a bit of the word is set where the local is Alive
+-- the arrays of states: a bit of alive is set where the local is Alive
 pub record Held (t : States) : Type 0 where
   pub kindRoom : length (t .kinds) ≡ 64
   pub firstRoom : length (t .firsts) ≡ 64
-  pub word : t .words ≡ wordOf 64 (aliveAt t)
+  pub word : t .alive ≡ wordAt 0 64 (aliveAt t)
 
 -- the states of n locals, with the rows that they need; what is past them is Alive
 pub record Rowed (n : ℕ) (t : States) (rows : List ℕ) (cur width : ℕ) : Type 0 where
   pub known : (i : ℕ) → Known rows width (rowOf cur width i) (getD (t .kinds) i 0)
   pub free : (i : ℕ) → n ≤ i → getD (t .kinds) i 0 ≡ 0
 
--- what every stack of the pass meets
-pub record Sound (l : Locals) (t : States) (rows : List ℕ) (cur width : ℕ) : Type 0 where
-  pub kept : Kept l
-  pub held : Held t
-  pub rowed : Rowed (l .count) t rows cur width
-
--- a bit of dtors is set where the local's type has a destructor
+-- a bit of dtors is set where the local's type has a destructor, and none at or past the count
 abbrev pub dtorAt : Tables → Locals → ℕ → Bool
 dtorAt T l i = auto T (getD (l .types) i 0)
 
 abbrev pub Drops : Tables → Locals → Type 0
-Drops T l = l .dtors ≡ wordOf (l .count) (dtorAt T l)
+Drops T l = l .dtors ≡ wordAt 0 (l .count) (dtorAt T l)
 
--- the locals whose drops are put in: Alive and of a type with a destructor
-abbrev pub dropAt : Tables → Locals → States → ℕ → Bool
-dropAt T l t i = aliveAt t i && dtorAt T l i
+-- Alive, and of a type with a destructor
+abbrev pub dropIn : Tables → List ℕ → (ℕ → Status) → ℕ → Bool
+dropIn T types at i = isAlive (at i) && auto T (getD types i 0)
+
+-- document 02, (b): the set bits of the mark of n locals are exactly those that are Alive and of a type with a destructor; no bit at or past n is set
+abbrev pub Marked : Tables → List ℕ → (ℕ → Status) → ℕ → ℕ → Type 0
+Marked T types at n mark = mark ≡ wordAt 0 n (dropIn T types at)
+
+-- the mark of a stack: the AND of the two words that are kept
+abbrev pub markOf : Locals → States → ℕ
+markOf l t = bitAnd (t .alive) (l .dtors)
+
+-- what every stack of the pass meets; P says which tables are those of the image
+pub record Sound (P : Tables → Type 0) (l : Locals) (t : States) (rows : List ℕ) (cur width : ℕ) : Type 0 where
+  pub kept : Kept l
+  pub held : Held t
+  pub rowed : Rowed (l .count) t rows cur width
+  pub drops : (T : Tables) → P T → Drops T l
+  pub marked : (T : Tables) → P T → Marked T (l .types) (stateAt t rows cur width) (l .count) (markOf l t)
 
 -- frames: no local is deeper than d, and none than a newer one
 abbrev pub Nested : ℕ → Shape → Type 0

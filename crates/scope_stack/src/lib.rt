@@ -3,16 +3,16 @@
 ghost use mathlib.Core.Path.{_≡_};
 ghost use mathlib.Core.Bool.{Bool, false, cond, not, _&&_};
 ghost use mathlib.Core.List.{[], _∷_};
-ghost use Prim.Native.Nat.{ℕ, _+_, _-_, _^_, _≤_, _<_};
-ghost use lib.Dec.{eqb};
+ghost use Prim.Native.Nat.{ℕ, _-_, _^_, _≤_, _<_};
+ghost use lib.Dec.{eqb, leb};
 ghost use lib.ListN.{length, getD};
 ghost use Rattle.tables.specs.Tables.{Tables};
 ghost use Rattle.rules.specs.State.{State as Status};
 ghost use Rattle.scope_state.specs.Kinds.{said, put};
 ghost use Rattle.scope_stack.specs.declared.Locals.{Locals};
 ghost use Rattle.scope_stack.specs.declared.States.{States};
-ghost use Rattle.scope_stack.specs.Word.{wordOf, Top, Newest};
-ghost use Rattle.scope_stack.specs.View.{stacked, staticAt, depthOf, Kept, Held, Drops, Grows, Marks, Named, Leaves, dropAt};
+ghost use Rattle.scope_stack.specs.Word.{slot, wordAt, Top, Newest};
+ghost use Rattle.scope_stack.specs.View.{stacked, staticAt, depthOf, Kept, Held, Drops, Grows, Marks, Named, Leaves, markOf};
 use scope_state::Depths;
 use scope_state::Firsts;
 use scope_state::Kinds;
@@ -28,12 +28,12 @@ pub struct Locals {
     pub dtors: u64,
 }
 
-// Their states: kind 0 Alive, 1 to 6 the error that a use reports, with one place, and 8 more where a row has the places. A bit of words
+// Their states: kind 0 Alive, 1 to 6 the error that a use reports, with one place, and 8 more where a row has the places. A bit of alive
 // for each that is Alive; what is past the locals is Alive.
 pub struct States {
     pub kinds: Kinds,
     pub firsts: Firsts,
-    pub words: u64,
+    pub alive: u64,
 }
 
 // A state of States.
@@ -84,7 +84,7 @@ fn bit(i: usize) -> u64
 // The word with bit i set or cleared.
 pub fn with_bit(w: u64, i: usize, on: bool) -> u64
     requires { ⌜ i < 64 ⌝ }
-    ensures { λ r. ⌜ ((p : ℕ → Bool) → w ≡ wordOf 64 p → r ≡ wordOf 64 (λ k. cond (eqb k i) «on» (p k))) ⌝ }
+    ensures { λ r. ⌜ ((k : ℕ) (p : ℕ → Bool) → w ≡ wordAt k 64 p → r ≡ wordAt k 64 (λ j. cond (eqb j (slot k i)) «on» (p j))) ⌝ }
 {
     let b = bit(i);
     if on {
@@ -96,7 +96,7 @@ pub fn with_bit(w: u64, i: usize, on: bool) -> u64
 // The highest set bit: the newest local that a word marks.
 pub fn newest(m: u64) -> usize
     requires { ⌜ 0 < m ⌝ }
-    ensures { λ r. ⌜ Top m r × ((n : ℕ) (p : ℕ → Bool) → m ≡ wordOf n p → Newest n p m r) ⌝ }
+    ensures { λ r. ⌜ Top m r × ((k n : ℕ) (p : ℕ → Bool) → m ≡ wordAt k n p → Newest k n p m r) ⌝ }
 {
     (63 - u64::leading_zeros(m)) as usize
 }
@@ -112,16 +112,27 @@ pub fn without(m: u64, j: usize) -> u64
 // Whether a word marks a local.
 pub fn has_bit(w: u64, i: usize) -> bool
     requires { ⌜ i < 64 ⌝ }
-    ensures { λ r. ⌜ ((n : ℕ) (p : ℕ → Bool) → n ≤ 64 → i < n → w ≡ wordOf n p → r ≡ p i) ⌝ }
+    ensures { λ r. ⌜ ((k n : ℕ) (p : ℕ → Bool) → i < n → w ≡ wordAt k n p → r ≡ p (slot k i)) ⌝ }
 {
     w & bit(i) != 0
 }
 
-// The mark of a stack: the locals that are Alive and of a type with a destructor.
-pub fn drop_word(words: u64, dtors: u64) -> u64
-    ensures { λ r. ⌜ ((T : Tables) (l : Locals) (t : States) → words ≡ t .words → dtors ≡ l .dtors → Kept l → Held t → Drops T l → r ≡ wordOf (l .count) (dropAt T l t)) ⌝ }
+// The mark of a stack.
+pub fn mark_of(alive: u64, dtors: u64) -> u64
+    ensures { λ r. ⌜ ((l : Locals) (t : States) → alive ≡ t .alive → dtors ≡ l .dtors → r ≡ markOf l t) ⌝ }
 {
-    words & dtors
+    alive & dtors
+}
+
+// The bits of a word from base on.
+pub fn since(w: u64, base: usize) -> u64
+    requires { ⌜ base ≤ 64 ⌝ }
+    ensures { λ r. ⌜ ((k n : ℕ) (p : ℕ → Bool) → n ≤ 64 → w ≡ wordAt k n p → r ≡ wordAt k n (λ i. leb (slot k base) i && p i)) ⌝ }
+{
+    if base == 64 {
+        return 0;
+    }
+    (18446744073709551615 - (bit(base) - 1)) & w
 }
 
 impl Locals {
@@ -161,7 +172,7 @@ impl States {
         States {
             kinds: [0; 64],
             firsts: [0; 64],
-            words: 18446744073709551615,
+            alive: 18446744073709551615,
         }
     }
 
@@ -192,7 +203,7 @@ impl States {
             ) {
                 self.kinds[at] = kind;
                 self.firsts[at] = place;
-                self.words = with_bit(self.words, at, kind == 0);
+                self.alive = with_bit(self.alive, at, kind == 0);
             }
             at += 1;
         }
@@ -208,7 +219,7 @@ impl States {
         while i < m {
             self.kinds[i] = 0;
             self.firsts[i] = 0;
-            self.words = with_bit(self.words, i, true);
+            self.alive = with_bit(self.alive, i, true);
             i += 1;
         }
         self
@@ -219,13 +230,13 @@ impl States {
 pub fn needs_revival<'a>(
     names: &'a Names,
     depths: &'a Depths,
-    words: u64,
+    alive: u64,
     name: u16,
     depth: u8,
 ) -> bool
-    ensures { λ r. ⌜ ((p : ℕ → Bool) → words ≡ wordOf 64 p → r ≡ false → (i : ℕ) → i < 64 → p i ≡ false → Named (now (names .entry)) (now (depths .entry)) name depth i → ⊥) ⌝ }
+    ensures { λ r. ⌜ ((p : ℕ → Bool) → alive ≡ wordAt 0 64 p → r ≡ false → (i : ℕ) → i < 64 → p i ≡ false → Named (now (names .entry)) (now (depths .entry)) name depth i → ⊥) ⌝ }
 {
-    let mut m = 18446744073709551615 - words;
+    let mut m = 18446744073709551615 - alive;
     while 0 < m {
         let k = newest(m);
         if names[k] == name {

@@ -22,13 +22,13 @@ use Rattle.image_lines.specs.Lined.{shownAll}
 use Rattle.image_lines.specs.Told.{Listed}
 use Rattle.image_lines.proofs.Cursors.{shown-none, shown-more, shown-single}
 use Rattle.statements_acts.proofs.Laws.{Rest, rest-start, rest-step, rest-end, count-step, count-end}
-use Rattle.scope_stack.specs.Word.{wordOf, Top, Newest}
-use Rattle.scope_stack.proofs.Words.{top-below, top-rest, word-zero}
-use Rattle.scope_state.specs.Locals.{foundIn, Finds}
+use Rattle.scope_stack.specs.Word.{wordOf, wordAt, Top, Newest}
+use Rattle.scope_stack.proofs.Words.{top-below, top-rest, word-zero, ones, many, ones-word}
+use Rattle.scope_state.specs.Locals.{stacked, foundIn, Finds}
 use Rattle.scope_state.proofs.Stacked.{stacked-more, stacked-none}
 use Rattle.statements_acts.specs.Drops.{admitted}
 use Rattle.statements_acts.specs.declared.Which.the-variants.{All}
-use Rattle.statements_acts.specs.Marks.{staticIn, lent, dropIn}
+use Rattle.statements_acts.specs.Marks.{staticIn, lent, dropIn, Marked}
 use Rattle.statements_acts.proofs.Lent.{found-as}
 
 -- what is left behind at a span, as numbers and as lines
@@ -106,7 +106,7 @@ module _ (T : Tables) (names types depths : List ℕ) (g : ℕ → Status) (q : 
       ap some′ z ∙ drop-more (n + k) ∙ ap (λ (b : Bool). cond (q (staticIn names types depths (n + k)) && b) (drop′ (n + k) ∷ some′ (n + k)) (some′ (n + k))) off
       ∙ clear-drop (q (staticIn names types depths (n + k))) (drop′ (n + k)) (some′ (n + k)) ∙ drop-clear n k (λ i a b. c i a (omega arith))
 
-  drops-next : (n m j : ℕ) → Newest n (dropIn T types g) m j → some′ n ≡ cond (q (staticIn names types depths j)) (drop′ j ∷ some′ j) (some′ j)
+  drops-next : (n m j : ℕ) → Newest 0 n (dropIn T types g) m j → some′ n ≡ cond (q (staticIn names types depths j)) (drop′ j ∷ some′ j) (some′ j)
   drops-next n m j w =
       let all : (j + 1) + (n - (j + 1)) ≡ n = omega (arith, w .below) in
       ap some′ (sym all) ∙ drop-clear (j + 1) (n - (j + 1)) (λ i a b. w .clear i (omega arith) (omega arith)) ∙ drop-more j
@@ -131,16 +131,16 @@ module _ (T : Tables) (names types depths : List ℕ) (g : ℕ → Status) (q : 
     left-all m e = record { n = k; word = e; rest = rest-start f old at (some′ k); many = omega arith }
 
     module _ (m : ℕ) (out : List ℕ) (place put : ℕ) (h : Left f old at k m out place put) where
-      module _ (j : ℕ) (w : (n : ℕ) (z : ℕ → Bool) → m ≡ wordOf n z → Newest n z m j) where
+      module _ (j : ℕ) (w : (k n : ℕ) (z : ℕ → Bool) → m ≡ wordAt k n z → Newest k n z m j) where
         next : some′ (h .n) ≡ cond (q (staticIn names types depths j)) (drop′ j ∷ some′ j) (some′ j)
-        next = drops-next (h .n) m j (w (h .n) (dropIn T types g) (h .word))
+        next = drops-next (h .n) m j (w 0 (h .n) (dropIn T types g) (h .word))
 
         pub left-skip : q (staticIn names types depths j) ≡ false → Left f old at k (m - 2 ^ j) out place put
         left-skip off =
             let e : some′ (h .n) ≡ some′ j = next ∙ ap (λ (b : Bool). cond b (drop′ j ∷ some′ j) (some′ j)) off in
             record {
               n = j;
-              word = w (h .n) (dropIn T types g) (h .word) .rest;
+              word = w 0 (h .n) (dropIn T types g) (h .word) .rest;
               rest = subst (λ (x : List Drop). Rest f old at (some′ k) out place x) e (h .rest);
               many = ap (λ (x : List Drop). put + length x) (sym e) ∙ h .many;
             }
@@ -151,7 +151,7 @@ module _ (T : Tables) (names types depths : List ℕ) (g : ℕ → Status) (q : 
             let e : some′ (h .n) ≡ drop′ j ∷ some′ j = next ∙ ap (λ (b : Bool). cond b (drop′ j ∷ some′ j) (some′ j)) on in
             record {
               n = j;
-              word = w (h .n) (dropIn T types g) (h .word) .rest;
+              word = w 0 (h .n) (dropIn T types g) (h .word) .rest;
               rest = rest-step f old at (some′ k) out place (some′ (h .n)) (h .rest) b (some′ j) new to (ap f e ∙ fb (some′ j)) s;
               many = count-step (length (some′ k)) put (some′ (h .n)) (some′ j) (drop′ j) (h .many) e;
             }
@@ -161,6 +161,21 @@ module _ (T : Tables) (names types depths : List ℕ) (g : ℕ → Status) (q : 
           let zero : wordOf (h .n) (dropIn T types g) ≡ 0 = sym (h .word) ∙ (let e : m ≡ 0 = omega arith in e) in
           let e : some′ (h .n) ≡ [] = drops-none (h .n) zero in
           (rest-end f old at (some′ k) out place (some′ (h .n)) (h .rest) (some′ k) refl (ap f e ∙ fn), count-end (length (some′ k)) put (some′ (h .n)) (h .many) e)
+
+-- the set bits of a mark are as many as the deletes by it, if no name is spared
+module _ (T : Tables) (names types depths : List ℕ) (g : ℕ → Status) (p : ℕ) where
+  many-drops : (n : ℕ) → many n (dropIn T types g) ≡ length (some′ T names types depths g (admitted All) p n)
+  unfolding stacked many
+  many-drops zero = refl
+  many-drops (suc n) =
+      by-bit (dropIn T types g n) (many n (dropIn T types g)) (dropOf p (getD names n 0) (getD types n 0)) (some′ T names types depths g (admitted All) p n) (many-drops n)
+    where
+      by-bit : (b : Bool) (k : ℕ) (d : Drop) (ds : List Drop) → k ≡ length ds → cond b (suc k) k ≡ length (cond b (d ∷ ds) ds)
+      by-bit true k d ds e = ap suc e
+      by-bit false k d ds e = e
+
+  pub turns-drops : (n mark : ℕ) → n ≤ 64 → Marked T types g n mark → ones 64 mark ≡ length (some′ T names types depths g (admitted All) p n)
+  turns-drops n mark le e = ap (ones 64) e ∙ ones-word n (dropIn T types g) le ∙ many-drops n
 
 -- the entries of what is left behind, in either form
 module _ (T : Tables) (names types depths : List ℕ) (g : ℕ → Status) (paged : Bool) (span k : ℕ) (lefts₀ out₀ : List ℕ) (at₀ : ℕ) where
@@ -178,7 +193,7 @@ module _ (T : Tables) (names types depths : List ℕ) (g : ℕ → Status) (page
   }
 
   module _ (m : ℕ) (lefts out : List ℕ) (at : ℕ) (h : Listing m lefts out at) where
-    pub listing-put : (j : ℕ) → ((n : ℕ) (z : ℕ → Bool) → m ≡ wordOf n z → Newest n z m j) → {name : ℕ} → name ≡ getD names j 0 → {lefts′ out′ : List ℕ} {at′ : ℕ}
+    pub listing-put : (j : ℕ) → ((k n : ℕ) (z : ℕ → Bool) → m ≡ wordAt k n z → Newest k n z m j) → {name : ℕ} → name ≡ getD names j 0 → {lefts′ out′ : List ℕ} {at′ : ℕ}
         → Listed paged (left span name ∷ []) lefts out at lefts′ out′ at′ → Listing (m - 2 ^ j) lefts′ out′ at′
     listing-put j w {name} en {lefts′} {out′} {at′} l = record {
       numbers = λ n.

@@ -20,13 +20,10 @@ use Rattle.image_writing.proofs.Stores.{none-stored, both-stored}
 use Rattle.statements_steps.specs.Drops.{deleteBytes}
 use Rattle.statements_acts.specs.Drops.{admitted}
 use Rattle.statements_acts.specs.declared.Which.{Which}
-use Rattle.statements_acts.specs.declared.Which.the-variants.{Frame, But, All}
+use Rattle.statements_acts.specs.declared.Which.the-variants.{But, All}
 
--- what a place concerns, case by case
+-- what is deleted, case by case
 module _ (w : Which) (l : Static) where
-  pub frame-admits : (d depth : ℕ) → w ≡ Frame d → l .depth ≡ depth → eqb depth d ≡ admitted w l
-  frame-admits d depth e ed = ap (λ (x : ℕ). eqb x d) (sym ed) ∙ ap (λ (x : Which). admitted x l) (sym e)
-
   pub but-admits : (n name : ℕ) → w ≡ But n → l .name ≡ name → not (eqb name n) ≡ admitted w l
   but-admits n name e en = ap (λ (x : ℕ). not (eqb x n)) (sym en) ∙ ap (λ (x : Which). admitted x l) (sym e)
 

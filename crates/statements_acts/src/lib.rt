@@ -1,5 +1,5 @@
 // What each kind of statement writes before its blocks, and how it changes the scope stack: the arms of transform_block. Throughout,
-// tb has the tables of the image s, ns where the names stand, ln, lt and ld the names, types and depths of the n locals, all lent, and a bit of mark is set for each local that is Alive and of a type with a destructor.
+// tb has the tables of the image s, ns where the names stand, ln and lt the names and types of the n locals, all lent, and mark is the mark of the stack: a bit for each local that is Alive and of a type with a destructor.
 ghost use mathlib.Core.Path.{_≡_};
 ghost use mathlib.Core.Bool.{true, cond, _&&_, _||_};
 ghost use mathlib.Core.List.{List, [], _∷_, map};
@@ -34,7 +34,6 @@ use expressions_effects::name_at;
 use expressions_effects::span_at;
 use image_body::Node;
 use image_fields::peek;
-use scope_state::Depths;
 use scope_state::Names;
 use scope_state::Types;
 use tables_lookup::Found;
@@ -76,9 +75,8 @@ pub struct Act {
     pub taken: Named,
 }
 
-// Which locals a place concerns: those of a block's frame, all but a name, all.
+// Which of the locals that a mark has are deleted: all but those of a name, all.
 pub enum Which {
-    Frame(u8),
     But(u16),
     All,
 }
@@ -416,11 +414,10 @@ fn number(x: u16) -> u32
     x as u32
 }
 
-fn admits(which: Which, name: u16, depth: u8) -> bool
-    ensures { λ r. ⌜ ((l : Static) → l .name ≡ name → l .depth ≡ depth → r ≡ admitted which l) ⌝ }
+fn admits(which: Which, name: u16) -> bool
+    ensures { λ r. ⌜ ((l : Static) → l .name ≡ name → r ≡ admitted which l) ⌝ }
 {
     match which {
-        Which::Frame(d) => depth == d,
         Which::But(n) => name != n,
         Which::All => true,
     }
@@ -430,7 +427,6 @@ fn admits(which: Which, name: u16, depth: u8) -> bool
 pub fn put_drops<'a>(
     names: &'a Names,
     tys: &'a Types,
-    depths: &'a Depths,
     mark: u64,
     which: Which,
     span: u32,
@@ -438,9 +434,9 @@ pub fn put_drops<'a>(
     at: usize,
 ) -> Put
     requires { ⌜ at < 4294900000 ⌝ }
-    ensures { λ r. ⌜ (r .at ≤ at + 1344) × (r .count ≤ 64) × ((T : Tables) (g : ℕ → Status) (n : ℕ) → Marked T (now (tys .entry)) g n mark
-        → Stored (now (out .entry)) at (deleteBytes (collect states T (admitted which) span (lent (now (names .entry)) (now (tys .entry)) (now (depths .entry)) g n))) (now (out .exit)) (r .at)
-        × (r .count ≡ length (collect states T (admitted which) span (lent (now (names .entry)) (now (tys .entry)) (now (depths .entry)) g n)))) ⌝ }
+    ensures { λ r. ⌜ (r .at ≤ at + 1344) × (r .count ≤ 64) × ((T : Tables) (depths : List ℕ) (g : ℕ → Status) (n : ℕ) → Marked T (now (tys .entry)) g n mark
+        → Stored (now (out .entry)) at (deleteBytes (collect states T (admitted which) span (lent (now (names .entry)) (now (tys .entry)) depths g n))) (now (out .exit)) (r .at)
+        × (r .count ≡ length (collect states T (admitted which) span (lent (now (names .entry)) (now (tys .entry)) depths g n)))) ⌝ }
 {
     let mut m = mark;
     let mut place = at;
@@ -448,7 +444,7 @@ pub fn put_drops<'a>(
     while 0 < m {
         let i = scope_stack::newest(m);
         let name = names[i];
-        if admits(which, name, depths[i]) {
+        if admits(which, name) {
             place = image_writing::put_delete(out, place, span, name, tys[i]);
             put += 1;
         }
@@ -505,12 +501,12 @@ pub fn list_left(
 {
     let mut text = [32u8; 73];
     begin_lefts(paged, span, &mut text);
-    let mut m = mark;
+    let mut rest = mark;
     let mut at = n;
-    while 0 < m {
-        let i = scope_stack::newest(m);
+    while 0 < rest {
+        let i = scope_stack::newest(rest);
         at = put_left(paged, &text, out, lefts, at, span, number(names[i]));
-        m = scope_stack::without(m, i);
+        rest = scope_stack::without(rest, i);
     }
     at
 }
@@ -556,19 +552,18 @@ fn return_statement<'a>(
     s: &[u8],
     ln: &'a Names,
     lt: &'a Types,
-    ld: &'a Depths,
     mark: u64,
     p: Place,
     end: usize,
     out: &mut [u8],
 ) -> Act
     requires { ⌜ Within (now s) p × FrontThere (now s) (p .at) end × (getD (now s) (p .at) 0 ≡ 2) × (getD (now s) (p .at + 5) 0 ≡ 1) ⌝ }
-    ensures { λ a. ⌜ ((T : Tables) (g : ℕ → Status) (n : ℕ) → Marked T (now (lt .entry)) g n mark → (warns left : List ℕ)
-        → ActsThere T (now (s .entry)) (lent (now (ln .entry)) (now (lt .entry)) (now (ld .entry)) g n) p (now (out .entry)) warns left a (now (out .exit)) warns left) ⌝ }
+    ensures { λ a. ⌜ ((T : Tables) (ld : List ℕ) (g : ℕ → Status) (n : ℕ) → Marked T (now (lt .entry)) g n mark → (warns left : List ℕ)
+        → ActsThere T (now (s .entry)) (lent (now (ln .entry)) (now (lt .entry)) ld g n) p (now (out .entry)) warns left a (now (out .exit)) warns left) ⌝ }
     ensures { λ a. ⌜ Grows (now (s .entry)) p (a .place) × EndsThere (now (s .entry)) (p .at) (a .place .at) ⌝ }
 {
     let which = returned_identifier_name(s, p.at + 6);
-    let put = put_drops(ln, lt, ld, mark, which, 0, out, p.written);
+    let put = put_drops(ln, lt, mark, which, 0, out, p.written);
     let place = behind(s, p, put, end + 2, out);
     Act {
         place: place,
@@ -616,7 +611,6 @@ fn either_return<'a>(
     s: &[u8],
     ln: &'a Names,
     lt: &'a Types,
-    ld: &'a Depths,
     mark: u64,
     p: Place,
     end: usize,
@@ -624,12 +618,12 @@ fn either_return<'a>(
     lefts: &mut [u32],
 ) -> Act
     requires { ⌜ Within (now s) p × FrontThere (now s) (p .at) end × (getD (now s) (p .at) 0 ≡ 2) ⌝ }
-    ensures { λ a. ⌜ ((T : Tables) (g : ℕ → Status) (n : ℕ) → Marked T (now (lt .entry)) g n mark → (warns : List ℕ)
-        → ActsThere T (now (s .entry)) (lent (now (ln .entry)) (now (lt .entry)) (now (ld .entry)) g n) p (now (out .entry)) warns (now (lefts .entry)) a (now (out .exit)) warns (now (lefts .exit))) ⌝ }
+    ensures { λ a. ⌜ ((T : Tables) (ld : List ℕ) (g : ℕ → Status) (n : ℕ) → Marked T (now (lt .entry)) g n mark → (warns : List ℕ)
+        → ActsThere T (now (s .entry)) (lent (now (ln .entry)) (now (lt .entry)) ld g n) p (now (out .entry)) warns (now (lefts .entry)) a (now (out .exit)) warns (now (lefts .exit))) ⌝ }
     ensures { λ a. ⌜ Grows (now (s .entry)) p (a .place) × EndsThere (now (s .entry)) (p .at) (a .place .at) ⌝ }
 {
     if peek(s, p.at + 5) == 1 {
-        return return_statement(s, ln, lt, ld, mark, p, end, out);
+        return return_statement(s, ln, lt, mark, p, end, out);
     }
     bare_return(s, ln, mark, p, out, lefts)
 }
@@ -706,7 +700,6 @@ pub fn statement<'a>(
     tb: &[u32],
     ln: &'a Names,
     lt: &'a Types,
-    ld: &'a Depths,
     n: usize,
     mark: u64,
     p: Place,
@@ -717,14 +710,14 @@ pub fn statement<'a>(
 ) -> Act
     requires { ⌜ Lent (now s) (now tb) × (n ≤ 64) × Within (now s) p × FrontThere (now s) (p .at) end ⌝ }
     ensures { λ a. ⌜ ((T : Tables) → Says (now (s .entry)) (now (tb .entry)) T
-        → (g : ℕ → Status) → Marked T (now (lt .entry)) g n mark
-        → ActsThere T (now (s .entry)) (lent (now (ln .entry)) (now (lt .entry)) (now (ld .entry)) g n) p (now (out .entry)) (now (warns .entry)) (now (lefts .entry)) a (now (out .exit)) (now (warns .exit)) (now (lefts .exit))) ⌝ }
+        → (ld : List ℕ) (g : ℕ → Status) → Marked T (now (lt .entry)) g n mark
+        → ActsThere T (now (s .entry)) (lent (now (ln .entry)) (now (lt .entry)) ld g n) p (now (out .entry)) (now (warns .entry)) (now (lefts .entry)) a (now (out .exit)) (now (warns .exit)) (now (lefts .exit))) ⌝ }
     ensures { λ a. ⌜ Grows (now (s .entry)) p (a .place) × EndsThere (now (s .entry)) (p .at) (a .place .at) ⌝ }
 {
     let at = p.at;
     let tag = s[at];
     if tag == 2 {
-        return either_return(s, ln, lt, ld, mark, p, end, out, lefts);
+        return either_return(s, ln, lt, mark, p, end, out, lefts);
     }
     if tag == 3 {
         return expr_statement(s, tb, p, end, out, warns);

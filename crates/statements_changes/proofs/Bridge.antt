@@ -1,8 +1,8 @@
 -- The stack of the crate scope_stack, as the walk up to the next change is lent it.
 -- Assumes nothing.
 use Prim.Native.Nat.{ℕ, _≤_, _<_}
-use mathlib.Core.Path.{_≡_, refl, sym, ap, _∙_}
-use mathlib.Core.Bool.{Bool, true, false, _&&_}
+use mathlib.Core.Path.{_≡_, refl, _∙_}
+use mathlib.Core.Bool.{true, false}
 use mathlib.Core.List.{List}
 use mathlib.Core.Logic.{⊎-elim}
 use borrow.Author.Tests.{lt-ltb, le-ltb}
@@ -11,15 +11,10 @@ use lib.Dec.{ltb}
 use lib.ListN.{getD}
 use Rattle.image_fields.proofs.Tests.{less}
 use Rattle.tables.specs.Tables.{Tables}
-use Rattle.rules.specs.Questions.{auto}
 use Rattle.expressions_scan.specs.States.{lowOf, Kept, AllKept}
 use Rattle.scope_stack.specs.declared.Locals.{Locals}
 use Rattle.scope_stack.specs.declared.States.{States}
-use Rattle.scope_stack.specs.Word.{wordOf}
-use Rattle.scope_stack.specs.View.{entryAt, rowOf, stateAt, view, dropAt, Rowed, Sound}
-use Rattle.scope_stack.proofs.Words.{word-same}
-use Rattle.scope_stack.proofs.Marked.{lives-at}
-use Rattle.statements_acts.specs.Marks.{dropIn, Marked}
+use Rattle.scope_stack.specs.View.{rowOf, stateAt, view, markOf, Sound}
 use Rattle.statements_changes.specs.Turns.{Lends}
 
 low-of : (k : ℕ) → k < 15 → (k < 9 → k < 7) → (lowOf k < 7) × (8 ≤ k → 0 < lowOf k)
@@ -29,20 +24,13 @@ low-of k h s =
     (λ (l : 8 ≤ k). let e : ltb k 8 ≡ false = le-ltb k 8 l in let m : k < 9 → ⊥ = λ z. (let y = s z in omega arith) in rw e (omega arith, λ z. ⊎-elim (λ (q : k < 9). absurd (m q)) (λ (q : 9 ≤ k). omega arith) (less k 9)))
     (less k 8)
 
--- the mark that drop_word gives is the one that is lent
-pub marked-view : (T : Tables) (l : Locals) (t : States) (rows : List ℕ) (cur width mark : ℕ) → Rowed (l .count) t rows cur width → mark ≡ wordOf (l .count) (dropAt T l t)
-    → Marked T (l .types) (stateAt t rows cur width) (l .count) mark
-marked-view T l t rows cur width mark h e =
-    e ∙ word-same (l .count) (dropAt T l t) (dropIn T (l .types) (stateAt t rows cur width))
-    (λ i li. ap (λ (b : Bool). b && auto T (getD (l .types) i 0)) (sym (lives-at rows width (rowOf cur width i) (entryAt t i) (h .known i))))
-
 module _ (l : Locals) (t : States) (rows : List ℕ) (cur width : ℕ) where
-  pub lends-view : (T : Tables) (mark : ℕ) → Rowed (l .count) t rows cur width → mark ≡ wordOf (l .count) (dropAt T l t)
+  pub lends-view : {P : Tables → Type 0} → Sound P l t rows cur width → (T : Tables) → P T → (mark : ℕ) → mark ≡ markOf l t
       → Lends T mark (l .names) (l .types) (l .depths) (stateAt t rows cur width) (l .count) (view l t rows cur width)
-  lends-view T mark h e = record { held = refl; marked = marked-view T l t rows cur width mark h e }
+  lends-view s T p mark e = record { held = refl; marked = e ∙ s .marked T p }
 
   -- what the walk asks of states and rows
-  pub kept-view : Sound l t rows cur width → cur < 4294967296 → width ≤ 8 → AllKept (t .kinds) (t .firsts) rows cur width (l .count)
+  pub kept-view : {P : Tables → Type 0} → Sound P l t rows cur width → cur < 4294967296 → width ≤ 8 → AllKept (t .kinds) (t .firsts) rows cur width (l .count)
   kept-view s lc lw = record { few = s .kept .small; narrow = omega arith; low = lc; kept = one }
     where
       one : (i : ℕ) → i < l .count → Kept (getD (t .kinds) i 0) (getD (t .firsts) i 0) rows (rowOf cur width i)

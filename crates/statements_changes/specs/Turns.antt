@@ -34,7 +34,7 @@ use Rattle.statements_changes.specs.declared.Turn.the-variants.{Nothing,
 use Rattle.statements_changes.specs.declared.Cursor.{Cursor}
 use Rattle.statements_changes.specs.declared.Came.{Came}
 
--- the stack is that of the first n locals of lent arrays, and the mark has those that are deleted where they end
+-- the stack is that of the first n locals of lent arrays, and the mark is its mark
 pub record Lends (T : Tables) (mark : ℕ) (names types depths : List ℕ) (at : ℕ → Status) (n : ℕ) (σ : Scope Status) : Type 0 where
   pub held : σ ≡ lent names types depths at n
   pub marked : Marked T types at n mark

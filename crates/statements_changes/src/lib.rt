@@ -1,5 +1,5 @@
 // The statements of a block over lent arrays, up to the next change of the stack.
-// Throughout, tb has the tables of the image s, and ln, lt, ld, lk and lf the names, types, depths, kinds and first places of the locals, rows the places of joined states, all lent; env has the numbers of the walk.
+// Throughout, tb has the tables of the image s, and ln, lt, lk and lf the names, types, kinds and first places of the locals, rows the places of joined states, all lent; env has the numbers of the walk.
 ghost use mathlib.Core.Path.{_≡_};
 ghost use mathlib.Core.Bool.{true, false};
 ghost use mathlib.Core.List.{List};
@@ -18,7 +18,6 @@ ghost use Rattle.statements_acts.specs.declared.Named.the-variants.{Nobody};
 ghost use Rattle.statements_changes.specs.declared.Turn.the-variants.{Nothing, Over, Mark};
 ghost use Rattle.statements_changes.specs.Turns.{Lends, retold, betweenOf, withinOf, cameOf, Stood, After, Steady, SomeSteady, Fit, ahead};
 use expressions_scan::Env;
-use scope_state::Depths;
 use scope_state::Firsts;
 use scope_state::Kinds;
 use scope_state::Names;
@@ -149,7 +148,6 @@ fn acted<'a>(
     env: Env,
     ln: &'a Names,
     lt: &'a Types,
-    ld: &'a Depths,
     c: Cursor,
     out: &mut [u8],
     warns: &mut [u32],
@@ -158,7 +156,7 @@ fn acted<'a>(
     requires { ⌜ Lent (now s) (now tb) × (env .locals ≤ 64) × (env .left ≤ 12)
         × SomeSteady (now s) (env .left) c × (c .begun ≡ true) × (c .nodes ≡ 0) ⌝ }
     ensures { λ r. ⌜ ((T : Tables) → Says (now (s .entry)) (now (tb .entry)) T
-        → (at : ℕ → Status) (σ : Scope Status) → Lends T (env .mark) (now (ln .entry)) (now (lt .entry)) (now (ld .entry)) at (env .locals) σ
+        → (ld : List ℕ) (at : ℕ → Status) (σ : Scope Status) → Lends T (env .mark) (now (ln .entry)) (now (lt .entry)) ld at (env .locals) σ
         → (all : ℕ) (σ₀ : Scope Status) (p₀ : Place) (m₀ : Memory) (nodes errs : List ℕ)
         → Stood T (now (s .entry)) (env .left) (12 - env .left) all σ₀ p₀ m₀ nodes c σ (memory (now (out .entry)) errs (now (warns .entry)) (now (lefts .entry)))
         → After T (now (s .entry)) (env .left) (12 - env .left) all σ₀ p₀ m₀ nodes (r .cursor) σ (memory (now (out .exit)) errs (now (warns .exit)) (now (lefts .exit))) (r .turn)) ⌝ }
@@ -172,7 +170,7 @@ fn acted<'a>(
     let n = env.locals;
     let m = env.mark;
     let q = told(p, 0);
-    let a = statements_acts::statement(s, tb, ln, lt, ld, n, m, q, end, out, warns, lefts);
+    let a = statements_acts::statement(s, tb, ln, lt, n, m, q, end, out, warns, lefts);
     let y = a.place;
     let z = told(y, p.errors);
     let change = a.change;
@@ -303,7 +301,6 @@ pub fn next_change<'a>(
     env: Env,
     ln: &'a Names,
     lt: &'a Types,
-    ld: &'a Depths,
     lk: &'a Kinds,
     lf: &'a Firsts,
     rows: &[u32],
@@ -317,8 +314,8 @@ pub fn next_change<'a>(
     requires { ⌜ Lent (now s) (now tb) × AllKept (now lk) (now lf) (now rows) (env .cur) (env .width) (env .locals)
         × (env .left ≤ 12) × Steady (now s) (env .left) (now nodes) cursor × (length (now nodes) ≡ 26) ⌝ }
     ensures { λ r. ⌜ ((T : Tables) → Says (now (s .entry)) (now (tb .entry)) T
-        → (σ : Scope Status)
-        → Lends T (env .mark) (now (ln .entry)) (now (lt .entry)) (now (ld .entry)) (stateIn (now (lk .entry)) (now (lf .entry)) (now (rows .entry)) (env .cur) (env .width)) (env .locals) σ
+        → (ld : List ℕ) (σ : Scope Status)
+        → Lends T (env .mark) (now (ln .entry)) (now (lt .entry)) ld (stateIn (now (lk .entry)) (now (lf .entry)) (now (rows .entry)) (env .cur) (env .width)) (env .locals) σ
         → (all : ℕ) (σ₀ : Scope Status) (p₀ : Place) (m₀ : Memory)
         → Stood T (now (s .entry)) (env .left) (12 - env .left) all σ₀ p₀ m₀ (now (nodes .entry)) cursor σ (memory (now (out .entry)) (now (errs .entry)) (now (warns .entry)) (now (lefts .entry)))
         → After T (now (s .entry)) (env .left) (12 - env .left) all σ₀ p₀ m₀ (now (nodes .exit)) (r .cursor) σ (memory (now (out .exit)) (now (errs .exit)) (now (warns .exit)) (now (lefts .exit))) (r .turn)) ⌝ }
@@ -337,7 +334,7 @@ pub fn next_change<'a>(
         if !is_nothing(w) {
             return w;
         }
-        let r = acted(s, tb, env, ln, lt, ld, w.cursor, out, warns, lefts);
+        let r = acted(s, tb, env, ln, lt, w.cursor, out, warns, lefts);
         if !is_nothing(r) {
             return r;
         }

@@ -28,8 +28,7 @@ use Rattle.blocks.specs.Blocks.{Enters, Comes, blockRows}
 use Rattle.blocks_ends.proofs.Numbers.{fault-told, no-fault, reaches}
 use Rattle.statements_acts.proofs.Laws.{auto-is}
 use Rattle.blocks.proofs.Standing.{Standing, Turned, standing-start, ask-next, turned, standing-mark, standing-revived, standing-fresh, full, enters-blocks, there-blocks, less-behind, standing-behind, mark-goes, register-goes, blocks-go}
-use Rattle.blocks.proofs.Ending.{enters-inner, done-as, fault-done, blocks-done, end-there, end-done}
-use Rattle.statements_changes.proofs.Bridge.{marked-view}
+use Rattle.blocks.proofs.Ending.{enters-inner, done-as, fault-done, blocks-done, end-there, end-frame, end-done}
 use Rattle.blocks.proofs.Branching.{moved-once, moved-twice, copied-at, copies-at, comes-at, walks-at, branches-at, merges-at, block-asked, left-same, behind-asked, to-branch, branch-below, branch-enters, branch-short, below-less, comes-faulty, else-low, else-short, else-branches, merged-comes, else-merged}
 use Rattle.blocks.proofs.Thens.{tag-of, seven-of, not-eight, told-either, flag-seven, flag-none, block-of, then-low, then-short, plain-comes, then-below, then-least, then-fault, flag-there, else-enters, else-block-there, else-first, else-comes-to, else-walks-to, without-branches, without-comes, without-if, without-loop, flag-further, loop-further}
 use borrow.Fn.Kinds.{In}
@@ -60,7 +59,7 @@ use Rattle.tables_lookup.proofs.auto_deleted.Reads as auto-deleted-reads
 use Rattle.scope_stack.proofs.Locals.register_local.Reads as register-local-reads
 use Rattle.scope_stack.proofs.States.leave.Reads as leave-reads
 use Rattle.scope_stack.proofs.States.mark.Reads as mark-reads
-use Rattle.scope_stack.proofs.drop_word.Reads as drop-word-reads
+use Rattle.scope_stack.proofs.mark_of.Reads as mark-of-reads
 use Rattle.scope_stack.proofs.needs_revival.Reads as needs-revival-reads
 use Rattle.statements_changes.proofs.next_change.Reads as next-change-reads
 use Rattle.blocks.proofs.+transform_block+transform_blocks+transform_else.{statement}
@@ -132,7 +131,7 @@ transform-block-μ-loop s tb env outer rows₀ nodes₀ out₀ errs₀ warns₀ 
     ahead s c
 
 abbrev transform-block-claims : ℕ → transform-block-lts.Claims
-transform-block-claims t = (place-in-reads.Asked, place-in-reads.Learnt, inner-reads.Asked, inner-reads.Learnt, head-reads.Asked, head-reads.Learnt, drop-word-reads.Asked, drop-word-reads.Learnt, scanning-reads.Asked, scanning-reads.Learnt, next-change-reads.Asked, next-change-reads.Learnt, end-block-reads.Asked, end-block-reads.Learnt, leave-reads.Asked, leave-reads.Learnt, mark-reads.Asked, mark-reads.Learnt, full-reads.Asked, full-reads.Learnt, auto-deleted-reads.Asked, auto-deleted-reads.Learnt, register-local-reads.Asked, register-local-reads.Learnt, needs-revival-reads.Asked, needs-revival-reads.Learnt, put-place-reads.Asked, put-place-reads.Learnt, transform-blocks-below t, transform-blocks.Post, resumed-reads.Asked, resumed-reads.Learnt)
+transform-block-claims t = (place-in-reads.Asked, place-in-reads.Learnt, inner-reads.Asked, inner-reads.Learnt, head-reads.Asked, head-reads.Learnt, mark-of-reads.Asked, mark-of-reads.Learnt, scanning-reads.Asked, scanning-reads.Learnt, next-change-reads.Asked, next-change-reads.Learnt, end-block-reads.Asked, end-block-reads.Learnt, leave-reads.Asked, leave-reads.Learnt, mark-reads.Asked, mark-reads.Learnt, full-reads.Asked, full-reads.Learnt, auto-deleted-reads.Asked, auto-deleted-reads.Learnt, register-local-reads.Asked, register-local-reads.Learnt, needs-revival-reads.Asked, needs-revival-reads.Learnt, put-place-reads.Asked, put-place-reads.Learnt, transform-blocks-below t, transform-blocks.Post, resumed-reads.Asked, resumed-reads.Learnt)
 
 abbrev transform-blocks-claims : ℕ → transform-blocks-lts.Claims
 transform-blocks-claims t = (transform-block-below t, transform-block.Post, behind-reads.Asked, behind-reads.Learnt, branch-rows-reads.Asked, branch-rows-reads.Learnt, then-over-reads.Asked, then-over-reads.Learnt, transform-else-below t, transform-else.Post, merge-first-reads.Asked, merge-first-reads.Learnt)
@@ -158,7 +157,7 @@ first-copies t c =
     let start = at-behind .before .before .before .before .before .before .before .before .before in
     copies-at (start .args .env) (at-behind .behind .result) _ (moved-once (start .args .env) (at-behind .behind .result) (start .args .l .count) (at-behind .behind .ensures)) (at-branch-rows .branch-rows .ensures)
 
-first-comes : (t : ℕ) (c : First t) → Comes (c .before .before .before .before .before .before .before .before .before .before .before .before .before .before .before .before .before .before .before .before .before .before .before .before .args .s .now) (rowOf (c .before .before .before .before .before .before .before .before .before .before .before .before .before .before .before .before .before .before .before .before .before .before .before .before .args .env .cur) (c .before .before .before .before .before .before .before .before .before .before .before .before .before .before .before .before .before .before .before .before .before .before .before .before .args .env .width) (c .before .before .before .before .before .before .before .before .before .before .before .before .before .before .before .before .before .before .before .before .before .before .before .before .args .l .count)) (c .before .before .before .before .before .before .before .before .before .before .before .before .before .before .before .before .before .before .before .before .before .before .before .before .args .env .width) (blockRows (rowOf (c .before .before .before .before .before .before .before .before .before .before .before .before .before .before .before .before .before .before .before .before .before .before .before .before .args .env .cur) (c .before .before .before .before .before .before .before .before .before .before .before .before .before .before .before .before .before .before .before .before .before .before .before .before .args .env .width) (c .before .before .before .before .before .before .before .before .before .before .before .before .before .before .before .before .before .before .before .before .before .before .before .before .args .l .count)) (c .before .before .before .before .before .before .before .before .before .before .before .before .before .before .before .before .before .before .before .before .before .before .before .before .args .env .left)) (c .before .before .before .before .before .before .before .before .before .before .before .before .before .before .before .before .before .before .before .before .before .before .before .before .args .l) (c .before .before .before .before .before .before .before .before .before .before .before .branch-rows .last .1 .1 .0) (placeIn (c .before .before .before .before .before .before .before .before .before .before .before .before .before .before .before .before .before .before .before .before .before .before .before .before .args .pl .now)) (c .transform-block2 .result) (c .transform-block2 .last .1 .1 .1 .1 .1 .0) (c .transform-block2 .last .1 .1 .1 .1 .1 .1 .1 .1 .1 .1 .1 .0)
+first-comes : (t : ℕ) (c : First t) → Comes (c .before .before .before .before .before .before .before .before .before .before .before .before .before .before .before .before .before .before .before .before .before .before .before .before .args .s .now) (c .before .before .before .before .before .before .before .before .before .before .before .before .before .before .before .before .before .before .before .before .before .before .before .before .args .tb .now) (rowOf (c .before .before .before .before .before .before .before .before .before .before .before .before .before .before .before .before .before .before .before .before .before .before .before .before .args .env .cur) (c .before .before .before .before .before .before .before .before .before .before .before .before .before .before .before .before .before .before .before .before .before .before .before .before .args .env .width) (c .before .before .before .before .before .before .before .before .before .before .before .before .before .before .before .before .before .before .before .before .before .before .before .before .args .l .count)) (c .before .before .before .before .before .before .before .before .before .before .before .before .before .before .before .before .before .before .before .before .before .before .before .before .args .env .width) (blockRows (rowOf (c .before .before .before .before .before .before .before .before .before .before .before .before .before .before .before .before .before .before .before .before .before .before .before .before .args .env .cur) (c .before .before .before .before .before .before .before .before .before .before .before .before .before .before .before .before .before .before .before .before .before .before .before .before .args .env .width) (c .before .before .before .before .before .before .before .before .before .before .before .before .before .before .before .before .before .before .before .before .before .before .before .before .args .l .count)) (c .before .before .before .before .before .before .before .before .before .before .before .before .before .before .before .before .before .before .before .before .before .before .before .before .args .env .left)) (c .before .before .before .before .before .before .before .before .before .before .before .before .before .before .before .before .before .before .before .before .before .before .before .before .args .l) (c .before .before .before .before .before .before .before .before .before .before .before .branch-rows .last .1 .1 .0) (placeIn (c .before .before .before .before .before .before .before .before .before .before .before .before .before .before .before .before .before .before .before .before .before .before .before .before .args .pl .now)) (c .transform-block2 .result) (c .transform-block2 .last .1 .1 .1 .1 .1 .0) (c .transform-block2 .last .1 .1 .1 .1 .1 .1 .1 .1 .1 .1 .1 .0)
 first-comes t c =
     let at-behind = c .before .before .before .before .before .before .before .before .before .before .before .before .before .before .before in
     let start = at-behind .before .before .before .before .before .before .before .before .before in
@@ -193,25 +192,24 @@ flag-at t c seven =
 -- behind next_change: what is to be done
 turned-at : (t : ℕ) (c : transform-block-lts.After-next-change (transform-block-claims t) (transform-block-at t) transform-block.Post transform-block-Inv-loop transform-block-μ-loop)
     {turn : Turn} → c .next-change .result .turn ≡ turn
-    → Turned (c .before .before .before .before .before .before .before .before .before .before .before .before .before .before .before .before .before .before .before .before .before .before .before .before .before .before .before .before .before .before .before .before .args .s .now) (c .before .before .before .before .before .before .before .before .before .before .before .before .before .before .before .before .before .before .before .before .before .before .before .before .before .before .before .before .before .before .before .before .args .tb .now) (c .before .before .before .before .before .before .before .before .before .before .before .before .before .before .before .before .before .before .before .before .before .before .inner .result) (c .before .before .before .before .before .before .before .before .before .before .before .before .before .before .before .before .before .before .before .before .before .before .before .place-in .result)
-    (c .before .before .before .before .before .before .before .before .before .before .before .before .before .before .before .before .before .before .before .before .before .before .before .before .before .before .before .before .before .before .before .before .args .outer) (c .before .before .before .before .before .before .before .before .before .before .before .before .before .before .before .before .before .before .before .before .before .before .before .before .before .before .before .before .before .before .before .before .args .states) (c .before .before .before .before .before .before .before .before .before .before .before .before .before .before .before .before .before .before .before .before .before .before .before .before .before .before .before .before .before .before .before .before .args .rows .now) (c .before .before .before .before .before .before .before .before .before .before .before .before .before .before .before .before .before .before .before .head .last .1 .1 .0)
-    (c .before .before .before .before .before .before .before .before .before .before .before .before .before .before .before .before .before .before .before .before .before .before .before .before .before .before .before .before .before .before .before .before .args .errs .now) (c .before .before .before .before .before .before .before .before .before .before .before .before .before .before .before .before .before .before .before .before .before .before .before .before .before .before .before .before .before .before .before .before .args .warns .now) (c .before .before .before .before .before .before .before .before .before .before .before .before .before .before .before .before .before .before .before .before .before .before .before .before .before .before .before .before .before .before .before .before .args .lefts .now) (c .before .before .before .before .before .before .before .before .before .before .before .before .before .before .before .before .loop .rows)
-    (c .next-change .last .1 .1 .1 .1 .1 .1 .1 .1 .1 .0) (c .next-change .last .1 .1 .1 .1 .1 .1 .1 .1 .1 .1 .1 .0) (c .next-change .last .1 .1 .1 .1 .1 .1 .1 .1 .1 .1 .1 .1 .0) (c .next-change .last .1 .1 .1 .1 .1 .1 .1 .1 .1 .1 .1 .1 .1 .0)
-    (c .next-change .last .1 .1 .1 .1 .1 .1 .1 .1 .1 .1 .1 .1 .1 .1 .0) (c .before .before .before .before .before .before .before .before .before .before .before .before .before .before .before .before .loop .pl) (c .before .before .before .before .before .before .before .before .before .before .before .before .before .before .before .before .loop .l) (c .before .before .before .before .before .before .before .before .before .before .before .before .before .before .before .before .loop .st) (c .next-change .result .cursor) turn
+    → Turned (c .before .before .before .before .before .before .before .before .before .before .before .before .before .before .before .before .before .before .before .before .before .before .before .before .before .before .before .before .before .before .before .args .s .now) (c .before .before .before .before .before .before .before .before .before .before .before .before .before .before .before .before .before .before .before .before .before .before .before .before .before .before .before .before .before .before .before .args .tb .now) (c .before .before .before .before .before .before .before .before .before .before .before .before .before .before .before .before .before .before .before .before .before .inner .result) (c .before .before .before .before .before .before .before .before .before .before .before .before .before .before .before .before .before .before .before .before .before .before .place-in .result)
+    (c .before .before .before .before .before .before .before .before .before .before .before .before .before .before .before .before .before .before .before .before .before .before .before .before .before .before .before .before .before .before .before .args .outer) (c .before .before .before .before .before .before .before .before .before .before .before .before .before .before .before .before .before .before .before .before .before .before .before .before .before .before .before .before .before .before .before .args .states) (c .before .before .before .before .before .before .before .before .before .before .before .before .before .before .before .before .before .before .before .before .before .before .before .before .before .before .before .before .before .before .before .args .rows .now) (c .before .before .before .before .before .before .before .before .before .before .before .before .before .before .before .before .before .before .head .last .1 .1 .0)
+    (c .before .before .before .before .before .before .before .before .before .before .before .before .before .before .before .before .before .before .before .before .before .before .before .before .before .before .before .before .before .before .before .args .errs .now) (c .before .before .before .before .before .before .before .before .before .before .before .before .before .before .before .before .before .before .before .before .before .before .before .before .before .before .before .before .before .before .before .args .warns .now) (c .before .before .before .before .before .before .before .before .before .before .before .before .before .before .before .before .before .before .before .before .before .before .before .before .before .before .before .before .before .before .before .args .lefts .now) (c .before .before .before .before .before .before .before .before .before .before .before .before .before .before .before .loop .rows)
+    (c .next-change .last .1 .1 .1 .1 .1 .1 .1 .1 .0) (c .next-change .last .1 .1 .1 .1 .1 .1 .1 .1 .1 .1 .0) (c .next-change .last .1 .1 .1 .1 .1 .1 .1 .1 .1 .1 .1 .0) (c .next-change .last .1 .1 .1 .1 .1 .1 .1 .1 .1 .1 .1 .1 .0)
+    (c .next-change .last .1 .1 .1 .1 .1 .1 .1 .1 .1 .1 .1 .1 .1 .0) (c .before .before .before .before .before .before .before .before .before .before .before .before .before .before .before .loop .pl) (c .before .before .before .before .before .before .before .before .before .before .before .before .before .before .before .loop .l) (c .before .before .before .before .before .before .before .before .before .before .before .before .before .before .before .loop .st) (c .next-change .result .cursor) turn
 turned-at t c came =
-    let at-scanning = c .before .before .before .before .before .before .before .before .before .before .before .before .before .before in
-    let at-drop-word = at-scanning .before in
-    let at-loop = at-drop-word .before in
+    let at-scanning = c .before .before .before .before .before .before .before .before .before .before .before .before .before in
+    let at-mark-of = at-scanning .before in
+    let at-loop = at-mark-of .before in
     let at-head = at-loop .before .before .before in
     let at-inner = at-head .before .before .before in
     let at-place-in = at-inner .before in
     let start = at-place-in .before .before .before .before .before .before .before .before .before in
     turned (start .args .s .now) (start .args .tb .now) (at-inner .inner .result) (at-place-in .place-in .result)
     (start .args .outer) (start .args .states) (start .args .rows .now) (at-head .head .last .1 .1 .0) (start .args .errs .now) (start .args .warns .now) (start .args .lefts .now)
-    (at-loop .loop .inv) (at-drop-word .drop-word .result)
-    (λ T d. at-drop-word .drop-word .ensures T (at-loop .loop .l) (at-loop .loop .st) refl refl (at-loop .loop .inv .owned .sound .kept)
-    (at-loop .loop .inv .owned .sound .held) d) (at-scanning .scanning .result) (at-scanning .scanning .ensures) (c .next-change .ensures)
-    came (c .next-change .kept .1 .1 .1 .1 .1 .1 .1 .1 .1 .1 .1 .0) (c .next-change .kept .1 .1 .1 .1 .1 .1 .1 .1 .1 .1 .1 .1 .0) (c .next-change .kept .1 .1 .1 .1 .1 .1 .1 .1 .1 .1 .1 .1 .1 .0) (c .next-change .kept .1 .1 .1 .1 .1 .1 .1 .1 .1 .1 .1 .1 .1 .1 .0)
+    (at-loop .loop .inv) (at-mark-of .mark-of .result)
+    (at-mark-of .mark-of .ensures (at-loop .loop .l) (at-loop .loop .st) refl refl) (at-scanning .scanning .result) (at-scanning .scanning .ensures) (c .next-change .ensures)
+    came (c .next-change .kept .1 .1 .1 .1 .1 .1 .1 .1 .1 .1 .0) (c .next-change .kept .1 .1 .1 .1 .1 .1 .1 .1 .1 .1 .1 .0) (c .next-change .kept .1 .1 .1 .1 .1 .1 .1 .1 .1 .1 .1 .1 .0) (c .next-change .kept .1 .1 .1 .1 .1 .1 .1 .1 .1 .1 .1 .1 .1 .0)
 
 -- src/lib.rt:136:9
 transform-block-place-in-requires : (t : ℕ) → transform-block-lts.Need-place-in-requires (transform-block-claims t) (transform-block-at t) transform-block.Post transform-block-Inv-loop transform-block-μ-loop
@@ -264,8 +262,8 @@ transform-block-loop-holds t c =
     (at-head .head .ensures .is)
 
 -- src/lib.rt:143:13
-transform-block-drop-word-requires : (t : ℕ) → transform-block-lts.Need-drop-word-requires (transform-block-claims t) (transform-block-at t) transform-block.Post transform-block-Inv-loop transform-block-μ-loop
-transform-block-drop-word-requires t c κs = search needs
+transform-block-mark-of-requires : (t : ℕ) → transform-block-lts.Need-mark-of-requires (transform-block-claims t) (transform-block-at t) transform-block.Post transform-block-Inv-loop transform-block-μ-loop
+transform-block-mark-of-requires t c κs = search needs
 
 -- src/lib.rt:147:13
 transform-block-scanning-requires : (t : ℕ) → transform-block-lts.Need-scanning-requires (transform-block-claims t) (transform-block-at t) transform-block.Post transform-block-Inv-loop transform-block-μ-loop
@@ -274,9 +272,9 @@ transform-block-scanning-requires t c κs = search needs
 -- src/lib.rt:144:13
 transform-block-next-change-requires : (t : ℕ) → transform-block-lts.Need-next-change-requires (transform-block-claims t) (transform-block-at t) transform-block.Post transform-block-Inv-loop transform-block-μ-loop
 transform-block-next-change-requires t c κs =
-    let at-scanning = c .before .before .before .before .before .before .before .before .before .before .before .before .before in
-    let at-drop-word = at-scanning .before in
-    let at-loop = at-drop-word .before in
+    let at-scanning = c .before .before .before .before .before .before .before .before .before .before .before .before in
+    let at-mark-of = at-scanning .before in
+    let at-loop = at-mark-of .before in
     let at-inner = at-loop .before .before .before .before .before .before in
     let at-place-in = at-inner .before in
     let start = at-place-in .before .before .before .before .before .before .before .before .before in
@@ -286,7 +284,7 @@ transform-block-next-change-requires t c κs =
     let ec = ap (λ (x : Env). x .cur) (at-inner .inner .ensures) in
     ask-next (start .args .s .now) (start .args .tb .now) (at-inner .inner .result) (at-place-in .place-in .result)
     (start .args .outer) (start .args .states) (start .args .rows .now) _ (start .args .errs .now) (start .args .warns .now) (start .args .lefts .now) (en .lent)
-    (en .depth) (en .width) (omega (arith, ec, start .pre .1 .2)) (at-loop .loop .inv) (at-drop-word .drop-word .result) (at-scanning .scanning .result)
+    (en .depth) (en .width) (omega (arith, ec, start .pre .1 .2)) (at-loop .loop .inv) (at-mark-of .mark-of .result) (at-scanning .scanning .result)
     (at-scanning .scanning .ensures)
 
 transform-block-enum-told : (t : ℕ) → transform-block-lts.Need-enum-told (transform-block-claims t) (transform-block-at t) transform-block.Post transform-block-Inv-loop transform-block-μ-loop
@@ -304,16 +302,16 @@ transform-block-loop-again t c =
     let at-next-change = c .before .before .before .before .before .before .before .before .before .before .before in
     absurd (at-next-change .next-change .ensures .1 .2 (c .enum-told .given .1))
 
--- src/lib.rt:171:21
+-- src/lib.rt:170:21
 transform-block-enum-told-2 : (t : ℕ) → transform-block-lts.Need-enum-told-2 (transform-block-claims t) (transform-block-at t) transform-block.Post transform-block-Inv-loop transform-block-μ-loop
 transform-block-enum-told-2 t c = search needs
 
--- src/lib.rt:166:17
+-- src/lib.rt:165:17
 transform-block-end-block-requires : (t : ℕ) → transform-block-lts.Need-end-block-requires (transform-block-claims t) (transform-block-at t) transform-block.Post transform-block-Inv-loop transform-block-μ-loop
 transform-block-end-block-requires t c κs =
-    let at-enum-told2 = c .before .before .before .before .before .before in
+    let at-enum-told2 = c .before .before .before .before .before in
     let at-next-change = at-enum-told2 .before .before .before .before .before .before .before .before .before .before .before in
-    let at-loop = at-next-change .before .before .before .before .before .before .before .before .before .before .before .before .before .before .before .before in
+    let at-loop = at-next-change .before .before .before .before .before .before .before .before .before .before .before .before .before .before .before in
     let at-head = at-loop .before .before .before in
     let at-inner = at-head .before .before .before in
     let at-place-in = at-inner .before in
@@ -328,61 +326,62 @@ transform-block-end-block-requires t c κs =
           (block-bytes t at-shared-slice-known) (at-inner .inner .result) (start .args .env .left) low (start .pre .1 .0 .depth) el
           (at-place-in .place-in .result) (start .args .outer) (start .args .states) (start .args .rows .now) _ (start .args .errs .now) (start .args .warns .now)
           (start .args .lefts .now) within there (start .args .out .now) (at-head .head .ensures .stored) h,
+      start .pre .1 .0 .sound .kept .small,
       at-loop .loop .inv .long .pl,
     )
 
--- src/lib.rt:178:17
+-- src/lib.rt:177:17
 transform-block-leave-requires : (t : ℕ) → transform-block-lts.Need-leave-requires (transform-block-claims t) (transform-block-at t) transform-block.Post transform-block-Inv-loop transform-block-μ-loop
 transform-block-leave-requires t c κs =
-    let at-loop = c .before .before .before .before .before .before .before .before .before .before .before .before .before .before .before .before .before .before .before .before .before .before .before .before .before .before .before .before .before .before .before .before .before .before .before .before in
+    let at-loop = c .before .before .before .before .before .before .before .before .before .before .before .before .before .before .before .before .before .before .before .before .before .before .before .before .before .before .before .before .before .before .before .before .before .before in
     let most = at-loop .loop .inv .owned .extends .most in
     let small = at-loop .loop .inv .owned .sound .kept .small in
     (at-loop .loop .inv .owned .sound .held, omega (arith, most, small), omega (arith, most, small))
 
--- src/lib.rt:178:17
+-- src/lib.rt:177:17
 transform-block-same-length : (t : ℕ) → transform-block-lts.Need-same-length (transform-block-claims t) (transform-block-at t) transform-block.Post transform-block-Inv-loop transform-block-μ-loop
 transform-block-same-length t c =
-    let at-loop = c .before .before .before .before .before .before .before .before .before .before .before .before .before .before .before .before .before .before .before .before .before .before .before .before .before .before .before .before .before .before .before .before .before .before .before .before .before in
+    let at-loop = c .before .before .before .before .before .before .before .before .before .before .before .before .before .before .before .before .before .before .before .before .before .before .before .before .before .before .before .before .before .before .before .before .before .before .before in
     at-loop .loop .inv .owned .below .room
 
--- src/lib.rt:178:17
+-- src/lib.rt:177:17
 transform-block-same-length-2 : (t : ℕ) → transform-block-lts.Need-same-length-2 (transform-block-claims t) (transform-block-at t) transform-block.Post transform-block-Inv-loop transform-block-μ-loop
 transform-block-same-length-2 t c =
     let at-end-block = c .before .before .before in
-    let at-next-change = at-end-block .before .before .before .before .before .before .before .before .before .before .before .before .before .before .before .before .before .before in
-    let at-loop = at-next-change .before .before .before .before .before .before .before .before .before .before .before .before .before .before .before .before in
+    let at-next-change = at-end-block .before .before .before .before .before .before .before .before .before .before .before .before .before .before .before .before .before in
+    let at-loop = at-next-change .before .before .before .before .before .before .before .before .before .before .before .before .before .before .before in
     let at-head = at-loop .before .before .before in
-    omega (arith, at-end-block .end-block .kept .1 .1 .1 .1 .1 .1 .1 .1 .0, at-next-change .next-change .kept .1 .1 .1 .1 .1 .1 .1 .1 .1 .1 .1 .0, at-loop .loop .inv .long .out, at-head .head .kept .1 .1 .0)
+    omega (arith, at-end-block .end-block .kept .1 .1 .1 .1 .1 .1 .1 .1 .0, at-next-change .next-change .kept .1 .1 .1 .1 .1 .1 .1 .1 .1 .1 .0, at-loop .loop .inv .long .out, at-head .head .kept .1 .1 .0)
 
--- src/lib.rt:178:17
+-- src/lib.rt:177:17
 transform-block-same-length-3 : (t : ℕ) → transform-block-lts.Need-same-length-3 (transform-block-claims t) (transform-block-at t) transform-block.Post transform-block-Inv-loop transform-block-μ-loop
 transform-block-same-length-3 t c =
-    let at-next-change = c .before .before .before .before .before .before .before .before .before .before .before .before .before .before .before .before .before .before .before .before .before in
-    let at-loop = at-next-change .before .before .before .before .before .before .before .before .before .before .before .before .before .before .before .before in
-    omega (arith, at-next-change .next-change .kept .1 .1 .1 .1 .1 .1 .1 .1 .1 .1 .1 .1 .0, at-loop .loop .inv .long .errs)
+    let at-next-change = c .before .before .before .before .before .before .before .before .before .before .before .before .before .before .before .before .before .before .before .before in
+    let at-loop = at-next-change .before .before .before .before .before .before .before .before .before .before .before .before .before .before .before in
+    omega (arith, at-next-change .next-change .kept .1 .1 .1 .1 .1 .1 .1 .1 .1 .1 .1 .0, at-loop .loop .inv .long .errs)
 
--- src/lib.rt:178:17
+-- src/lib.rt:177:17
 transform-block-same-length-4 : (t : ℕ) → transform-block-lts.Need-same-length-4 (transform-block-claims t) (transform-block-at t) transform-block.Post transform-block-Inv-loop transform-block-μ-loop
 transform-block-same-length-4 t c =
-    let at-next-change = c .before .before .before .before .before .before .before .before .before .before .before .before .before .before .before .before .before .before .before .before .before in
-    let at-loop = at-next-change .before .before .before .before .before .before .before .before .before .before .before .before .before .before .before .before in
-    omega (arith, at-next-change .next-change .kept .1 .1 .1 .1 .1 .1 .1 .1 .1 .1 .1 .1 .1 .0, at-loop .loop .inv .long .warns)
+    let at-next-change = c .before .before .before .before .before .before .before .before .before .before .before .before .before .before .before .before .before .before .before .before in
+    let at-loop = at-next-change .before .before .before .before .before .before .before .before .before .before .before .before .before .before .before in
+    omega (arith, at-next-change .next-change .kept .1 .1 .1 .1 .1 .1 .1 .1 .1 .1 .1 .1 .0, at-loop .loop .inv .long .warns)
 
--- src/lib.rt:178:17
+-- src/lib.rt:177:17
 transform-block-same-length-5 : (t : ℕ) → transform-block-lts.Need-same-length-5 (transform-block-claims t) (transform-block-at t) transform-block.Post transform-block-Inv-loop transform-block-μ-loop
 transform-block-same-length-5 t c =
-    let at-next-change = c .before .before .before .before .before .before .before .before .before .before .before .before .before .before .before .before .before .before .before .before .before in
-    let at-loop = at-next-change .before .before .before .before .before .before .before .before .before .before .before .before .before .before .before .before in
-    omega (arith, at-next-change .next-change .kept .1 .1 .1 .1 .1 .1 .1 .1 .1 .1 .1 .1 .1 .1 .0, at-loop .loop .inv .long .lefts)
+    let at-next-change = c .before .before .before .before .before .before .before .before .before .before .before .before .before .before .before .before .before .before .before .before in
+    let at-loop = at-next-change .before .before .before .before .before .before .before .before .before .before .before .before .before .before .before in
+    omega (arith, at-next-change .next-change .kept .1 .1 .1 .1 .1 .1 .1 .1 .1 .1 .1 .1 .1 .0, at-loop .loop .inv .long .lefts)
 
--- src/lib.rt:178:17
+-- src/lib.rt:177:17
 transform-block-returns : (t : ℕ) → transform-block-lts.Need-returns (transform-block-claims t) (transform-block-at t) transform-block.Post transform-block-Inv-loop transform-block-μ-loop
 transform-block-returns t c =
     let at-end-block = c .before .before .before in
-    let at-enum-told2 = at-end-block .before .before .before .before .before .before .before in
+    let at-enum-told2 = at-end-block .before .before .before .before .before .before in
     let at-next-change = at-enum-told2 .before .before .before .before .before .before .before .before .before .before .before in
-    let at-drop-word = at-next-change .before .before .before .before .before .before .before .before .before .before .before .before .before .before .before in
-    let at-loop = at-drop-word .before in
+    let at-mark-of = at-next-change .before .before .before .before .before .before .before .before .before .before .before .before .before .before in
+    let at-loop = at-mark-of .before in
     let at-head = at-loop .before .before .before in
     let at-inner = at-head .before .before .before in
     let at-place-in = at-inner .before in
@@ -396,27 +395,30 @@ transform-block-returns t c =
     let nested = subst (λ (x : Env). Nested (12 - start .args .env .left)
     (shape (view (start .args .outer) (start .args .states) (start .args .rows .now) (x .cur) (x .width)))) (sym (at-inner .inner .ensures))
     (start .pre .1 .0 .nested) in
+    let frame = end-frame (start .args .s .now) (start .args .tb .now)
+    (block-bytes t at-shared-slice-known) (at-inner .inner .result) (start .args .env .left) low (start .pre .1 .0 .depth) el
+    (at-place-in .place-in .result) (start .args .outer) (start .args .states) (start .args .rows .now) _ (start .args .errs .now) (start .args .warns .now)
+    (start .args .lefts .now) within there (start .args .out .now) (at-head .head .ensures .stored) h nested in
     let d = end-done (start .args .s .now) (start .args .tb .now)
     (block-bytes t at-shared-slice-known) (at-inner .inner .result) (start .args .env .left) low (start .pre .1 .0 .depth) el
     (at-place-in .place-in .result) (start .args .outer) (start .args .states) (start .args .rows .now) _ (start .args .errs .now) (start .args .warns .now)
     (start .args .lefts .now) within there (start .args .out .now) (at-head .head .ensures .stored) h _ _ (at-end-block .end-block .ensures .1) (c .leave .result)
-    (c .leave .ensures) (start .pre .1 .0 .sound .kept) nested _
-    (λ T sy. at-end-block .end-block .ensures .0 T _ _ (marked-view T (at-loop .loop .l) (at-loop .loop .st) _ _ _ _ (at-loop .loop .inv .owned .sound .rowed)
-    (at-drop-word .drop-word .ensures T (at-loop .loop .l) (at-loop .loop .st) refl refl (at-loop .loop .inv .owned .sound .kept)
-    (at-loop .loop .inv .owned .sound .held) (at-loop .loop .inv .owned .drops T sy)))) in
+    (c .leave .ensures) (start .pre .1 .0 .sound .kept) (start .pre .1 .0 .sound .drops) nested _
+    (λ T sy. at-end-block .end-block .ensures .0 T (at-loop .loop .l .depths) _ _
+    (at-mark-of .mark-of .ensures (at-loop .loop .l) (at-loop .loop .st) refl refl ∙ at-loop .loop .inv .owned .sound .marked T sy) frame) in
     let q = done-as _ _ (start .args .env) (at-inner .inner .result) _ _ _ _ _ _ _ _ _ _ _ _ _ (at-inner .inner .ensures) (at-place-in .place-in .ensures) d in
     ((q .comes, q .nodes), q .walks)
 
--- src/lib.rt:180:24
+-- src/lib.rt:179:24
 transform-block-enum-known-turn : (t : ℕ) → transform-block-lts.Need-enum-known-turn (transform-block-claims t) (transform-block-at t) transform-block.Post transform-block-Inv-loop transform-block-μ-loop
 transform-block-enum-known-turn t c = search needs
 
--- src/lib.rt:181:22
+-- src/lib.rt:180:22
 transform-block-mark-requires : (t : ℕ) → transform-block-lts.Need-mark-requires (transform-block-claims t) (transform-block-at t) transform-block.Post transform-block-Inv-loop transform-block-μ-loop
 transform-block-mark-requires t c κs =
     let at-turn = c .before .before .before .before in
     let at-next-change = at-turn .before .before .before .before .before .before .before .before .before .before .before in
-    let at-loop = at-next-change .before .before .before .before .before .before .before .before .before .before .before .before .before .before .before .before in
+    let at-loop = at-next-change .before .before .before .before .before .before .before .before .before .before .before .before .before .before .before in
     let h = turned-at t at-next-change (at-turn .turn .given .1) in
     (at-loop .loop .inv .owned .sound .held, at-loop .loop .inv .owned .sound .kept .small, h .fit .1)
 
@@ -432,7 +434,7 @@ transform-block-loop-again-2 : (t : ℕ) → transform-block-lts.Need-loop-again
 transform-block-loop-again-2 t c =
     let at-turn = c .before .before .before .before .before in
     let at-next-change = at-turn .before .before .before .before .before .before .before .before .before .before .before in
-    let at-loop = at-next-change .before .before .before .before .before .before .before .before .before .before .before .before .before .before .before .before in
+    let at-loop = at-next-change .before .before .before .before .before .before .before .before .before .before .before .before .before .before .before in
     let at-inner = at-loop .before .before .before .before .before .before in
     let at-place-in = at-inner .before in
     let start = at-place-in .before .before .before .before .before .before .before .before .before in
@@ -441,60 +443,60 @@ transform-block-loop-again-2 t c =
     (start .args .outer) (start .args .states) (start .args .rows .now) _ (start .args .errs .now) (start .args .warns .now) (start .args .lefts .now) _ _ _ _ h
     (c .mark .result) (c .mark .ensures .0) (c .mark .ensures .1 (at-loop .loop .l) refl refl refl)
 
--- src/lib.rt:183:28
+-- src/lib.rt:182:28
 transform-block-enum-known-turn-2 : (t : ℕ) → transform-block-lts.Need-enum-known-turn-2 (transform-block-claims t) (transform-block-at t) transform-block.Post transform-block-Inv-loop transform-block-μ-loop
 transform-block-enum-known-turn-2 t c = search needs
 
--- src/lib.rt:184:20
+-- src/lib.rt:183:20
 transform-block-full-requires : (t : ℕ) → transform-block-lts.Need-full-requires (transform-block-claims t) (transform-block-at t) transform-block.Post transform-block-Inv-loop transform-block-μ-loop
 transform-block-full-requires t c κs = tt
 
--- src/lib.rt:185:21
+-- src/lib.rt:184:21
 transform-block-element-write-pl : (t : ℕ) → transform-block-lts.Need-element-write-pl (transform-block-claims t) (transform-block-at t) transform-block.Post transform-block-Inv-loop transform-block-μ-loop
 transform-block-element-write-pl t c = search needs
 
--- src/lib.rt:186:21
+-- src/lib.rt:185:21
 transform-block-same-length-6 : (t : ℕ) → transform-block-lts.Need-same-length-6 (transform-block-claims t) (transform-block-at t) transform-block.Post transform-block-Inv-loop transform-block-μ-loop
 transform-block-same-length-6 t c =
-    let at-loop = c .before .before .before .before .before .before .before .before .before .before .before .before .before .before .before .before .before .before .before .before .before .before .before .before .before .before .before .before .before .before in
+    let at-loop = c .before .before .before .before .before .before .before .before .before .before .before .before .before .before .before .before .before .before .before .before .before .before .before .before .before .before .before .before .before in
     at-loop .loop .inv .owned .below .room
 
--- src/lib.rt:186:21
+-- src/lib.rt:185:21
 transform-block-same-length-7 : (t : ℕ) → transform-block-lts.Need-same-length-7 (transform-block-claims t) (transform-block-at t) transform-block.Post transform-block-Inv-loop transform-block-μ-loop
 transform-block-same-length-7 t c =
     let at-next-change = c .before .before .before .before .before .before .before .before .before .before .before .before .before .before in
-    let at-loop = at-next-change .before .before .before .before .before .before .before .before .before .before .before .before .before .before .before .before in
+    let at-loop = at-next-change .before .before .before .before .before .before .before .before .before .before .before .before .before .before .before in
     let at-head = at-loop .before .before .before in
-    omega (arith, at-next-change .next-change .kept .1 .1 .1 .1 .1 .1 .1 .1 .1 .1 .1 .0, at-loop .loop .inv .long .out, at-head .head .kept .1 .1 .0)
+    omega (arith, at-next-change .next-change .kept .1 .1 .1 .1 .1 .1 .1 .1 .1 .1 .0, at-loop .loop .inv .long .out, at-head .head .kept .1 .1 .0)
 
--- src/lib.rt:186:21
+-- src/lib.rt:185:21
 transform-block-same-length-8 : (t : ℕ) → transform-block-lts.Need-same-length-8 (transform-block-claims t) (transform-block-at t) transform-block.Post transform-block-Inv-loop transform-block-μ-loop
 transform-block-same-length-8 t c =
     let at-next-change = c .before .before .before .before .before .before .before .before .before .before .before .before .before .before in
-    let at-loop = at-next-change .before .before .before .before .before .before .before .before .before .before .before .before .before .before .before .before in
-    omega (arith, at-next-change .next-change .kept .1 .1 .1 .1 .1 .1 .1 .1 .1 .1 .1 .1 .0, at-loop .loop .inv .long .errs)
+    let at-loop = at-next-change .before .before .before .before .before .before .before .before .before .before .before .before .before .before .before in
+    omega (arith, at-next-change .next-change .kept .1 .1 .1 .1 .1 .1 .1 .1 .1 .1 .1 .0, at-loop .loop .inv .long .errs)
 
--- src/lib.rt:186:21
+-- src/lib.rt:185:21
 transform-block-same-length-9 : (t : ℕ) → transform-block-lts.Need-same-length-9 (transform-block-claims t) (transform-block-at t) transform-block.Post transform-block-Inv-loop transform-block-μ-loop
 transform-block-same-length-9 t c =
     let at-next-change = c .before .before .before .before .before .before .before .before .before .before .before .before .before .before in
-    let at-loop = at-next-change .before .before .before .before .before .before .before .before .before .before .before .before .before .before .before .before in
-    omega (arith, at-next-change .next-change .kept .1 .1 .1 .1 .1 .1 .1 .1 .1 .1 .1 .1 .1 .0, at-loop .loop .inv .long .warns)
+    let at-loop = at-next-change .before .before .before .before .before .before .before .before .before .before .before .before .before .before .before in
+    omega (arith, at-next-change .next-change .kept .1 .1 .1 .1 .1 .1 .1 .1 .1 .1 .1 .1 .0, at-loop .loop .inv .long .warns)
 
--- src/lib.rt:186:21
+-- src/lib.rt:185:21
 transform-block-same-length-10 : (t : ℕ) → transform-block-lts.Need-same-length-10 (transform-block-claims t) (transform-block-at t) transform-block.Post transform-block-Inv-loop transform-block-μ-loop
 transform-block-same-length-10 t c =
     let at-next-change = c .before .before .before .before .before .before .before .before .before .before .before .before .before .before in
-    let at-loop = at-next-change .before .before .before .before .before .before .before .before .before .before .before .before .before .before .before .before in
-    omega (arith, at-next-change .next-change .kept .1 .1 .1 .1 .1 .1 .1 .1 .1 .1 .1 .1 .1 .1 .0, at-loop .loop .inv .long .lefts)
+    let at-loop = at-next-change .before .before .before .before .before .before .before .before .before .before .before .before .before .before .before in
+    omega (arith, at-next-change .next-change .kept .1 .1 .1 .1 .1 .1 .1 .1 .1 .1 .1 .1 .1 .0, at-loop .loop .inv .long .lefts)
 
--- src/lib.rt:186:21
+-- src/lib.rt:185:21
 transform-block-returns-2 : (t : ℕ) → transform-block-lts.Need-returns-2 (transform-block-claims t) (transform-block-at t) transform-block.Post transform-block-Inv-loop transform-block-μ-loop
 transform-block-returns-2 t c =
     let at-full = c .before in
     let at-turn2 = at-full .before .before in
     let at-next-change = at-turn2 .before .before .before .before .before .before .before .before .before .before .before in
-    let at-loop = at-next-change .before .before .before .before .before .before .before .before .before .before .before .before .before .before .before .before in
+    let at-loop = at-next-change .before .before .before .before .before .before .before .before .before .before .before .before .before .before .before in
     let at-head = at-loop .before .before .before in
     let at-inner = at-head .before .before .before in
     let at-place-in = at-inner .before in
@@ -511,7 +513,7 @@ transform-block-returns-2 t c =
     (block-bytes t at-shared-slice-known) (at-inner .inner .result) (start .args .env .left) low (start .pre .1 .0 .depth) el
     (at-place-in .place-in .result) (start .args .outer) (start .args .states) (start .args .rows .now) _ (start .args .errs .now) (start .args .warns .now)
     (start .args .lefts .now) within there (start .args .out .now) (at-head .head .ensures .stored) _ (at-loop .loop .st) _
-    (at-next-change .next-change .last .1 .1 .1 .1 .1 .1 .1 .1 .1 .0) (set (at-loop .loop .pl) 8 12) _ (omega arith) (h .long .nodes) (told .room)
+    (at-next-change .next-change .last .1 .1 .1 .1 .1 .1 .1 .1 .0) (set (at-loop .loop .pl) 8 12) _ (omega arith) (h .long .nodes) (told .room)
     (at-loop .loop .inv .owned .below) (λ z. absurd (omega arith)) (walkedIn (set (at-loop .loop .pl) 8 12) []) refl
     (λ T sy reach. full (start .args .s .now) (start .args .tb .now) (at-inner .inner .result)
     (at-place-in .place-in .result) (start .args .outer) (start .args .states) (start .args .rows .now) _ (start .args .errs .now) (start .args .warns .now)
@@ -519,34 +521,34 @@ transform-block-returns-2 t c =
     let q = done-as _ _ (start .args .env) (at-inner .inner .result) _ _ _ _ _ _ _ _ _ _ _ _ _ (at-inner .inner .ensures) (at-place-in .place-in .ensures) d in
     ((q .comes, q .nodes), q .walks)
 
--- src/lib.rt:192:53
+-- src/lib.rt:191:53
 transform-block-cast-auto-deleted : (t : ℕ) → transform-block-lts.Need-cast-auto-deleted (transform-block-claims t) (transform-block-at t) transform-block.Post transform-block-Inv-loop transform-block-μ-loop
 transform-block-cast-auto-deleted t c = search needs
 
--- src/lib.rt:192:21
+-- src/lib.rt:191:21
 transform-block-auto-deleted-requires : (t : ℕ) → transform-block-lts.Need-auto-deleted-requires (transform-block-claims t) (transform-block-at t) transform-block.Post transform-block-Inv-loop transform-block-μ-loop
 transform-block-auto-deleted-requires t c κs =
-    let start = c .before .before .before .before .before .before .before .before .before .before .before .before .before .before .before .before .before .before .before .before .before .before .before .before .before .before .before .before .before .before .before .before .before .before .before .before .before .before .before .before .before .before .before .before .before .before in
+    let start = c .before .before .before .before .before .before .before .before .before .before .before .before .before .before .before .before .before .before .before .before .before .before .before .before .before .before .before .before .before .before .before .before .before .before .before .before .before .before .before .before .before .before .before .before .before in
     (start .pre .1 .0 .lent .filled .size, start .pre .1 .0 .lent .filled .fewTypes)
 
--- src/lib.rt:188:21
+-- src/lib.rt:187:21
 transform-block-register-local-requires : (t : ℕ) → transform-block-lts.Need-register-local-requires (transform-block-claims t) (transform-block-at t) transform-block.Post transform-block-Inv-loop transform-block-μ-loop
 transform-block-register-local-requires t c κs =
     let at-if1 = c .before in
     let at-full = at-if1 .before in
-    let at-loop = at-full .before .before .before .before .before .before .before .before .before .before .before .before .before .before .before .before .before .before .before .before .before .before .before .before .before .before .before .before .before in
+    let at-loop = at-full .before .before .before .before .before .before .before .before .before .before .before .before .before .before .before .before .before .before .before .before .before .before .before .before .before .before .before .before in
     let start = at-loop .before .before .before .before .before .before .before .before .before .before .before .before .before .before .before .before in
     (at-loop .loop .inv .owned .sound .kept, omega (arith, at-full .full .ensures .1 (at-if1 .if1 .left), start .pre .1 .0 .limit))
 
--- src/lib.rt:194:20
+-- src/lib.rt:193:20
 transform-block-needs-revival-requires : (t : ℕ) → transform-block-lts.Need-needs-revival-requires (transform-block-claims t) (transform-block-at t) transform-block.Post transform-block-Inv-loop transform-block-μ-loop
 transform-block-needs-revival-requires t c κs = search needs
 
--- src/lib.rt:195:26
+-- src/lib.rt:194:26
 transform-block-mark-requires-2 : (t : ℕ) → transform-block-lts.Need-mark-requires-2 (transform-block-claims t) (transform-block-at t) transform-block.Post transform-block-Inv-loop transform-block-μ-loop
 transform-block-mark-requires-2 t c κs =
     let at-register-local = c .before .before .before .before .before .before .before .before in
-    let at-loop = at-register-local .before .before .before .before .before .before .before .before .before .before .before .before .before .before .before .before .before .before .before .before .before .before .before .before .before .before .before .before .before .before .before .before in
+    let at-loop = at-register-local .before .before .before .before .before .before .before .before .before .before .before .before .before .before .before .before .before .before .before .before .before .before .before .before .before .before .before .before .before .before .before in
     (at-loop .loop .inv .owned .sound .held, at-register-local .register-local .ensures .kept .small, omega arith)
 
 -- src/lib.rt:142:5
@@ -565,7 +567,7 @@ transform-block-loop-again-3 t c =
     let at-full = at-if1 .before in
     let at-turn2 = at-full .before .before in
     let at-next-change = at-turn2 .before .before .before .before .before .before .before .before .before .before .before in
-    let at-inner = at-next-change .before .before .before .before .before .before .before .before .before .before .before .before .before .before .before .before .before .before .before .before .before .before in
+    let at-inner = at-next-change .before .before .before .before .before .before .before .before .before .before .before .before .before .before .before .before .before .before .before .before .before in
     let at-place-in = at-inner .before in
     let start = at-place-in .before .before .before .before .before .before .before .before .before in
     let h = turned-at t at-next-change (at-turn2 .turn2 .given .1) in
@@ -592,7 +594,7 @@ transform-block-loop-again-4 t c =
     let at-full = at-if1 .before in
     let at-turn2 = at-full .before .before in
     let at-next-change = at-turn2 .before .before .before .before .before .before .before .before .before .before .before in
-    let at-loop = at-next-change .before .before .before .before .before .before .before .before .before .before .before .before .before .before .before .before in
+    let at-loop = at-next-change .before .before .before .before .before .before .before .before .before .before .before .before .before .before .before in
     let at-inner = at-loop .before .before .before .before .before .before in
     let at-place-in = at-inner .before in
     let start = at-place-in .before .before .before .before .before .before .before .before .before in
@@ -603,23 +605,23 @@ transform-block-loop-again-4 t c =
     (at-register-local .register-local .ensures) (omega (arith, at-full .full .ensures .1 (at-if1 .if1 .left), start .pre .1 .0 .limit))
     (at-needs-revival .needs-revival .ensures (aliveAt (at-loop .loop .st)) (at-loop .loop .inv .owned .sound .held .word) (c .if2 .left))
 
--- src/lib.rt:198:26
+-- src/lib.rt:197:26
 transform-block-enum-known-turn-3 : (t : ℕ) → transform-block-lts.Need-enum-known-turn-3 (transform-block-claims t) (transform-block-at t) transform-block.Post transform-block-Inv-loop transform-block-μ-loop
 transform-block-enum-known-turn-3 t c = search needs
 
--- src/lib.rt:199:17
+-- src/lib.rt:198:17
 transform-block-put-place-requires : (t : ℕ) → transform-block-lts.Need-put-place-requires (transform-block-claims t) (transform-block-at t) transform-block.Post transform-block-Inv-loop transform-block-μ-loop
 transform-block-put-place-requires t c κs =
-    let at-loop = c .before .before .before .before .before .before .before .before .before .before .before .before .before .before .before .before .before .before .before .before .before .before .before .before .before .before .before .before .before in
+    let at-loop = c .before .before .before .before .before .before .before .before .before .before .before .before .before .before .before .before .before .before .before .before .before .before .before .before .before .before .before .before in
     at-loop .loop .inv .long .pl
 
--- src/lib.rt:200:22
+-- src/lib.rt:199:22
 transform-block-transform-blocks-requires : (t : ℕ) → transform-block-lts.Need-transform-blocks-requires (transform-block-claims t) (transform-block-at t) transform-block.Post transform-block-Inv-loop transform-block-μ-loop
 transform-block-transform-blocks-requires t c κs =
     let at-put-place = c .before .before .before .before .before .before .before in
     let at-turn3 = at-put-place .before .before .before in
     let at-next-change = at-turn3 .before .before .before .before .before .before .before .before .before .before .before in
-    let at-inner = at-next-change .before .before .before .before .before .before .before .before .before .before .before .before .before .before .before .before .before .before .before .before .before .before in
+    let at-inner = at-next-change .before .before .before .before .before .before .before .before .before .before .before .before .before .before .before .before .before .before .before .before .before in
     let at-place-in = at-inner .before in
     let start = at-place-in .before .before .before .before .before .before .before .before .before in
     let en = enters-inner _ _ (start .args .env) (at-inner .inner .result) _ _ _ _ (at-inner .inner .ensures)
@@ -645,58 +647,58 @@ transform-block-transform-blocks-requires t c κs =
       ),
     )
 
--- src/lib.rt:215:24
+-- src/lib.rt:214:24
 transform-block-element-copy-out-if3 : (t : ℕ) → transform-block-lts.Need-element-copy-out-if3 (transform-block-claims t) (transform-block-at t) transform-block.Post transform-block-Inv-loop transform-block-μ-loop
 transform-block-element-copy-out-if3 t c = search needs
 
--- src/lib.rt:216:21
+-- src/lib.rt:215:21
 transform-block-same-length-11 : (t : ℕ) → transform-block-lts.Need-same-length-11 (transform-block-claims t) (transform-block-at t) transform-block.Post transform-block-Inv-loop transform-block-μ-loop
 transform-block-same-length-11 t c =
     let at-transform-blocks = c .before .before .before .before .before .before .before .before .before .before .before .before in
-    let at-loop = at-transform-blocks .before .before .before .before .before .before .before .before .before .before .before .before .before .before .before .before .before .before .before .before .before .before .before .before .before .before .before .before .before .before .before .before .before .before .before .before .before .before in
+    let at-loop = at-transform-blocks .before .before .before .before .before .before .before .before .before .before .before .before .before .before .before .before .before .before .before .before .before .before .before .before .before .before .before .before .before .before .before .before .before .before .before .before .before in
     omega (arith, at-transform-blocks .transform-blocks .kept .1 .1 .1 .1 .1 .1 .0, at-loop .loop .inv .owned .below .room)
 
--- src/lib.rt:216:21
+-- src/lib.rt:215:21
 transform-block-same-length-12 : (t : ℕ) → transform-block-lts.Need-same-length-12 (transform-block-claims t) (transform-block-at t) transform-block.Post transform-block-Inv-loop transform-block-μ-loop
 transform-block-same-length-12 t c =
     let at-transform-blocks = c .before .before .before .before .before .before .before .before .before .before .before .before in
     let at-next-change = at-transform-blocks .before .before .before .before .before .before .before .before .before .before .before .before .before .before .before .before .before .before .before .before .before .before in
-    let at-loop = at-next-change .before .before .before .before .before .before .before .before .before .before .before .before .before .before .before .before in
+    let at-loop = at-next-change .before .before .before .before .before .before .before .before .before .before .before .before .before .before .before in
     let at-head = at-loop .before .before .before in
-    omega (arith, at-transform-blocks .transform-blocks .kept .1 .1 .1 .1 .1 .1 .1 .1 .0, at-next-change .next-change .kept .1 .1 .1 .1 .1 .1 .1 .1 .1 .1 .1 .0, at-loop .loop .inv .long .out, at-head .head .kept .1 .1 .0)
+    omega (arith, at-transform-blocks .transform-blocks .kept .1 .1 .1 .1 .1 .1 .1 .1 .0, at-next-change .next-change .kept .1 .1 .1 .1 .1 .1 .1 .1 .1 .1 .0, at-loop .loop .inv .long .out, at-head .head .kept .1 .1 .0)
 
--- src/lib.rt:216:21
+-- src/lib.rt:215:21
 transform-block-same-length-13 : (t : ℕ) → transform-block-lts.Need-same-length-13 (transform-block-claims t) (transform-block-at t) transform-block.Post transform-block-Inv-loop transform-block-μ-loop
 transform-block-same-length-13 t c =
     let at-transform-blocks = c .before .before .before .before .before .before .before .before .before .before .before .before in
     let at-next-change = at-transform-blocks .before .before .before .before .before .before .before .before .before .before .before .before .before .before .before .before .before .before .before .before .before .before in
-    let at-loop = at-next-change .before .before .before .before .before .before .before .before .before .before .before .before .before .before .before .before in
-    omega (arith, at-transform-blocks .transform-blocks .kept .1 .1 .1 .1 .1 .1 .1 .1 .1 .0, at-next-change .next-change .kept .1 .1 .1 .1 .1 .1 .1 .1 .1 .1 .1 .1 .0, at-loop .loop .inv .long .errs)
+    let at-loop = at-next-change .before .before .before .before .before .before .before .before .before .before .before .before .before .before .before in
+    omega (arith, at-transform-blocks .transform-blocks .kept .1 .1 .1 .1 .1 .1 .1 .1 .1 .0, at-next-change .next-change .kept .1 .1 .1 .1 .1 .1 .1 .1 .1 .1 .1 .0, at-loop .loop .inv .long .errs)
 
--- src/lib.rt:216:21
+-- src/lib.rt:215:21
 transform-block-same-length-14 : (t : ℕ) → transform-block-lts.Need-same-length-14 (transform-block-claims t) (transform-block-at t) transform-block.Post transform-block-Inv-loop transform-block-μ-loop
 transform-block-same-length-14 t c =
     let at-transform-blocks = c .before .before .before .before .before .before .before .before .before .before .before .before in
     let at-next-change = at-transform-blocks .before .before .before .before .before .before .before .before .before .before .before .before .before .before .before .before .before .before .before .before .before .before in
-    let at-loop = at-next-change .before .before .before .before .before .before .before .before .before .before .before .before .before .before .before .before in
-    omega (arith, at-transform-blocks .transform-blocks .kept .1 .1 .1 .1 .1 .1 .1 .1 .1 .1 .0, at-next-change .next-change .kept .1 .1 .1 .1 .1 .1 .1 .1 .1 .1 .1 .1 .1 .0, at-loop .loop .inv .long .warns)
+    let at-loop = at-next-change .before .before .before .before .before .before .before .before .before .before .before .before .before .before .before in
+    omega (arith, at-transform-blocks .transform-blocks .kept .1 .1 .1 .1 .1 .1 .1 .1 .1 .1 .0, at-next-change .next-change .kept .1 .1 .1 .1 .1 .1 .1 .1 .1 .1 .1 .1 .0, at-loop .loop .inv .long .warns)
 
--- src/lib.rt:216:21
+-- src/lib.rt:215:21
 transform-block-same-length-15 : (t : ℕ) → transform-block-lts.Need-same-length-15 (transform-block-claims t) (transform-block-at t) transform-block.Post transform-block-Inv-loop transform-block-μ-loop
 transform-block-same-length-15 t c =
     let at-transform-blocks = c .before .before .before .before .before .before .before .before .before .before .before .before in
     let at-next-change = at-transform-blocks .before .before .before .before .before .before .before .before .before .before .before .before .before .before .before .before .before .before .before .before .before .before in
-    let at-loop = at-next-change .before .before .before .before .before .before .before .before .before .before .before .before .before .before .before .before in
-    omega (arith, at-transform-blocks .transform-blocks .kept .1 .1 .1 .1 .1 .1 .1 .1 .1 .1 .1 .0, at-next-change .next-change .kept .1 .1 .1 .1 .1 .1 .1 .1 .1 .1 .1 .1 .1 .1 .0, at-loop .loop .inv .long .lefts)
+    let at-loop = at-next-change .before .before .before .before .before .before .before .before .before .before .before .before .before .before .before in
+    omega (arith, at-transform-blocks .transform-blocks .kept .1 .1 .1 .1 .1 .1 .1 .1 .1 .1 .1 .0, at-next-change .next-change .kept .1 .1 .1 .1 .1 .1 .1 .1 .1 .1 .1 .1 .1 .0, at-loop .loop .inv .long .lefts)
 
--- src/lib.rt:216:21
+-- src/lib.rt:215:21
 transform-block-returns-3 : (t : ℕ) → transform-block-lts.Need-returns-3 (transform-block-claims t) (transform-block-at t) transform-block.Post transform-block-Inv-loop transform-block-μ-loop
 transform-block-returns-3 t c =
     let at-transform-blocks = c .before .before .before .before .before .before .before .before .before .before .before .before in
     let at-put-place = at-transform-blocks .before .before .before .before .before .before .before .before in
     let at-turn3 = at-put-place .before .before .before in
     let at-next-change = at-turn3 .before .before .before .before .before .before .before .before .before .before .before in
-    let at-loop = at-next-change .before .before .before .before .before .before .before .before .before .before .before .before .before .before .before .before in
+    let at-loop = at-next-change .before .before .before .before .before .before .before .before .before .before .before .before .before .before .before in
     let at-head = at-loop .before .before .before in
     let at-inner = at-head .before .before .before in
     let at-place-in = at-inner .before in
@@ -720,7 +722,7 @@ transform-block-returns-3 t c =
     let q = done-as _ _ (start .args .env) (at-inner .inner .result) _ _ _ _ _ _ _ _ _ _ _ _ _ (at-inner .inner .ensures) (at-place-in .place-in .ensures) d in
     ((q .comes, q .nodes), q .walks)
 
--- src/lib.rt:218:17
+-- src/lib.rt:217:17
 transform-block-resumed-requires : (t : ℕ) → transform-block-lts.Need-resumed-requires (transform-block-claims t) (transform-block-at t) transform-block.Post transform-block-Inv-loop transform-block-μ-loop
 transform-block-resumed-requires t c κs = tt
 
@@ -732,7 +734,7 @@ transform-block-loop-less-5 t c =
     let at-put-place = at-transform-blocks .before .before .before .before .before .before .before .before in
     let at-turn3 = at-put-place .before .before .before in
     let at-next-change = at-turn3 .before .before .before .before .before .before .before .before .before .before .before in
-    let at-inner = at-next-change .before .before .before .before .before .before .before .before .before .before .before .before .before .before .before .before .before .before .before .before .before .before in
+    let at-inner = at-next-change .before .before .before .before .before .before .before .before .before .before .before .before .before .before .before .before .before .before .before .before .before in
     let at-place-in = at-inner .before in
     let at-shared-slice-known = at-place-in .before .before .before .before .before .before .before .before in
     let start = at-shared-slice-known .before in
@@ -756,7 +758,7 @@ transform-block-loop-again-5 t c =
     let at-put-place = at-transform-blocks .before .before .before .before .before .before .before .before in
     let at-turn3 = at-put-place .before .before .before in
     let at-next-change = at-turn3 .before .before .before .before .before .before .before .before .before .before .before in
-    let at-inner = at-next-change .before .before .before .before .before .before .before .before .before .before .before .before .before .before .before .before .before .before .before .before .before .before in
+    let at-inner = at-next-change .before .before .before .before .before .before .before .before .before .before .before .before .before .before .before .before .before .before .before .before .before in
     let at-place-in = at-inner .before in
     let at-shared-slice-known = at-place-in .before .before .before .before .before .before .before .before in
     let start = at-shared-slice-known .before in
@@ -880,7 +882,7 @@ transform-blocks-returns-2 t c =
     let told = fault-told (start .args .pl .now) (start .pre .1 .5) 254 in
     let f = told .fault in (
       (
-        comes-faulty _ _ _ _ _ _ _ _ _ _ (told .room) (omega arith)
+        comes-faulty _ _ _ _ _ _ _ _ _ _ _ (told .room) (omega arith)
             (below-less _ _ _ _ (omega arith) (branch-below (start .args .s .now) (start .args .tb .now)
             (start .args .env) (start .args .l) (start .args .t6) _ _ (start .pre .1 .0) _ c′))
             (λ z. then-short (start .args .s .now) (start .args .tb .now)
@@ -953,7 +955,7 @@ transform-blocks-returns-3 t c =
     let walks = first-walks t at-transform-block2 in
     let which = tag-of (start .args .tag) (start .pre .1 .2) (at-if1 .if1 .left) in (
       (
-        comes-faulty _ _ _ _ _ _ _ _ _ _ (come .room) (c .if3 .taken)
+        comes-faulty _ _ _ _ _ _ _ _ _ _ _ (come .room) (c .if3 .taken)
             (then-below (start .args .s .now) (start .args .tb .now)
             (blocks-bytes t at-shared-slice-known) (start .args .env) (start .args .tag) (start .args .l) (start .args .t6)
             (start .args .rows .now) (start .args .pl .now) (start .pre .1 .0) (start .pre .1 .1) (start .pre .1 .3) c′ yes come)
@@ -1304,7 +1306,7 @@ transform-else-returns t c =
     let told = fault-told (start .args .pl .now) (start .pre .1 .5) 254 in
     let f = told .fault in (
       (
-        comes-faulty _ _ _ _ _ _ _ _ _ _ (told .room) (omega arith)
+        comes-faulty _ _ _ _ _ _ _ _ _ _ _ (told .room) (omega arith)
             (let low = else-low (start .args .s .now) (start .args .tb .now) (start .args .env) (start .args .l)
             (start .args .t6) (start .args .first) (start .args .rows .now) (start .args .pl .now) (start .pre .1 .0) (start .pre .1 .1) (start .pre .1 .2)
             (start .pre .1 .3) in below-less _ _ _ _ (omega (arith, low .2))
@@ -1423,7 +1425,7 @@ pub +transform-block+transform-blocks+transform-else-spec : {M : Type 1} → sta
     (transform-block-cast-depth t)
     (transform-block-head-requires t)
     (transform-block-loop-holds t)
-    (transform-block-drop-word-requires t)
+    (transform-block-mark-of-requires t)
     (transform-block-scanning-requires t)
     (transform-block-next-change-requires t)
     (transform-block-enum-told t)

@@ -2,7 +2,6 @@ use borrow.Author.Needs.{needs}
 use native.Mathlib.Omega.{arith}
 use Prim.Native.Nat.{suc, _+_, _-_}
 use Rattle.statements_acts.specs.Marks.{lent}
-use Rattle.blocks_laws.proofs.Ends.{depth-is}
 use Rattle.blocks_ends.proofs.Ends.{ends-told, told-ended}
 use Rattle.blocks_ends.proofs.end_block.Statement.{statement}
 use Rattle.blocks_ends.proofs.end_block.Tie as tie
@@ -37,23 +36,15 @@ ends-in-return-requires c κs = (c .before .before .before .before .pre .0 .with
 span-at-requires : tie.Need-span-at-requires
 span-at-requires c κs = search needs
 
--- src/lib.rt:267:10
-sub-put-tail : tie.Need-sub-put-tail
-sub-put-tail c = search needs
-
--- src/lib.rt:267:9
-cast-put-tail : tie.Need-cast-put-tail
-cast-put-tail c = search needs
-
 -- src/lib.rt:261:9
 put-tail-requires : tie.Need-put-tail-requires
 put-tail-requires c κs = search needs
 
--- src/lib.rt:272:17
+-- src/lib.rt:262:17
 add-count : tie.Need-add-count
 add-count c = search needs
 
--- src/lib.rt:272:17
+-- src/lib.rt:262:17
 add-count-2 : tie.Need-add-count-2
 add-count-2 c =
     let at-put-tail = c .before .before .before .before in
@@ -64,35 +55,35 @@ add-count-2 c =
     let few = at-put-tail .put-tail .ensures .1 in
     omega (arith, h .inserted, h .inside, h .small)
 
--- src/lib.rt:273:33
+-- src/lib.rt:263:33
 add-put-two : tie.Need-add-put-two
 add-put-two c =
     let start = c .before .before .before .before .before .before .before .before .before .before .before .before .before .before in
     omega (arith, start .pre .0 .gap)
 
--- src/lib.rt:273:52
+-- src/lib.rt:263:52
 cast-put-two : tie.Need-cast-put-two
 cast-put-two c = search needs
 
--- src/lib.rt:273:5
+-- src/lib.rt:263:5
 put-two-requires : tie.Need-put-two-requires
 put-two-requires c κs =
     let start = c .before .before .before .before .before .before .before .before .before .before .before .before .before .before in
     omega (arith, start .pre .0 .gap)
 
--- src/lib.rt:274:9
+-- src/lib.rt:264:9
 fitting-requires : tie.Need-fitting-requires
 fitting-requires c κs = search needs
 
--- src/lib.rt:275:19
+-- src/lib.rt:265:19
 ended-requires : tie.Need-ended-requires
 ended-requires c κs = search needs
 
--- src/lib.rt:275:5
+-- src/lib.rt:265:5
 put-place-requires : tie.Need-put-place-requires
 put-place-requires c κs =
     let start = c .before .before .before .before .before .before .before .before .before .before .before .before .before .before .before .before .before .before .before .before in
-    start .pre .1
+    start .pre .2
 
 -- src/lib.rt:239:1
 same-length : tie.Need-same-length
@@ -116,10 +107,9 @@ returns c =
     let stored = at-put-two .put-two .ensures in
     let fits = c .before .before .before .fitting .ensures in
     let is = c .before .ended .ensures in
-    let told = c .put-place .ensures in
-    let deep = depth-is (a .left) (h .low) (h .high) in (
-      λ T g n m σ e. ends-told (a .start) (a .p) T (a .s .now) (a .left) (suc (12 - a .left)) (a .start .written + 4) (lent (a .ln .now) (a .lt .now) (a .ld .now) g n) (a .out .now)
-          total span deep last (put .2 T g n m) stored fits told is e,
+    let told = c .put-place .ensures in (
+      λ T ld g n m f σ e. ends-told (a .start) (a .p) T (a .s .now) (a .left) (suc (12 - a .left)) (a .start .written + 4) (lent (a .ln .now) (a .lt .now) ld g n) (a .out .now)
+          total span last (put .2 T ld g n (suc (12 - a .left)) m f) stored fits told is e,
       told-ended (a .start) (a .p) told is (put .0),
     )
 
@@ -132,8 +122,6 @@ end-block-spec =
     sub-ends-in-return
     ends-in-return-requires
     span-at-requires
-    sub-put-tail
-    cast-put-tail
     put-tail-requires
     add-count
     add-count-2

@@ -129,7 +129,7 @@ loop-again c = (
   search needs,
   c .before .before .before .before .before .before .before .loop .inv .1,
   ⊎-elim
-      (λ x. joining-put (c .before .before .before .before .before .before .before .before .before .args .n) (c .before .before .before .before .before .before .before .before .before .args .width) (c .before .before .before .before .before .before .before .before .before .args .t1) (c .before .before .before .before .before .before .before .before .before .args .t2) (c .before .before .before .before .before .before .before .before .before .args .rows .now) (c .before .before .before .before .before .before .before .before .before .args .a) (c .before .before .before .before .before .before .before .before .before .args .b) (c .before .before .before .before .before .before .before .before .before .pre) (c .before .before .before .before .before .before .before .loop .i) (c .before .before .before .before .before .before .before .loop .then) (c .before .before .before .before .before .before .before .loop .rows) (c .before .before .before .before .before .before .before .loop .inv .2) (c .before .before .before .before .before .before .loop-test .taken) _ _ (x .2 .ensures) _ _ _ _ (x .6 .left) (x .10) (x .9) refl (x .8 .ensures _ (c .before .before .before .before .before .before .before .loop .inv .2 .held .word)))
+      (λ x. joining-put (c .before .before .before .before .before .before .before .before .before .args .n) (c .before .before .before .before .before .before .before .before .before .args .width) (c .before .before .before .before .before .before .before .before .before .args .t1) (c .before .before .before .before .before .before .before .before .before .args .t2) (c .before .before .before .before .before .before .before .before .before .args .rows .now) (c .before .before .before .before .before .before .before .before .before .args .a) (c .before .before .before .before .before .before .before .before .before .args .b) (c .before .before .before .before .before .before .before .before .before .pre) (c .before .before .before .before .before .before .before .loop .i) (c .before .before .before .before .before .before .before .loop .then) (c .before .before .before .before .before .before .before .loop .rows) (c .before .before .before .before .before .before .before .loop .inv .2) (c .before .before .before .before .before .before .loop-test .taken) _ _ (x .2 .ensures) _ _ _ _ (x .6 .left) (x .10) (x .9) refl (x .8 .ensures 0 _ (c .before .before .before .before .before .before .before .loop .inv .2 .held .word)))
       (λ x. joining-skip (c .before .before .before .before .before .before .before .before .before .args .n) (c .before .before .before .before .before .before .before .before .before .args .width) (c .before .before .before .before .before .before .before .before .before .args .t1) (c .before .before .before .before .before .before .before .before .before .args .t2) (c .before .before .before .before .before .before .before .before .before .args .rows .now) (c .before .before .before .before .before .before .before .before .before .args .a) (c .before .before .before .before .before .before .before .before .before .args .b) (c .before .before .before .before .before .before .before .before .before .pre) (c .before .before .before .before .before .before .before .loop .i) (c .before .before .before .before .before .before .before .loop .then) (c .before .before .before .before .before .before .before .loop .rows) (c .before .before .before .before .before .before .before .loop .inv .2) (c .before .before .before .before .before .before .loop-test .taken) _ _ (x .2) (x .1) (c .before .differ .ensures (x .0 .left)))
       (c .if1 .came),
 )

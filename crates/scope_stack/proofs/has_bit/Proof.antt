@@ -3,6 +3,7 @@ use mathlib.Core.Path.{_≡_, refl, sym, ap, ap₂, _∙_}
 use mathlib.Core.Bool.{not}
 use lib.Bits.{bitAnd}
 use lib.Dec.{eqb}
+use Rattle.scope_stack.specs.Word.{slot}
 use Rattle.scope_stack.proofs.Words.{word-bit}
 use borrow.Author.Needs.{needs}
 use Rattle.scope_stack.proofs.has_bit.Statement.{statement}
@@ -17,7 +18,7 @@ bit-requires c κs = search needs
 
 -- src/lib.rt:113:1
 returns : tie.Need-returns
-returns c = λ n p le l e. ap₂ (λ (x y : ℕ). not (eqb (bitAnd x y) 0)) e (c .bit .ensures) ∙ word-bit n (c .before .args .i) p l
+returns c = λ k n p l e. ap₂ (λ (x y : ℕ). not (eqb (bitAnd x y) 0)) e (c .bit .ensures) ∙ word-bit n (c .before .args .i) (λ j. p (slot k j)) l
 
 pub has-bit-spec : {M : Type 1} → statement M
 has-bit-spec = tie.close (tie.spec bit-requires returns)

@@ -14,7 +14,7 @@ bit-requires c κs = search needs
 
 -- src/lib.rt:91:9
 returns : tie.Need-returns
-returns c = λ p e. rw (e, c .before .bit .ensures, c .if1 .taken) (word-set (c .before .before .args .i) p (c .before .before .pre))
+returns c = λ k p e. rw (e, c .before .bit .ensures, c .if1 .taken) (word-set k (c .before .before .args .i) p (c .before .before .pre))
 
 -- src/lib.rt:93:10
 sub-result : tie.Need-sub-result
@@ -22,7 +22,7 @@ sub-result c = search needs
 
 -- src/lib.rt:85:1
 returns-2 : tie.Need-returns-2
-returns-2 c = λ p e. rw (e, c .before .bit .ensures, c .if1 .left) (word-clear (c .before .before .args .i) p (c .before .before .pre))
+returns-2 c = λ k p e. rw (e, c .before .bit .ensures, c .if1 .left) (word-clear k (c .before .before .args .i) p (c .before .before .pre))
 
 pub with-bit-spec : {M : Type 1} → statement M
 with-bit-spec = tie.close (tie.spec bit-requires returns sub-result returns-2)

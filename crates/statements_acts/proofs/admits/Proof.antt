@@ -1,34 +1,25 @@
-use Rattle.statements_acts.proofs.Laws.{frame-admits, but-admits, all-admits}
+use Rattle.statements_acts.proofs.Laws.{but-admits, all-admits}
 use borrow.Author.Needs.{needs}
 use Rattle.statements_acts.proofs.admits.Statement.{statement}
 use Rattle.statements_acts.proofs.admits.Tie as tie
 use Rattle.statements_acts.proofs.admits.Reads as reads
 use Rattle.statements_acts.proofs.admits.Lts as lts
 
--- src/lib.rt:423:22
+-- src/lib.rt:421:20
 enum-known-which : tie.Need-enum-known-which
 enum-known-which c = search needs
 
--- src/lib.rt:424:20
-enum-known-which-2 : tie.Need-enum-known-which-2
-enum-known-which-2 c = search needs
-
--- src/lib.rt:425:23
+-- src/lib.rt:422:23
 enum-told : tie.Need-enum-told
 enum-told c = search needs
 
--- src/lib.rt:419:1
+-- src/lib.rt:417:1
 returns : tie.Need-returns
-returns c = λ l en ed. frame-admits _ l _ _ (c .before .which .given .1) ed
+returns c = λ l en. but-admits _ l _ _ (c .before .which .given .1) en
 
--- src/lib.rt:419:1
+-- src/lib.rt:417:1
 returns-2 : tie.Need-returns-2
-returns-2 c = λ l en ed. but-admits _ l _ _ (c .before .which2 .given .1) en
-
--- src/lib.rt:419:1
-returns-3 : tie.Need-returns-3
-returns-3 c = λ l en ed. all-admits _ l (c .enum-told .given .1)
+returns-2 c = λ l en. all-admits _ l (c .enum-told .given .1)
 
 pub admits-spec : {M : Type 1} → statement M
-admits-spec =
-    tie.close (tie.spec enum-known-which enum-known-which-2 enum-told returns returns-2 returns-3)
+admits-spec = tie.close (tie.spec enum-known-which enum-told returns returns-2)
