@@ -19,11 +19,11 @@
  * Machine stack: give a thread that calls them 1 MB. Measured (bench/memory.c), ownership_pass takes up to 226,136 bytes,
  * ownership_room 126,008 and ownership_page 179,192. Nothing proves a bound, and a stack that is too small ends the process.
  *
- * An image of n bytes without faults 1 to 13 has, with m = n - 28 and rounded down, at most m / 7 errors, m / 21 warnings and 8 * m
- * left-behind entries, and n + 90 * m bytes of output; for 65,536 bytes 9,358, 3,119, 524,064 and 5,961,256. At least 28 bytes stand
- * before the first statement; an error needs an Ident (9 bytes), a ThisLiteral (7) or an Intrinsic (11) of its own, a warning a
- * statement, a call and a callee (5 + 9 + 7); a bare return (8) leaves at most 64 locals, a return with a value (15) gains at most 64
- * deletes of 21 bytes. This follows from the widths of the image and is not proved.
+ * An image of n bytes without faults 1 to 13 has, with m = n - 28 and rounded down, at most m / 7 errors, m / 21 warnings and
+ * 64 * (m / 5) left-behind entries, and n + 90 * m bytes of output; for 65,536 bytes 9,358, 3,119, 838,464 and 5,961,256. At least 28
+ * bytes stand before the first statement; an error needs an Ident (9 bytes), a ThisLiteral (7) or an Intrinsic (11) of its own, a warning
+ * a statement, a call and a callee (5 + 9 + 7); a break, a continue (5) or a bare return (8) leaves at most 64 locals, a return with a
+ * value (15) gains at most 64 deletes of 21 bytes. This follows from the widths of the image and is not proved.
  */
 #ifndef OWNERSHIP_PASS_H
 #define OWNERSHIP_PASS_H
@@ -38,7 +38,7 @@ extern "C" {
 /* The numbers of one entry of each list, and of totals. Lists are lent as numbers: room for n errors is an errors_len of 12 * n. */
 #define OWNERSHIP_ERROR_NUMBERS 12  /* kind 1 to 8, place, hint, count of other places, 8 other places (unused ones 0) */
 #define OWNERSHIP_WARNING_NUMBERS 2 /* the statement's span, the byte offset of the callee's tag in the submitted image */
-#define OWNERSHIP_LEFT_NUMBERS 2    /* the return's span, the local's name */
+#define OWNERSHIP_LEFT_NUMBERS 2    /* the span of the return, break or continue, the local's name */
 #define OWNERSHIP_TOTALS 4          /* bytes written, errors, warnings, left-behind entries */
 
 /* Gives back the body with the deletes inserted, as a whole image, and what is reported, each list in order. On 0 the first bytes of
@@ -61,7 +61,8 @@ uint32_t ownership_room(const uint8_t *image, size_t image_len, uint64_t *room);
 /* Writes what is reported as a page for people (docs/REPORTS.md): errors, warnings and left-behind entries, however many there are, in
  * lines of 72 printable bytes and a line feed. On 0 the first *written bytes of page are the page, a multiple of 73, and the rest is
  * unchanged; with nothing to report it is 0 bytes, which fit a page_len of 0. An entry takes a line, an error with 4 to 6 other places
- * two, with 7 or 8 three; 73 * (3 * (m / 7) + m / 21 + 8 * m) bytes are always enough. No list is lent. Faults 1 to 13, then 16. */
+ * two, with 7 or 8 three; 73 * (3 * (m / 7) + m / 21 + 64 * (m / 5)) bytes are always enough. No list is lent. Faults 1 to 13,
+ * then 16. */
 uint32_t ownership_page(const uint8_t *image, size_t image_len, uint8_t *page, size_t page_len, uint64_t *written);
 
 /* An error as a record, of its 12 numbers: of the places, the first count. */

@@ -63,7 +63,8 @@ fn place_of(path: &str) -> String {
     path.replace("ownership_pass/mod.rs", "ownership_pass/published.rs")
 }
 
-// mod.rs with a note of each registration and each join, of the states at the end, and with the file answered from memory.
+// mod.rs with a note of each registration and each join, of the states at the end, with the file answered from memory, and with drops before
+// breaks and continues.
 fn probed(pass: String) -> String {
     let pass = replace(
         pass,
@@ -75,6 +76,16 @@ fn probed(pass: String) -> String {
     let pass = replace(pass, 1, join, &format!("{{ let joined = {join}; crate::probe::joined(self.state_spans(&joined).len()); joined }}"));
     let walk = "self.transform_block(body.clone(), &mut scope_stack);";
     let pass = replace(pass, 2, walk, &format!("{walk} crate::probe::ended(states_of(&scope_stack));"));
+    // document 02, (c): before a break or continue, as collect_scope_drops has them, the drops of the frames from the innermost out to the
+    // body of the nearest loop
+    let looped = "while_stmt.body = self.transform_block(while_stmt.body, &mut loop_stack);";
+    let pass = replace(pass, 1, looped, &format!("crate::probe::into_loop(loop_stack.len()); {looped} crate::probe::out_of_loop();"));
+    let pass = ["Break", "Continue"].iter().fold(pass, |pass, jump| {
+        let push = format!("HirStatement::{jump}(span) => statements.push(HirStatement::{jump}(span)),");
+        let drops = "let from = crate::probe::nearest_loop().unwrap_or(scope_stack.len()); statements.extend(self.collect_scope_drops(&scope_stack[from..], None));";
+        let listed = format!("HirStatement::{jump}(span) => {{ {drops} statements.push(HirStatement::{jump}(span)) }}");
+        replace(pass, 1, &push, &listed)
+    });
     replace(pass, 7, "utils::get_file_content(", "crate::probe::file_content(")
 }
 

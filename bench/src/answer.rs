@@ -196,7 +196,8 @@ fn hint_of(text: &str) -> u32 {
     }
 }
 
-// In a body with marks, what stands before a return that was bare and has no mark was inserted there: all deletes of locals.
+// In a body with marks, what stands before a return that was bare, a break or a continue and has no mark was inserted there: all deletes of
+// locals.
 fn left_behind<'hir>(block: &HirBlock<'hir>, marks: &Marks, numbers: &mut Numbers<'hir>, lefts: &mut Vec<(SpanNo, Name)>) {
     let mut inserted = vec![];
     for s in &block.statements {
@@ -216,6 +217,10 @@ fn left_behind<'hir>(block: &HirBlock<'hir>, marks: &Marks, numbers: &mut Number
                 if marked.bare_return {
                     lefts.extend(inserted.iter().map(|name| (marked.span, *name)));
                 }
+            }
+            HirStatement::Break(span) | HirStatement::Continue(span) => {
+                let marked = marks.marked[mark_of(*span).expect("a submitted statement")];
+                lefts.extend(inserted.iter().map(|name| (marked.span, *name)));
             }
             _ => {}
         }

@@ -57,6 +57,8 @@ pub fn all() -> Vec<(String, Image)> {
         add(format!("{n} errors"), body(&[V], [vec![deletion(20, V)], (0..n).map(|i| run(21, ident(i as SpanNo, V))).collect()].concat()));
         add(format!("{n} warnings"), body(&[], (0..n).map(|i| run(i as SpanNo, call(21, T, literal(), vec![]))).collect()));
         add(format!("{n} left behind"), body(&[V], (0..n).map(|i| back(i as SpanNo)).collect()));
+        let breaks = (0..n).map(|i| Stmt::Break(i as SpanNo)).collect();
+        add(format!("{n} left behind by breaks"), body(&[], vec![repeat(20, block(21, [locals(1), breaks].concat()))]));
     }
     add(
         "257 errors and too long".into(),
@@ -72,6 +74,15 @@ pub fn all() -> Vec<(String, Image)> {
         add(
             format!("{own} of 64 locals in a block"),
             body(&[], [locals(64 - own), vec![inner.clone(), deletion(26, V), inner, last]].concat()),
+        );
+    }
+    // as many in a loop: those outside it are masked off at a break or continue, and all of them behind it
+    for own in [0, 1, 2, 32, 63, 64] {
+        let last = vec![Stmt::Break(25), Stmt::Block(block(26, vec![Stmt::Continue(27)]))];
+        let inner = repeat(22, block(23, [locals(own), last].concat()));
+        add(
+            format!("{own} of 64 locals in a loop"),
+            body(&[], [locals(64 - own), vec![inner.clone(), deletion(28, V), inner, Stmt::Break(29)]].concat()),
         );
     }
     // 64 locals and so many returns: 64 deletes before each
@@ -245,6 +256,10 @@ pub fn many_entries() -> Vec<(String, Image)> {
     vec![
         ("10,080 locals left behind".into(), repeated(64, 160, |_| vec![back(4_000_000_000)])),
         ("1,000 locals left behind".into(), repeated(11, 100, |_| vec![back(35)])),
+        ("10,240 locals left behind by breaks".into(), {
+            let breaks = (0..160).map(|i| Stmt::Break(4_000_000_000 + i)).collect();
+            body(&[], vec![repeat(20, block(21, [locals(64), breaks].concat()))])
+        }),
         ("errors".into(), repeated(1, 10_000, |l| vec![run(33, ident(4_000_000_000, l))])),
         ("warnings".into(), repeated(1, 10_000, |_| vec![run(33, call(34, T, literal(), vec![]))])),
         ("all three".into(), repeated(4, 10_000, |l| vec![unused(l), back(36)])),

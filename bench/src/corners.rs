@@ -1,4 +1,4 @@
-//! K1 to K12 of document 01 with the answers of crates/rules/proofs/Rows.antt, its example of 81 bytes, and its other corners.
+//! K1 to K12 of document 01 and the rows of document 02 (c) with the answers of crates/rules/proofs/Rows.antt, its example of 81 bytes, and its other corners.
 use crate::answer::{Error, State};
 use crate::build::*;
 use crate::image::*;
@@ -39,6 +39,7 @@ pub fn rows() -> Vec<Row> {
     let alive = || vec![(0, vec![])];
     let let_v = |span| set(span, V, T, literal());
     let let_w = |span| set(span, W, T, literal());
+    let let_g = |span| set(span, G, T, literal());
     vec![
         as_is("K1", &[V], vec![back(20)], vec![], vec![(20, V)], alive()),
         as_is("K2", &[V], vec![], vec![], vec![], alive()),
@@ -103,6 +104,123 @@ pub fn rows() -> Vec<Row> {
         as_is("K10", &[G], vec![moving(21, ident(22, G))], vec![error(8, 22, 0, &[99])], vec![], alive()),
         as_is("K11", &[V], vec![moving(21, v(22)), moving(23, v(24))], vec![error(2, 24, 0, &[22])], vec![], vec![(2, vec![24])]),
         as_is("K12", &[V], vec![set(21, W, PLAIN, delete(22, v(23)))], vec![], vec![], alive()),
+        row(
+            "(c): outside any loop",
+            body(&[W], vec![let_v(21), Stmt::Break(22), Stmt::Continue(23)]),
+            vec![let_v(21), Stmt::Break(22), Stmt::Continue(23), deletion(10, V)],
+            vec![],
+            vec![],
+            alive(),
+        ),
+        row(
+            "(c): in a branch in a block",
+            body(
+                &[W],
+                vec![repeat(
+                    20,
+                    block(
+                        21,
+                        vec![
+                            let_v(22),
+                            Stmt::Block(block(23, vec![let_g(24), when(25, block(26, vec![Stmt::Break(27)]), None)])),
+                            Stmt::Continue(28),
+                        ],
+                    ),
+                )],
+            ),
+            vec![repeat(
+                20,
+                block(
+                    21,
+                    vec![
+                        let_v(22),
+                        Stmt::Block(block(23, vec![let_g(24), when(25, block(26, vec![Stmt::Break(27)]), None), deletion(23, G)])),
+                        Stmt::Continue(28),
+                        deletion(21, V),
+                    ],
+                ),
+            )],
+            vec![],
+            vec![(27, G), (27, V), (28, V)],
+            alive(),
+        ),
+        row(
+            "(c): the nearest loop",
+            body(&[], vec![repeat(20, block(21, vec![let_v(22), repeat(23, block(24, vec![let_w(25), Stmt::Continue(26)])), Stmt::Break(27)]))]),
+            vec![repeat(
+                20,
+                block(
+                    21,
+                    vec![
+                        let_v(22),
+                        repeat(23, block(24, vec![let_w(25), Stmt::Continue(26), deletion(24, W)])),
+                        Stmt::Break(27),
+                        deletion(21, V),
+                    ],
+                ),
+            )],
+            vec![],
+            vec![(26, W), (27, V)],
+            vec![],
+        ),
+        row(
+            "(c): each branch",
+            body(
+                &[],
+                vec![repeat(
+                    20,
+                    block(
+                        21,
+                        vec![let_v(22), when(23, block(24, vec![Stmt::Break(25)]), Some(block(26, vec![let_w(27), Stmt::Continue(28)])))],
+                    ),
+                )],
+            ),
+            vec![repeat(
+                20,
+                block(
+                    21,
+                    vec![
+                        let_v(22),
+                        when(
+                            23,
+                            block(24, vec![Stmt::Break(25)]),
+                            Some(block(26, vec![let_w(27), Stmt::Continue(28), deletion(26, W)])),
+                        ),
+                        deletion(21, V),
+                    ],
+                ),
+            )],
+            vec![],
+            vec![(25, V), (28, W), (28, V)],
+            vec![],
+        ),
+        row(
+            "(c): behind a closed loop",
+            body(&[], vec![let_w(19), repeat(20, block(21, vec![let_v(22), moving(23, v(24)), Stmt::Break(25)])), Stmt::Break(26)]),
+            vec![let_w(19), repeat(20, block(21, vec![let_v(22), moving(23, v(24)), Stmt::Break(25)])), Stmt::Break(26), deletion(10, W)],
+            vec![],
+            vec![],
+            vec![],
+        ),
+        row(
+            "(c): K4 in a loop",
+            body(&[], vec![repeat(20, block(21, vec![let_v(22), moving(23, v(24)), let_v(25), Stmt::Break(26)]))]),
+            vec![repeat(
+                20,
+                block(21, vec![let_v(22), moving(23, v(24)), let_v(25), Stmt::Break(26), deletion(21, V), deletion(21, V)]),
+            )],
+            vec![],
+            vec![(26, V), (26, V)],
+            vec![],
+        ),
+        row(
+            "(c): where no run comes",
+            body(&[], vec![repeat(20, block(21, vec![let_v(22), Stmt::Continue(23), back(24), Stmt::Break(25)]))]),
+            vec![repeat(20, block(21, vec![let_v(22), Stmt::Continue(23), back(24), Stmt::Break(25), deletion(21, V)]))],
+            vec![],
+            vec![(23, V), (24, V), (25, V)],
+            vec![],
+        ),
     ]
 }
 

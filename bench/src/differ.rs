@@ -139,6 +139,8 @@ pub struct Differ {
     calls: usize,
     exact: usize,
     short: usize,
+    /// entries of what is left behind
+    left: usize,
 }
 
 impl Differ {
@@ -160,6 +162,7 @@ impl Differ {
             calls: 0,
             exact: 0,
             short: 0,
+            left: 0,
         }
     }
 
@@ -168,6 +171,7 @@ impl Differ {
         self.images += 1;
         self.bytes += bytes.len();
         let expected = self.expected(bytes);
+        self.left += expected.left.len() / 2;
         self.room(bytes, &expected)?;
         match self.pages.check(bytes, expected.fault, &expected.page, all) {
             found if !found.is_empty() => return Err(found),
@@ -298,7 +302,10 @@ pub fn differ(images: u64, damaged: u64, seed: u64) -> i32 {
     }
     for i in 0..images.max(damaged) {
         let whole = image::write(&generator::short(seed + i)).bytes;
-        let same = i >= images || differ.step(&format!("seed {}", seed + i), &whole, false);
+        let jumping = image::write(&generator::jumping(seed + i)).bytes;
+        let same = i >= images
+            || differ.step(&format!("seed {}", seed + i), &whole, false)
+                && differ.step(&format!("jumping {}", seed + i), &jumping, false);
         let label = format!("damaged {}", seed + i);
         if !same || (i < damaged && !differ.step(&label, &generator::damaged(&whole, &mut random), false)) {
             return 1;
@@ -330,10 +337,11 @@ impl Differ {
 
     fn print(&self, seconds: f64) {
         println!(
-            "  {:.0} bytes an image; {:.0} images a second; {} calls of pass",
+            "  {:.0} bytes an image; {:.0} images a second; {} calls of pass; {} left-behind entries",
             self.bytes as f64 / self.images as f64,
             self.images as f64 / seconds,
-            self.calls
+            self.calls,
+            self.left
         );
         self.reports.print();
         self.pages.print();

@@ -44,6 +44,8 @@ pub struct Generator {
     spans: Spans,
     /// few names, types and methods
     small: bool,
+    /// many loops, breaks and continues
+    jumps: bool,
     budget: usize,
 }
 
@@ -59,23 +61,31 @@ pub fn image(seed: u64) -> Image {
         90..99 => random.between(30, 150),
         _ => random.between(200, 900),
     };
-    image_of(seed, sizes)
+    image_of(seed, sizes, false)
 }
 
 /// Mostly short, for runs of millions.
 #[cfg(ours)]
 pub fn short(seed: u64) -> Image {
-    let sizes = |random: &mut Random| match random.below(1000) {
+    image_of(seed, few, false)
+}
+
+/// As short, with loops in loops, and jumps in them, in their branches and blocks, outside any, and in code that no run comes to.
+pub fn jumping(seed: u64) -> Image {
+    image_of(seed, few, true)
+}
+
+fn few(random: &mut Random) -> usize {
+    match random.below(1000) {
         0..800 => random.between(1, 12),
         800..980 => random.between(8, 40),
         980..999 => random.between(30, 150),
         _ => random.between(200, 900),
-    };
-    image_of(seed, sizes)
+    }
 }
 
 // With a body of so many statements, about.
-fn image_of(seed: u64, sizes: impl Fn(&mut Random) -> usize) -> Image {
+fn image_of(seed: u64, sizes: impl Fn(&mut Random) -> usize, jumps: bool) -> Image {
     let mut g = Generator {
         random: Random::new(seed),
         image: Image::default(),
@@ -84,6 +94,7 @@ fn image_of(seed: u64, sizes: impl Fn(&mut Random) -> usize) -> Image {
         receivers: vec![],
         spans: Spans::Fresh(1),
         small: false,
+        jumps,
         budget: 0,
     };
     g.small = g.random.chance(40);
@@ -252,7 +263,7 @@ impl Generator {
 
     fn stmts(&mut self, depth: usize, out: &mut Vec<Stmt>) {
         let deeper = depth < 12;
-        match self.random.below(100) {
+        match self.kind() {
             0..30 => out.push(self.expr_stmt()),
             30..52 => out.push(self.variable()),
             52..64 => out.push(self.assign()),
@@ -276,6 +287,19 @@ impl Generator {
             }
             99 if self.random.chance(10) => (0..self.random.between(50, 66)).for_each(|_| out.push(self.variable())),
             _ => out.push(self.expr_stmt()),
+        }
+    }
+
+    // The kind of a statement, as the table of `stmts` has it.
+    fn kind(&mut self) -> usize {
+        match self.random.below(100) {
+            k if !self.jumps => k,
+            0..22 => 30,
+            22..36 => 88,
+            36..45 => 94,
+            45..54 => 96,
+            54..60 => 69,
+            k => k,
         }
     }
 

@@ -146,6 +146,12 @@ fn compare(images: u64, damaged: u64, seed: u64) -> i32 {
     parts.push(("generated", seen));
 
     let mut seen = Seen::default();
+    for i in 0..images {
+        seen.check(&format!("jumping {}", seed + i), &image::write(&generator::jumping(seed + i)).bytes);
+    }
+    parts.push(("generated with loops and jumps", seen));
+
+    let mut seen = Seen::default();
     let mut random = Random::new(seed);
     for i in 0..damaged {
         let whole = image::write(&generator::image(seed + i)).bytes;

@@ -650,7 +650,7 @@ impl Reports {
         }
     }
 
-    fn report(&mut self, T: &Tables<'_>, c: &[Stmt<'_>], d: usize, mut at: usize, mut s: Stack) {
+    fn report(&mut self, T: &Tables<'_>, c: &[Stmt<'_>], d: usize, l: Option<usize>, mut at: usize, mut s: Stack) {
         for stmt in c {
             let g = shape(&s);
             match stmt {
@@ -663,17 +663,21 @@ impl Reports {
                 Variable(_, _, _, _, e) | Return(_, e, _) => self.all(&T.effects(&g, e), s.clone()),
                 Assign(_, e, v, _) => self.all(&T.assignEffects(&g, e, v), s.clone()),
                 BareReturn(span, _) => self.lefts.extend(T.collect(&|_| true, 0, &s).iter().map(|x| (*span, x.1))),
-                Block(_, c) => self.report(T, c, d + 1, at + 7, s.clone()),
+                Block(_, c) => self.report(T, c, d + 1, l, at + 7, s.clone()),
                 IfElse(_, e, _, t, _, u) => {
                     self.all(&T.effects(&g, e), s.clone());
-                    self.report(T, t, d + 1, at + 11 + exprBytes(e), T.evaluate(e, s.clone()));
-                    self.report(T, u, d + 1, at + 18 + exprBytes(e) + codeBytes(t), T.evaluate(e, s.clone()));
+                    self.report(T, t, d + 1, l, at + 11 + exprBytes(e), T.evaluate(e, s.clone()));
+                    self.report(T, u, d + 1, l, at + 18 + exprBytes(e) + codeBytes(t), T.evaluate(e, s.clone()));
                 }
-                IfThen(_, e, _, t) | While(_, e, _, t) => {
+                IfThen(_, e, _, t) => {
                     self.all(&T.effects(&g, e), s.clone());
-                    self.report(T, t, d + 1, at + 11 + exprBytes(e), T.evaluate(e, s.clone()));
+                    self.report(T, t, d + 1, l, at + 11 + exprBytes(e), T.evaluate(e, s.clone()));
                 }
-                Jump(..) => {}
+                While(_, e, _, t) => {
+                    self.all(&T.effects(&g, e), s.clone());
+                    self.report(T, t, d + 1, Some(d + 1), at + 11 + exprBytes(e), T.evaluate(e, s.clone()));
+                }
+                Jump(_, span) => self.lefts.extend(T.collect(&|x| l.is_some_and(|l| l <= x.depth), 0, &s).iter().map(|x| (*span, x.1))),
             }
             at += codeBytes(std::slice::from_ref(stmt));
             s = T.after(stmt, d, s);
@@ -728,7 +732,7 @@ pub fn of_image(i: &Image) -> Outcome {
     let written = image::write(&Image { body: T.decide(&body, i.body.span, 1, start.clone()), ..i.clone() });
     let bodyStart = image::write(&Image { body: image::Block::default(), ..i.clone() }).bytes.len();
     let mut r = Reports::default();
-    r.report(&T, &body, 1, bodyStart, start.clone());
+    r.report(&T, &body, 1, None, bodyStart, start.clone());
     let state = |a: &State| match a {
         Alive => (0, vec![]),
         Gone(c, k, ps) => (1 + *k as u8 + 3 * *c as u8, ps.clone()),

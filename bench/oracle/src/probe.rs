@@ -10,6 +10,21 @@ pub type States = Vec<(String, u8, Vec<Span>)>;
 thread_local! {
     static FAULT: Cell<u8> = const { Cell::new(0) };
     static STATES: RefCell<States> = const { RefCell::new(Vec::new()) };
+    static LOOPS: RefCell<Vec<usize>> = const { RefCell::new(Vec::new()) };
+}
+
+/// The body of a loop is the frame of this number.
+pub fn into_loop(frame: usize) {
+    LOOPS.with_borrow_mut(|l| l.push(frame));
+}
+
+pub fn out_of_loop() {
+    LOOPS.with_borrow_mut(|l| l.pop());
+}
+
+/// The frame of the body of the nearest loop.
+pub fn nearest_loop() -> Option<usize> {
+    LOOPS.with_borrow(|l| l.last().copied())
 }
 
 /// So many locals are registered, the new one among them.
@@ -43,5 +58,6 @@ pub fn file_content(_: &str) -> Result<String, std::io::Error> {
 
 /// The first fault since the last call, 0 if none, and the last states.
 pub fn taken() -> (u8, States) {
+    assert_eq!(nearest_loop(), None, "every loop was left");
     (FAULT.replace(0), STATES.take())
 }

@@ -3,9 +3,12 @@
 use Prim.Native.Nat.{ℕ, suc, _+_, _-_, _*_, _≤_, _<_}
 use native.Mathlib.Omega.{arith}
 use mathlib.Core.Path.{_≡_, refl, sym, ap, _∙_, subst}
-use mathlib.Core.Bool.{Bool, true, false}
+use mathlib.Core.Bool.{Bool, true, false, cond}
+use mathlib.Core.Option.{Option, some}
 use mathlib.Core.List.{List}
 use mathlib.Core.Logic.{inl, inr, ⊎-elim}
+use borrow.Author.Tests.{lt-leb}
+use lib.Dec.{eqb}
 use lib.ListN.{length}
 use Rattle.image_fields.proofs.Tests.{less}
 use Rattle.tables.specs.Tables.{Tables}
@@ -19,24 +22,24 @@ use Rattle.statements_acts.specs.declared.Place.{Place}
 use Rattle.statements_acts.specs.Act.{Within, Grows as Further}
 use Rattle.scope_stack.specs.declared.Locals.{Locals}
 use Rattle.scope_stack.specs.declared.States.{States}
-use Rattle.scope_stack.specs.View.{rowOf, view, Sound}
+use Rattle.scope_stack.specs.View.{staticAt, stateAt, rowOf, view, Sound}
 use Rattle.scope_rows.specs.Rows.{Copied, Copies}
-use Rattle.scope_stack.proofs.Scopes.{nested-view, sound-states}
+use Rattle.scope_stack.proofs.Scopes.{nested-at, nested-view, sound-states}
 use Rattle.scope_rows.proofs.Elsewhere.{view-same, rowed-same, view-copied, rowed-copied}
 use Rattle.statements_changes.specs.Turns.{retold}
 use Rattle.blocks_laws.specs.Walks.{Walked, BlockWalks}
 use Rattle.blocks_laws.specs.Ends.{Merges}
 use Rattle.blocks_ends.specs.declared.Env.{Env}
 use Rattle.blocks_ends.specs.Ends.{placeIn, faultIn, sureIn, walkedIn}
-use Rattle.blocks_merge.specs.Merges.{behindOf, Below, RowsStand, Branches, MergesIn, MergesElse}
-use Rattle.blocks.specs.Blocks.{Enters, Comes, blockRows, stmtRows, ElseMerges}
+use Rattle.blocks_merge.specs.Merges.{behindOf, loopedOf, Below, RowsStand, Branches, MergesIn, MergesElse}
+use Rattle.blocks.specs.Blocks.{InLoop, Enters, Comes, blockRows, stmtRows, ElseMerges}
 use Rattle.blocks_ends.proofs.Numbers.{rows-few, no-fault}
 use Rattle.blocks.proofs.Standing.{below-both}
 use Rattle.blocks.proofs.Ending.{fault-walks}
 
--- the same numbers, with rows from another place on
-abbrev pub movedOf : Env → ℕ → Env
-movedOf env at = record { left = env .left; limit = env .limit; width = env .width; cur = at }
+-- the same numbers, with rows from another place on and another loop
+abbrev pub movedOf : Env → ℕ → ℕ → Env
+movedOf env at base = record { left = env .left; limit = env .limit; width = env .width; cur = at; base = base }
 
 -- the states whose rows end before a place up to which nothing changed
 module _ (l : Locals) (t : States) (rows new : List ℕ) (cur width at : ℕ) (b : Below at rows new) (le : rowOf cur width (l .count) ≤ at) (h : RowsStand (l .count) t rows cur width) where
@@ -83,8 +86,8 @@ module _ (s tb : List ℕ) (env : Env) (l : Locals) (t : States) (rows : List �
     pub branch-view : ok ≡ true → view l t new at (env .width) ≡ view l t rows (env .cur) (env .width)
     branch-view e = view-copied l t rows new (env .cur) at (env .width) (h .sound .rowed) (copies-true e)
 
-    pub branch-enters : ok ≡ true → (a : Env) → a ≡ movedOf env at → Enters s tb a l t new p
-    branch-enters e a is = subst (λ (x : Env). Enters s tb x l t new p) (sym is) (record {
+    pub branch-enters : ok ≡ true → (a : Env) {base : ℕ} → a ≡ movedOf env at base → (near : Option ℕ) → InLoop near base (suc (12 - env .left)) l → Enters s tb a l t new p
+    branch-enters e a is near o = subst (λ (x : Env). Enters s tb x l t new p) (sym is) (record {
       lent = h .lent;
       within = h .within;
       depth = h .depth;
@@ -92,6 +95,8 @@ module _ (s tb : List ℕ) (env : Env) (l : Locals) (t : States) (rows : List �
       width = h .width;
       sound = sound-states l t t rows new (env .cur) at (env .width) (h .sound) (h .sound .held) (rowed-copied l t rows new (env .cur) at (env .width) (h .sound .rowed) (copies-true e));
       nested = nested-view (12 - env .left) l t t rows new (env .cur) at (env .width) (h .nested);
+      near = near;
+      looped = o;
     })
 
     -- 254: the rows end before the copy
@@ -99,13 +104,37 @@ module _ (s tb : List ℕ) (env : Env) (l : Locals) (t : States) (rows : List �
     branch-short e = c .short e
 
 -- what the code's numbers for a branch say
-pub moved-once : (env r : Env) (n : ℕ) → r ≡ behindOf env n → r ≡ movedOf env (rowOf (env .cur) (env .width) n)
-moved-once env r n e = e
+pub moved-once : (env q r : Env) (tag n : ℕ) → q ≡ behindOf env n → r ≡ loopedOf q tag n
+    → r ≡ movedOf env (rowOf (env .cur) (env .width) n) (cond (eqb tag 8) n (env .base))
+moved-once env q r tag n e f = f ∙ ap (λ (x : Env). loopedOf x tag n) e ∙ either (eqb tag 8)
+  where
+    either : (b : Bool) → cond b (movedOf env (rowOf (env .cur) (env .width) n) n) (behindOf env n)
+        ≡ movedOf env (rowOf (env .cur) (env .width) n) (cond b n (env .base))
+    either true = refl
+    either false = refl
 
-pub moved-twice : (env q r : Env) (n : ℕ) → q ≡ behindOf env n → r ≡ behindOf q n → r ≡ movedOf env (rowOf (rowOf (env .cur) (env .width) n) (env .width) n)
+pub moved-twice : (env q r : Env) (n : ℕ) → q ≡ behindOf env n → r ≡ behindOf q n → r ≡ movedOf env (rowOf (rowOf (env .cur) (env .width) n) (env .width) n) (env .base)
 moved-twice env q r n e f = f ∙ ap (λ (x : Env). behindOf x n) e
 
-module _ (env r : Env) (at : ℕ) (is : r ≡ movedOf env at) where
+-- the nearest loop of a statement's first block: a While's is its body
+abbrev pub ownLoop : ℕ → ℕ → Option ℕ → Option ℕ
+ownLoop tag d loop = cond (eqb tag 8) (some (suc d)) loop
+
+pub loop-of : (s tb : List ℕ) (env : Env) (tag : ℕ) (l : Locals) (t : States) (rows : List ℕ) (p : Place) → Enters s tb env l t rows p → (loop : Option ℕ)
+    → InLoop loop (env .base) (suc (12 - env .left)) l → InLoop (ownLoop tag (12 - env .left) loop) (cond (eqb tag 8) (l .count) (env .base)) (suc (12 - env .left)) l
+loop-of s tb env tag l t rows p h loop o = either (eqb tag 8)
+  where
+    either : (b : Bool) → InLoop (cond b (some (suc (12 - env .left))) loop) (cond b (l .count) (env .base)) (suc (12 - env .left)) l
+    either false = o
+    either true = (
+      omega arith,
+      omega arith,
+      λ i li.
+          let low = nested-at (12 - env .left) (l .count) (staticAt l) (stateAt t rows (env .cur) (env .width)) (h .nested) i li in
+          lt-leb (suc (12 - env .left)) (staticAt l i .depth) (omega arith) ∙ sym (lt-leb (l .count) i li),
+    )
+
+module _ (env r : Env) (at : ℕ) {base : ℕ} (is : r ≡ movedOf env at base) where
   pub copied-at : {n : ℕ} {kinds rows : List ℕ} → Copied n (env .width) kinds rows (env .cur) at → Copied n (env .width) kinds rows (env .cur) (r .cur)
   copied-at {n} {kinds} {rows} h = subst (λ (x : Env). Copied n (env .width) kinds rows (env .cur) (x .cur)) (sym is) h
 
@@ -117,13 +146,13 @@ module _ (env r : Env) (at : ℕ) (is : r ≡ movedOf env at) where
   comes-at {s} {tb} {l} {rows} {p} {o} {rows′} {pl′} h = subst (λ (x : Env). Comes s tb (x .cur) (x .width) (blockRows (x .cur) (x .left)) l rows p o rows′ pl′) is h
 
   pub walks-at : (s tb : List ℕ) (l : Locals) (t : States) (rows : List ℕ) (p : Place) (m : Memory) (o : States) (rows′ pl′ : List ℕ) (m′ : Memory)
-      → ((T : Tables) → Says s tb T → (faultIn pl′ ≡ 254 → ⊥)
-      → BlockWalks T s (r .left) (suc (12 - r .left)) (view l t rows (r .cur) (r .width)) p m (walkedIn pl′ (view l o rows′ (r .cur) (r .width))) m′)
-      → (T : Tables) → Says s tb T → (faultIn pl′ ≡ 254 → ⊥)
-      → BlockWalks T s (env .left) (suc (12 - env .left)) (view l t rows at (env .width)) p m (walkedIn pl′ (view l o rows′ at (env .width))) m′
+      → ((T : Tables) → Says s tb T → (loop : Option ℕ) → InLoop loop (r .base) (suc (12 - r .left)) l → (faultIn pl′ ≡ 254 → ⊥)
+      → BlockWalks T s (r .left) (suc (12 - r .left)) loop (view l t rows (r .cur) (r .width)) p m (walkedIn pl′ (view l o rows′ (r .cur) (r .width))) m′)
+      → (T : Tables) → Says s tb T → (loop : Option ℕ) → InLoop loop base (suc (12 - env .left)) l → (faultIn pl′ ≡ 254 → ⊥)
+      → BlockWalks T s (env .left) (suc (12 - env .left)) loop (view l t rows at (env .width)) p m (walkedIn pl′ (view l o rows′ at (env .width))) m′
   walks-at s tb l t rows p m o rows′ pl′ m′ h =
-      subst (λ (x : Env). (T : Tables) → Says s tb T → (faultIn pl′ ≡ 254 → ⊥)
-      → BlockWalks T s (x .left) (suc (12 - x .left)) (view l t rows (x .cur) (x .width)) p m (walkedIn pl′ (view l o rows′ (x .cur) (x .width))) m′) is h
+      subst (λ (x : Env). (T : Tables) → Says s tb T → (loop : Option ℕ) → InLoop loop (x .base) (suc (12 - x .left)) l → (faultIn pl′ ≡ 254 → ⊥)
+      → BlockWalks T s (x .left) (suc (12 - x .left)) loop (view l t rows (x .cur) (x .width)) p m (walkedIn pl′ (view l o rows′ (x .cur) (x .width))) m′) is h
 
   pub branches-at : {n : ℕ} {t u v : States} {rows : List ℕ} → Branches n t u v rows (env .cur) (env .width) at → Branches n t u v rows (env .cur) (env .width) (r .cur)
   branches-at {n} {t} {u} {v} {rows} h = subst (λ (x : Env). Branches n t u v rows (env .cur) (env .width) (x .cur)) (sym is) h
@@ -211,14 +240,14 @@ module _ (s tb : List ℕ) (env : Env) (l : Locals) (t first : States) (rows pl 
       low = (let q = else-low .0 in let le = else-low .2 in omega arith, else-low .0);
     }
 
-    module _ (T : Tables) (m m₂ : Memory)
-        (walks : BlockWalks T s (env .left) (suc (12 - env .left)) (view l t rows₁ b (env .width)) (placeIn pl) m (walkedIn pl₂ (view l other rows₂ b (env .width))) m₂) where
-      walks-here : BlockWalks T s (env .left) (suc (12 - env .left)) (view l t rows (env .cur) (env .width)) (placeIn pl) m (walkedIn pl₂ (view l other rows₂ b (env .width))) m₂
-      walks-here = subst (λ (σ : Scope Status). BlockWalks T s (env .left) (suc (12 - env .left)) σ (placeIn pl) m (walkedIn pl₂ (view l other rows₂ b (env .width))) m₂)
+    module _ (T : Tables) (loop : Option ℕ) (m m₂ : Memory)
+        (walks : BlockWalks T s (env .left) (suc (12 - env .left)) loop (view l t rows₁ b (env .width)) (placeIn pl) m (walkedIn pl₂ (view l other rows₂ b (env .width))) m₂) where
+      walks-here : BlockWalks T s (env .left) (suc (12 - env .left)) loop (view l t rows (env .cur) (env .width)) (placeIn pl) m (walkedIn pl₂ (view l other rows₂ b (env .width))) m₂
+      walks-here = subst (λ (σ : Scope Status). BlockWalks T s (env .left) (suc (12 - env .left)) loop σ (placeIn pl) m (walkedIn pl₂ (view l other rows₂ b (env .width))) m₂)
           (branch-view s tb env l t rows (placeIn pl) h b c yes) walks
 
       -- its fault
-      else-fault : 0 < faultIn pl₂ → ElseMerges T s (env .left) (12 - env .left) (sureIn pl) (view l t rows (env .cur) (env .width)) (view l first rows a (env .width)) (placeIn pl) m
+      else-fault : 0 < faultIn pl₂ → ElseMerges T s (env .left) (12 - env .left) loop (sureIn pl) (view l t rows (env .cur) (env .width)) (view l first rows a (env .width)) (placeIn pl) m
           (walkedIn pl₂ (view l other rows₂ (env .cur) (env .width))) m₂
       else-fault lt = record {
         w = walkedIn pl₂ (view l other rows₂ (env .cur) (env .width));
@@ -230,7 +259,7 @@ module _ (s tb : List ℕ) (env : Env) (l : Locals) (t first : States) (rows pl 
       -- or the merge behind it
       else-merges : faultIn pl₂ ≡ 0 → {r : States} {rows₃ pl₃ : List ℕ} → MergesIn (sureIn pl) (sureIn pl₂) (l .count) t first other rows₂ (env .cur) (env .width) b pl₂ r rows₃ pl₃
           → (faultIn pl₃ ≡ 254 → ⊥)
-          → ElseMerges T s (env .left) (12 - env .left) (sureIn pl) (view l t rows (env .cur) (env .width)) (view l first rows a (env .width)) (placeIn pl) m
+          → ElseMerges T s (env .left) (12 - env .left) loop (sureIn pl) (view l t rows (env .cur) (env .width)) (view l first rows a (env .width)) (placeIn pl) m
           (walkedIn pl₃ (view l r rows₃ (env .cur) (env .width))) m₂
       else-merges z {r} {rows₃} {pl₃} g reach = record {
         w = walkedIn pl₂ (view l other rows₂ b (env .width));
@@ -273,20 +302,20 @@ module _ (s tb : List ℕ) (env : Env) (l : Locals) (t first : States) (rows pl 
       reach-first : (faultIn pl₃ ≡ 254 → ⊥) → faultIn pl₂ ≡ 254 → ⊥
       reach-first reach z = reach (ap faultIn (g .faulty (omega arith) .2) ∙ z)
 
-    module _ (T : Tables) (m m₂ : Memory) where
+    module _ (T : Tables) (loop : Option ℕ) (m m₂ : Memory) where
       abbrev Left : Walked → Type 0
-      Left v = ElseMerges T s (env .left) (12 - env .left) (sureIn pl) (view l t rows (env .cur) (env .width)) (view l first rows a (env .width)) (placeIn pl) m v m₂
+      Left v = ElseMerges T s (env .left) (12 - env .left) loop (sureIn pl) (view l t rows (env .cur) (env .width)) (view l first rows a (env .width)) (placeIn pl) m v m₂
 
       pub else-merged : {r : States} {rows₃ pl₃ : List ℕ} → MergesElse (sureIn pl) (l .count) t first other rows₂ (env .cur) (env .width) b pl₂ r rows₃ pl₃
-          → ((faultIn pl₂ ≡ 254 → ⊥) → BlockWalks T s (env .left) (suc (12 - env .left)) (view l t rows₁ b (env .width)) (placeIn pl) m (walkedIn pl₂ (view l other rows₂ b (env .width))) m₂)
+          → ((faultIn pl₂ ≡ 254 → ⊥) → BlockWalks T s (env .left) (suc (12 - env .left)) loop (view l t rows₁ b (env .width)) (placeIn pl) m (walkedIn pl₂ (view l other rows₂ b (env .width))) m₂)
           → (faultIn pl₃ ≡ 254 → ⊥)
-          → ElseMerges T s (env .left) (12 - env .left) (sureIn pl) (view l t rows (env .cur) (env .width)) (view l first rows a (env .width)) (placeIn pl) m (walkedIn pl₃ (view l r rows₃ (env .cur) (env .width))) m₂
+          → ElseMerges T s (env .left) (12 - env .left) loop (sureIn pl) (view l t rows (env .cur) (env .width)) (view l first rows a (env .width)) (placeIn pl) m (walkedIn pl₃ (view l r rows₃ (env .cur) (env .width))) m₂
       else-merged {r} {rows₃} {pl₃} g walks reach =
           let w = walks (reach-first g reach) in
           ⊎-elim
           (λ (q : 0 < faultIn pl₂). let e = g .faulty q in
           subst (λ (z : List ℕ). Left (walkedIn z (view l r rows₃ (env .cur) (env .width)))) (sym (e .2))
           (subst (λ (z : List ℕ). Left (walkedIn pl₂ (view l r z (env .cur) (env .width)))) (sym (e .1))
-          (subst (λ (z : States). Left (walkedIn pl₂ (view l z rows₂ (env .cur) (env .width)))) (sym (e .0)) (else-fault T m m₂ w q))))
-          (λ (q : faultIn pl₂ ≤ 0). else-merges T m m₂ w (no-fault q) (g .merges (no-fault q)) reach)
+          (subst (λ (z : States). Left (walkedIn pl₂ (view l z rows₂ (env .cur) (env .width)))) (sym (e .0)) (else-fault T loop m m₂ w q))))
+          (λ (q : faultIn pl₂ ≤ 0). else-merges T loop m m₂ w (no-fault q) (g .merges (no-fault q)) reach)
           (less 0 (faultIn pl₂))

@@ -3,7 +3,8 @@
 // nodes of the values that are scanned, and pl the place of a walk, its fault and whether it surely returns, all lent.
 ghost use mathlib.Core.Path.{_≡_};
 ghost use mathlib.Core.Bool.{true, false};
-ghost use Prim.Native.Nat.{suc, _+_, _-_, _*_, _≤_, _<_};
+ghost use mathlib.Core.Option.{Option};
+ghost use Prim.Native.Nat.{ℕ, suc, _+_, _-_, _*_, _≤_, _<_};
 ghost use lib.ListN.{length};
 ghost use Rattle.tables.specs.Tables.{Tables};
 ghost use Rattle.tables_lookup.specs.Lent.{Says};
@@ -13,7 +14,7 @@ ghost use Rattle.scope_stack.specs.View.{rowOf, view};
 ghost use Rattle.blocks_laws.specs.Walks.{TagThere, TagWalks, BlockWalks, blocked};
 ghost use Rattle.blocks_ends.specs.Ends.{placeIn, faultIn, sureIn, walkedIn};
 ghost use Rattle.blocks_merge.specs.Merges.{RowsStand};
-ghost use Rattle.blocks.specs.Blocks.{Enters, Comes, blockRows, stmtRows, ElseMerges};
+ghost use Rattle.blocks.specs.Blocks.{InLoop, Enters, Comes, blockRows, stmtRows, ElseMerges};
 use blocks_ends::Env;
 use scope_stack::Locals;
 use scope_stack::States;
@@ -40,8 +41,8 @@ fn transform_else(
     requires { ⌜ Enters (now s) (now tb) env l st (now rows) (placeIn (now pl)) × BlockThere (now s) (env .left) (placeIn (now pl) .at)
         × (env .cur + 1152 ≤ 1152 * (12 - env .left)) × RowsStand (l .count) first (now rows) (rowOf (env .cur) (env .width) (l .count)) (env .width) × (length (now nodes) ≡ 26) × (length (now pl) ≡ 10) ⌝ }
     ensures { λ r. ⌜ Comes (now (s .entry)) (now (tb .entry)) (env .cur) (env .width) (stmtRows (env .cur) (env .left)) l (now (rows .entry)) (placeIn (now (pl .entry))) r (now (rows .exit)) (now (pl .exit)) × (length (now (nodes .exit)) ≡ 26) ⌝ }
-    ensures { λ r. ⌜ ((T : Tables) → Says (now (s .entry)) (now (tb .entry)) T → (faultIn (now (pl .exit)) ≡ 254 → ⊥)
-        → ElseMerges T (now (s .entry)) (env .left) (12 - env .left) (sureIn (now (pl .entry))) (view l st (now (rows .entry)) (env .cur) (env .width)) (view l first (now (rows .entry)) (rowOf (env .cur) (env .width) (l .count)) (env .width))
+    ensures { λ r. ⌜ ((T : Tables) → Says (now (s .entry)) (now (tb .entry)) T → (loop : Option ℕ) → InLoop loop (env .base) (suc (12 - env .left)) l → (faultIn (now (pl .exit)) ≡ 254 → ⊥)
+        → ElseMerges T (now (s .entry)) (env .left) (12 - env .left) loop (sureIn (now (pl .entry))) (view l st (now (rows .entry)) (env .cur) (env .width)) (view l first (now (rows .entry)) (rowOf (env .cur) (env .width) (l .count)) (env .width))
         (placeIn (now (pl .entry))) (memory (now (out .entry)) (now (errs .entry)) (now (warns .entry)) (now (lefts .entry))) (walkedIn (now (pl .exit)) (view l r (now (rows .exit)) (env .cur) (env .width))) (memory (now (out .exit)) (now (errs .exit)) (now (warns .exit)) (now (lefts .exit)))) ⌝ }
 {
     let n = l.count;
@@ -74,15 +75,15 @@ fn transform_blocks(
     requires { ⌜ Enters (now s) (now tb) env l st (now rows) (placeIn (now pl)) × TagThere (now s) (env .left) (placeIn (now pl) .at) tag × (blocked tag ≡ true)
         × (env .cur + 1152 ≤ 1152 * (12 - env .left)) × (length (now nodes) ≡ 26) × (length (now pl) ≡ 10) ⌝ }
     ensures { λ r. ⌜ Comes (now (s .entry)) (now (tb .entry)) (env .cur) (env .width) (stmtRows (env .cur) (env .left)) l (now (rows .entry)) (placeIn (now (pl .entry))) r (now (rows .exit)) (now (pl .exit)) × (length (now (nodes .exit)) ≡ 26) ⌝ }
-    ensures { λ r. ⌜ ((T : Tables) → Says (now (s .entry)) (now (tb .entry)) T → (faultIn (now (pl .exit)) ≡ 254 → ⊥)
-        → TagWalks T (now (s .entry)) (env .left) (12 - env .left) tag (view l st (now (rows .entry)) (env .cur) (env .width))
+    ensures { λ r. ⌜ ((T : Tables) → Says (now (s .entry)) (now (tb .entry)) T → (loop : Option ℕ) → InLoop loop (env .base) (suc (12 - env .left)) l → (faultIn (now (pl .exit)) ≡ 254 → ⊥)
+        → TagWalks T (now (s .entry)) (env .left) (12 - env .left) loop tag (view l st (now (rows .entry)) (env .cur) (env .width))
         (placeIn (now (pl .entry))) (memory (now (out .entry)) (now (errs .entry)) (now (warns .entry)) (now (lefts .entry))) (walkedIn (now (pl .exit)) (view l r (now (rows .exit)) (env .cur) (env .width))) (memory (now (out .exit)) (now (errs .exit)) (now (warns .exit)) (now (lefts .exit)))) ⌝ }
 {
     if tag == 1 {
         return transform_block(s, tb, env, l, st, rows, nodes, out, errs, warns, lefts, pl);
     }
     let n = l.count;
-    let a = blocks_merge::behind(env, n);
+    let a = blocks_merge::in_loop(blocks_merge::behind(env, n), tag, n);
     if !blocks_merge::branch_rows(&st.kinds, n, rows, env, a.cur) {
         pl[8] = 254;
         return st;
@@ -129,8 +130,8 @@ pub fn transform_block(
     requires { ⌜ Enters (now s) (now tb) env outer states (now rows) (placeIn (now pl)) × BlockThere (now s) (env .left) (placeIn (now pl) .at)
         × (env .cur ≤ 1152 * (12 - env .left)) × (length (now nodes) ≡ 26) × (length (now pl) ≡ 10) ⌝ }
     ensures { λ r. ⌜ Comes (now (s .entry)) (now (tb .entry)) (env .cur) (env .width) (blockRows (env .cur) (env .left)) outer (now (rows .entry)) (placeIn (now (pl .entry))) r (now (rows .exit)) (now (pl .exit)) × (length (now (nodes .exit)) ≡ 26) ⌝ }
-    ensures { λ r. ⌜ ((T : Tables) → Says (now (s .entry)) (now (tb .entry)) T → (faultIn (now (pl .exit)) ≡ 254 → ⊥)
-        → BlockWalks T (now (s .entry)) (env .left) (suc (12 - env .left)) (view outer states (now (rows .entry)) (env .cur) (env .width))
+    ensures { λ r. ⌜ ((T : Tables) → Says (now (s .entry)) (now (tb .entry)) T → (loop : Option ℕ) → InLoop loop (env .base) (suc (12 - env .left)) outer → (faultIn (now (pl .exit)) ≡ 254 → ⊥)
+        → BlockWalks T (now (s .entry)) (env .left) (suc (12 - env .left)) loop (view outer states (now (rows .entry)) (env .cur) (env .width))
         (placeIn (now (pl .entry))) (memory (now (out .entry)) (now (errs .entry)) (now (warns .entry)) (now (lefts .entry))) (walkedIn (now (pl .exit)) (view outer r (now (rows .exit)) (env .cur) (env .width))) (memory (now (out .exit)) (now (errs .exit)) (now (warns .exit)) (now (lefts .exit)))) ⌝ }
 {
     let start = blocks_ends::place_in(&*pl);

@@ -42,7 +42,7 @@ pub record Tells (pl : List ℕ) (k : ℕ) (b : Bool) (p : Place) : Type 0 where
 
 -- the numbers of the walk of a block's statements
 abbrev pub innerOf : Env → Env
-innerOf env = record { left = env .left - 1; limit = env .limit; width = env .width; cur = env .cur }
+innerOf env = record { left = env .left - 1; limit = env .limit; width = env .width; cur = env .cur; base = env .base }
 
 -- the head of the block at a place: its span, and room for its count
 pub record Heads (s : List ℕ) (p : Place) (out : List ℕ) (c : Cursor) (out′ : List ℕ) : Type 0 where

@@ -26,12 +26,14 @@ use statements_acts::Named;
 use statements_acts::Place;
 use statements_changes::Cursor;
 
-// How much depth is left for blocks, how many locals and places there may be, where the rows of this stack begin.
+// How much depth is left for blocks, how many locals and places there may be, where the rows of this stack begin, and how many locals there
+// were before the nearest loop, 64 outside any.
 pub struct Env {
     pub left: usize,
     pub limit: usize,
     pub width: usize,
     pub cur: usize,
+    pub base: usize,
 }
 
 pub fn place_in(pl: &[usize; 10]) -> Place
@@ -96,6 +98,7 @@ pub fn inner(env: Env) -> Env
         limit: env.limit,
         width: env.width,
         cur: env.cur,
+        base: env.base,
     }
 }
 
@@ -108,12 +111,13 @@ pub fn full(env: Env, count: usize) -> bool
 
 // Those for the walk up to the next change of a stack of so many locals.
 pub fn scanning(env: Env, count: usize, mark: u64) -> expressions_scan::Env
-    ensures { λ r. ⌜ r ≡ record { left = env .left; locals = count; mark = mark; cur = env .cur; width = env .width } ⌝ }
+    ensures { λ r. ⌜ r ≡ record { left = env .left; locals = count; mark = mark; base = env .base; cur = env .cur; width = env .width } ⌝ }
 {
     expressions_scan::Env {
         left: env.left,
         locals: count,
         mark: mark,
+        base: env.base,
         cur: env.cur,
         width: env.width,
     }

@@ -39,7 +39,7 @@ use Rattle.blocks_laws.specs.Walks.{Walked, Leads, BlockDone, BlocksWalk
 use Rattle.blocks_laws.specs.Ends.{tail, Ends}
 use Rattle.blocks_laws.proofs.Wrotes.{and-left, stored-as}
 use Rattle.blocks_laws.proofs.Leads.{leads-end}
-use mathlib.Core.Option.{none}
+use mathlib.Core.Option.{Option, none}
 use Rattle.image_fields.specs.Parsed.{ok}
 use Rattle.image_encoding.proofs.BodyWritten.{block-written}
 use Rattle.rules.specs.Walk.{walkFault}
@@ -81,11 +81,11 @@ pub record Inside (s : List ℕ) (p q : Place) (gap : ℕ) : Type 0 where
   pub fits : q .fits ≡ p .fits
   pub paged : q .paged ≡ p .paged
 
-module _ (T : Tables) (s : List ℕ) (t : Reading) (deep : t .exprDepth ≡ 24) (left d : ℕ) (b : Block) (n : ℕ) (σ σ′ : Scope Status)
+module _ (T : Tables) (s : List ℕ) (t : Reading) (deep : t .exprDepth ≡ 24) (left d : ℕ) (loop : Option ℕ) (b : Block) (n : ℕ) (σ σ′ : Scope Status)
     (p q p′ : Place) (m m₁ m₂ : Memory) (gap : ℕ) (r : Walked) (out′ : List ℕ)
     (parts : BlockParts t s left (p .at) b n) (inside : Inside s p q gap)
     (head : Stored (m .out) (p .written) (fourBytes (four s (p .at))) (m₁ .out) gap)
-    (g : Leads T s t (left - 1) d (two s (p .at + 4)) (b .code) σ q m₁ 0 σ′ p′ m₂ n)
+    (g : Leads T s t (left - 1) d loop (two s (p .at + 4)) (b .code) σ q m₁ 0 σ′ p′ m₂ n)
     (e : Ends T s left d σ′ p gap p′ (m₂ .out) r out′) where
   abbrev ds : List Drop
   ds = tail T (r .sure) d (four s (p .at)) σ′
@@ -94,7 +94,7 @@ module _ (T : Tables) (s : List ℕ) (t : Reading) (deep : t .exprDepth ≡ 24) 
   count = two s (p .at + 4) + p′ .inserted + length ds
 
   ended : (g .c ≡ done tt) × (n ≡ p′ .at)
-  ended = leads-end T s t (left - 1) d (two s (p .at + 4)) (b .code) σ q m₁ n σ′ p′ m₂ g
+  ended = leads-end T s t (left - 1) d loop (two s (p .at + 4)) (b .code) σ q m₁ n σ′ p′ m₂ g
 
   -- the last statement says whether the block surely returns
   surely : (k : ℕ) → two s (p .at + 4) ≡ k → r .sure ≡ g .f
@@ -157,13 +157,13 @@ module _ (T : Tables) (s : List ℕ) (t : Reading) (deep : t .exprDepth ≡ 24) 
       let h = two-length (size whole) in
       omega (arith, head .place, inside .written, g .wrote .long, e .deletes .place)
 
-  told : report T (b .code) d (p .at + 6) σ ≡ g .o .reports
+  told : report T (b .code) d loop (p .at + 6) σ ≡ g .o .reports
   told =
-      ap (λ (k : ℕ). report T (b .code) d k σ) (sym (inside .at)) ∙ g .reports
-      ∙ ap (λ (x : Tree). g .o .reports ++ report T x d (p′ .at) σ′) (ended .0) ∙ append-nil (g .o .reports)
+      ap (λ (k : ℕ). report T (b .code) d loop k σ) (sym (inside .at)) ∙ g .reports
+      ∙ ap (λ (x : Tree). g .o .reports ++ report T x d loop (p′ .at) σ′) (ended .0) ∙ append-nil (g .o .reports)
 
   -- where a page is made, head, deletes and count are past the end
-  block-lines : p .paged ≡ true → length (m .out) ≤ p .written → Lined (cursorsAt p) (report T (b .code) d (p .at + 6) σ) (m .out) (cursorsAt (r .place)) out′
+  block-lines : p .paged ≡ true → length (m .out) ≤ p .written → Lined (cursorsAt p) (report T (b .code) d loop (p .at + 6) σ) (m .out) (cursorsAt (r .place)) out′
   block-lines y h =
       let a = past head h in
       let i = inside .written in
@@ -185,7 +185,7 @@ module _ (T : Tables) (s : List ℕ) (t : Reading) (deep : t .exprDepth ≡ 24) 
 
   -- lists are stored by the statements alone
   listed : (f : List Report → List Report) {old old₁ new new₁ : List ℕ} {i j k l : ℕ} → old₁ ≡ old → new ≡ new₁ → j ≡ i → l ≡ k
-      → Stored old₁ j (entriesOf version1 (f (g .o .reports))) new₁ k → Stored old i (entriesOf version1 (f (report T (b .code) d (p .at + 6) σ))) new l
+      → Stored old₁ j (entriesOf version1 (f (g .o .reports))) new₁ k → Stored old i (entriesOf version1 (f (report T (b .code) d loop (p .at + 6) σ))) new l
   listed f {old} {old₁} {new} {new₁} {i} {j} {k} {l} eo en ej el x =
       stored-as (ap (λ (y : List Report). entriesOf version1 (f y)) told)
       (record {
@@ -194,7 +194,7 @@ module _ (T : Tables) (s : List ℕ) (t : Reading) (deep : t .exprDepth ≡ 24) 
       })
 
   pub block-done : (m′ : Memory) → m₁ .errs ≡ m .errs → m₁ .warns ≡ m .warns → m₁ .lefts ≡ m .lefts
-      → m′ .out ≡ out′ → m′ .errs ≡ m₂ .errs → m′ .warns ≡ m₂ .warns → m′ .lefts ≡ m₂ .lefts → BlockDone T b d σ p m r m′ n
+      → m′ .out ≡ out′ → m′ .errs ≡ m₂ .errs → m′ .warns ≡ m₂ .warns → m′ .lefts ≡ m₂ .lefts → BlockDone T b d loop σ p m r m′ n
   block-done m′ a₁ a₂ a₃ b₀ b₁ b₂ b₃ = record {
     wrote = record {
       bytes = λ n fit.
@@ -204,7 +204,7 @@ module _ (T : Tables) (s : List ℕ) (t : Reading) (deep : t .exprDepth ≡ 24) 
       errors = λ n. listed errors a₁ b₁ (inside .errors) (e .errors) (g .wrote .errors (inside .paged ∙ n));
       warnings = λ n. listed warnings a₂ b₂ (inside .warnings) (e .warnings) (g .wrote .warnings (inside .paged ∙ n));
       lefts = λ n. listed lefts a₃ b₃ (inside .lefts) (e .lefts) (g .wrote .lefts (inside .paged ∙ n));
-      lines = λ y h. subst (λ (x : List ℕ). Lined (cursorsAt p) (report T (b .code) d (p .at + 6) σ) (m .out) (cursorsAt (r .place)) x) (sym b₀) (block-lines y h);
+      lines = λ y h. subst (λ (x : List ℕ). Lined (cursorsAt p) (report T (b .code) d loop (p .at + 6) σ) (m .out) (cursorsAt (r .place)) x) (sym b₀) (block-lines y h);
       paged = e .paged ∙ g .wrote .paged ∙ inside .paged;
       long = subst (λ (sp : ℕ). r .place .written ≡ p .written + length (withCount sp (size (returned T (b .code) sp d false σ)) (encodeCode (returned T (b .code) sp d false σ)))) (sym (parts .span)) block-long;
       fits = subst (λ (sp : ℕ). r .place .fits ≡ (p .fits && (leb (size (returned T (b .code) sp d false σ)) 65535 && countsFit 65535 (returned T (b .code) sp d false σ)))) (sym (parts .span)) block-fits;
@@ -227,10 +227,10 @@ block-end s small t left at b next e =
     let k = length-append (twoBytes (size (b .code))) (encodeCode (b .code)) in
     omega arith
 
-module _ (T : Tables) (s : List ℕ) (small : Bytes s) (t : Reading) (left d : ℕ) (σ : Scope Status) (p : Place) (m : Memory) where
+module _ (T : Tables) (s : List ℕ) (small : Bytes s) (t : Reading) (left d : ℕ) (loop : Option ℕ) (σ : Scope Status) (p : Place) (m : Memory) where
   -- a Block statement
   pub block-blocks : (b : Block) (r : Walked) (m′ : Memory) (next : ℕ) → (r .fault ≡ numberOf (walkFault version1 T (b .code) (suc d) σ))
-      × (walkFault version1 T (b .code) (suc d) σ ≡ none → BlockDone T b (suc d) σ p m r m′ next) → (c : Tree) → BlocksWalk T (block (b .span) (b .code) c) d σ p m r m′ next
+      × (walkFault version1 T (b .code) (suc d) σ ≡ none → BlockDone T b (suc d) loop σ p m r m′ next) → (c : Tree) → BlocksWalk T (block (b .span) (b .code) c) d loop σ p m r m′ next
   block-blocks b r m′ next h c = record {
     fault = h .0;
     done = λ e. let g = h .1 e in record { wrote = g .wrote; inserted = g .inserted; last = g .last; at = g .at; locals = g .locals };

@@ -37,12 +37,12 @@ pub record ElseDone (o : Own) (p : Place) (m : Memory) (r : Walked) (m′ : Memo
   pub locals : r .locals ≡ σ
   pub sure : r .sure ≡ b
 
-pub record ElseWalks (T : Tables) (s : List ℕ) (left d : ℕ) (σ : Scope Status) (p : Place) (m : Memory) (r : Walked) (m′ : Memory) : Type 0 where
+pub record ElseWalks (T : Tables) (s : List ℕ) (left d : ℕ) (loop : Option ℕ) (σ : Scope Status) (p : Place) (m : Memory) (r : Walked) (m′ : Memory) : Type 0 where
   pub without : getD s (p .at) 0 ≡ 0 → (r .fault ≡ 0) × ElseDone (byte 0) p m r m′ (p .at + 1) σ false
   pub with : getD s (p .at) 0 ≡ 1 → (t : Reading) → t .exprDepth ≡ 24 → (b : Block) (next : ℕ) → blockAt t s left (p .at + 1) ≡ ok b next
       → (r .fault ≡ numberOf (walkFault version1 T (b .code) d σ))
       × (walkFault version1 T (b .code) d σ ≡ none
-      → ElseDone (both (byte 1) (blockOwn T (b .span) (b .code) d (p .at + 1) σ)) p m r m′ next (exit states T (b .code) d σ) (sureFrom (b .code) false))
+      → ElseDone (both (byte 1) (blockOwn T (b .span) (b .code) d loop (p .at + 1) σ)) p m r m′ next (exit states T (b .code) d σ) (sureFrom (b .code) false))
 
 pub record ElseThere (s : List ℕ) (left at : ℕ) : Type 0 where
   pub inside : at < length s
@@ -62,10 +62,10 @@ unfolding orElse
 else-left none y e = refl
 else-left (some n) y e = e
 
-module _ (T : Tables) (s : List ℕ) (small : Bytes s) (t : Reading) (left d : ℕ) (σ : Scope Status) (p : Place) (m : Memory) where
+module _ (T : Tables) (s : List ℕ) (small : Bytes s) (t : Reading) (left d : ℕ) (loop : Option ℕ) (σ : Scope Status) (p : Place) (m : Memory) where
   -- a fault of the first block is that of the statement
   pub first-fault : (c : Tree) (b : Block) (y : Option ℕ) → blocksFault T c d σ ≡ orElse (walkFault version1 T (b .code) (suc d) σ) y
-      → (r : Walked) (m′ : Memory) (next : ℕ) → r .fault ≡ numberOf (walkFault version1 T (b .code) (suc d) σ) → 0 < r .fault → BlocksWalk T c d σ p m r m′ next
+      → (r : Walked) (m′ : Memory) (next : ℕ) → r .fault ≡ numberOf (walkFault version1 T (b .code) (suc d) σ) → 0 < r .fault → BlocksWalk T c d loop σ p m r m′ next
   first-fault c b y is r m′ next e lt = record {
     fault = else-number (walkFault version1 T (b .code) (suc d) σ) y (r .fault) lt e ∙ ap numberOf (sym is);
     done = λ z.
@@ -75,7 +75,7 @@ module _ (T : Tables) (s : List ℕ) (small : Bytes s) (t : Reading) (left d : �
   }
 
   -- both blocks, walked without a fault
-  module _ (b : Block) (v : Walked) (m₁ : Memory) (q : ℕ) (clear : walkFault version1 T (b .code) (suc d) σ ≡ none) (a : BlockDone T b (suc d) σ p m v m₁ q) where
+  module _ (b : Block) (v : Walked) (m₁ : Memory) (q : ℕ) (clear : walkFault version1 T (b .code) (suc d) σ ≡ none) (a : BlockDone T b (suc d) loop σ p m v m₁ q) where
     -- merged behind the second: what it was told as o, its locals τ and whether it returns
     merge-locals : (w r : Walked) (τ : Scope Status) (f : Bool) → w .locals ≡ τ → w .sure ≡ f → Merges (v .sure) σ (v .locals) w r → r .fault ≡ 0
         → r .locals ≡ merge states (sureFrom (b .code) false) f σ (exit states T (b .code) (suc d) σ) τ
@@ -97,13 +97,13 @@ module _ (T : Tables) (s : List ℕ) (small : Bytes s) (t : Reading) (left d : �
 
     -- what is stored is stored by both
     merge-wrote : (o : Own) (w r : Walked) (m₂ : Memory) (next : ℕ) (τ : Scope Status) (f : Bool) → ElseDone o (v .place) m₁ w m₂ next τ f → r .place ≡ w .place
-        → Wrote (both (blockOwn T (b .span) (b .code) (suc d) (p .at) σ) o) p m (r .place) m₂
+        → Wrote (both (blockOwn T (b .span) (b .code) (suc d) loop (p .at) σ) o) p m (r .place) m₂
     merge-wrote o w r m₂ next τ f e ep =
-        subst (λ (x : Place). Wrote (both (blockOwn T (b .span) (b .code) (suc d) (p .at) σ) o) p m x m₂) (sym ep) (wrote-both (a .wrote) (e .wrote))
+        subst (λ (x : Place). Wrote (both (blockOwn T (b .span) (b .code) (suc d) loop (p .at) σ) o) p m x m₂) (sym ep) (wrote-both (a .wrote) (e .wrote))
 
     module _ (w r : Walked) (m₂ : Memory) (g : Merges (v .sure) σ (v .locals) w r) where
       pub if-then : (sp : ℕ) (x : Expr) (c : Tree) → ElseDone (byte 0) (v .place) m₁ w m₂ (v .place .at + 1) σ false
-          → BlocksWalk T (ifThen sp x (b .span) (b .code) c) d σ p m r m₂ (q + 1)
+          → BlocksWalk T (ifThen sp x (b .span) (b .code) c) d loop σ p m r m₂ (q + 1)
       if-then sp x c e =
           let fault : r .fault ≡ numberOf (blocksFault T (ifThen sp x (b .span) (b .code) c) d σ) =
           merge-fault w r σ false (e .locals) (e .sure) g
@@ -121,8 +121,8 @@ module _ (T : Tables) (s : List ℕ) (small : Bytes s) (t : Reading) (left d : �
           }
 
       pub if-else : (sp : ℕ) (x : Expr) (u : Block) (next : ℕ) (c : Tree) → q ≡ p .at + (6 + codeBytes (b .code)) → walkFault version1 T (u .code) (suc d) σ ≡ none
-          → ElseDone (both (byte 1) (blockOwn T (u .span) (u .code) (suc d) (v .place .at + 1) σ)) (v .place) m₁ w m₂ next (exit states T (u .code) (suc d) σ) (sureFrom (u .code) false)
-          → BlocksWalk T (ifElse sp x (b .span) (b .code) (u .span) (u .code) c) d σ p m r m₂ next
+          → ElseDone (both (byte 1) (blockOwn T (u .span) (u .code) (suc d) loop (v .place .at + 1) σ)) (v .place) m₁ w m₂ next (exit states T (u .code) (suc d) σ) (sureFrom (u .code) false)
+          → BlocksWalk T (ifElse sp x (b .span) (b .code) (u .span) (u .code) c) d loop σ p m r m₂ next
       if-else sp x u next c eq free e =
           let joined = joins states (exit states T (b .code) (suc d) σ) (exit states T (u .code) (suc d) σ) in
           let wide = tooWide version1 (not (sureFrom (b .code) false) && not (sureFrom (u .code) false)) joined in
@@ -135,8 +135,8 @@ module _ (T : Tables) (s : List ℕ) (small : Bytes s) (t : Reading) (left d : �
             fault = fault;
             done = λ z. record {
               wrote =
-                  subst (λ (k : ℕ). Wrote (both (blockOwn T (b .span) (b .code) (suc d) (p .at) σ) (both (byte 1) (blockOwn T (u .span) (u .code) (suc d) k σ))) p m (r .place) m₂) at
-                  (merge-wrote (both (byte 1) (blockOwn T (u .span) (u .code) (suc d) (v .place .at + 1) σ)) w r m₂ next (exit states T (u .code) (suc d) σ) (sureFrom (u .code) false) e (g .place));
+                  subst (λ (k : ℕ). Wrote (both (blockOwn T (b .span) (b .code) (suc d) loop (p .at) σ) (both (byte 1) (blockOwn T (u .span) (u .code) (suc d) loop k σ))) p m (r .place) m₂) at
+                  (merge-wrote (both (byte 1) (blockOwn T (u .span) (u .code) (suc d) loop (v .place .at + 1) σ)) w r m₂ next (exit states T (u .code) (suc d) σ) (sureFrom (u .code) false) e (g .place));
               inserted = ap (λ (y : Place). y .inserted) (g .place) ∙ e .inserted ∙ a .inserted;
               last = ap (λ (y : Place). y .last) (g .place) ∙ e .last ∙ a .last;
               at = ap (λ (y : Place). y .at) (g .place) ∙ e .at;
@@ -146,7 +146,7 @@ module _ (T : Tables) (s : List ℕ) (small : Bytes s) (t : Reading) (left d : �
 
     -- a fault of the second block
     pub second-fault : (sp : ℕ) (x : Expr) (u : Block) (c : Tree) (r : Walked) (m₂ : Memory) (next : ℕ) → r .fault ≡ numberOf (walkFault version1 T (u .code) (suc d) σ) → 0 < r .fault
-        → BlocksWalk T (ifElse sp x (b .span) (b .code) (u .span) (u .code) c) d σ p m r m₂ next
+        → BlocksWalk T (ifElse sp x (b .span) (b .code) (u .span) (u .code) c) d loop σ p m r m₂ next
     second-fault sp x u c r m₂ next e lt =
         let joined = joins states (exit states T (b .code) (suc d) σ) (exit states T (u .code) (suc d) σ) in
         let wide = tooWide version1 (not (sureFrom (b .code) false) && not (sureFrom (u .code) false)) joined in
@@ -161,8 +161,8 @@ module _ (T : Tables) (s : List ℕ) (small : Bytes s) (t : Reading) (left d : �
 
     -- a loop joins whether its body returns or not
     pub loop-blocks : (sp : ℕ) (x : Expr) (c : Tree) (w r : Walked) → w .place ≡ v .place → w .locals ≡ σ → w .sure ≡ false → Merges false σ (v .locals) w r
-        → BlocksWalk T (while sp x (b .span) (b .code) c) d σ p m r m₁ q
-    loop-blocks sp x c w r ew ev es g =
+        → loop ≡ some (suc d) → (outer : Option ℕ) → BlocksWalk T (while sp x (b .span) (b .code) c) d outer σ p m r m₁ q
+    loop-blocks sp x c w r ew ev es g own outer =
         let υ = joins states (exit states T (b .code) (suc d) σ) σ in
         let fault : r .fault ≡ numberOf (blocksFault T (while sp x (b .span) (b .code) c) d σ) =
         g .fault
@@ -173,7 +173,8 @@ module _ (T : Tables) (s : List ℕ) (small : Bytes s) (t : Reading) (left d : �
         record {
           fault = fault;
           done = λ z. record {
-            wrote = subst (λ (y : Place). Wrote (blockOwn T (b .span) (b .code) (suc d) (p .at) σ) p m y m₁) (sym (g .place ∙ ew)) (a .wrote);
+            wrote = subst (λ (k : Option ℕ). Wrote (blockOwn T (b .span) (b .code) (suc d) k (p .at) σ) p m (r .place) m₁) own
+                (subst (λ (y : Place). Wrote (blockOwn T (b .span) (b .code) (suc d) loop (p .at) σ) p m y m₁) (sym (g .place ∙ ew)) (a .wrote));
             inserted = ap (λ (y : Place). y .inserted) (g .place ∙ ew) ∙ a .inserted;
             last = ap (λ (y : Place). y .last) (g .place ∙ ew) ∙ a .last;
             at = ap (λ (y : Place). y .at) (g .place ∙ ew) ∙ a .at;

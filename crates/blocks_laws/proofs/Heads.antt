@@ -4,7 +4,7 @@ use Prim.Native.Nat.{ℕ, suc, _+_, _-_, _≤_, _<_}
 use native.Mathlib.Omega.{arith}
 use mathlib.Core.Path.{_≡_, refl, sym, ap, _∙_, subst}
 use mathlib.Core.List.{List}
-use mathlib.Core.Option.{none}
+use mathlib.Core.Option.{Option, none}
 use lib.ListN.{length}
 use lib.Seq.{slice}
 use Rattle.image_fields.specs.Parsed.{ok}
@@ -63,9 +63,9 @@ stmts-in s left left′ at total at′ el et ep b =
     }
 
 -- the walk of a block's statements, said of the block: depths and places as the code has them
-module _ (T : Tables) (s : List ℕ) (left left′ total : ℕ) (σ : Scope Status) (p q : Place) (gap : ℕ) (w : Walked) (m m₁ m₂ : Memory)
+module _ (T : Tables) (s : List ℕ) (left left′ total : ℕ) (loop : Option ℕ) (σ : Scope Status) (p q : Place) (gap : ℕ) (w : Walked) (m m₁ m₂ : Memory)
     (low : 0 < left) (high : left ≤ 12) (el : left′ ≡ left - 1) (et : total ≡ two s (p .at + 4)) (eq : q ≡ headed p gap)
-    (sw : StmtsWalk T s left′ (12 - left′) total σ q m₁ w m₂) where
+    (sw : StmtsWalk T s left′ (12 - left′) loop total σ q m₁ w m₂) where
   -- a walk of the statements of depth suc (12 - left)
   depth-same : 12 - left′ ≡ suc (12 - left)
   depth-same = omega arith
@@ -73,16 +73,16 @@ module _ (T : Tables) (s : List ℕ) (left left′ total : ℕ) (σ : Scope Stat
   inner : (t : Reading) → t .exprDepth ≡ 24 → (b : Block) (n : ℕ) → blockAt t s left (p .at) ≡ ok b n
       → (w .fault ≡ numberOf (walkFault version1 T (b .code) (suc (12 - left)) σ))
       × (walkFault version1 T (b .code) (suc (12 - left)) σ ≡ none
-      → Leads T s t (left - 1) (suc (12 - left)) (two s (p .at + 4)) (b .code) σ (headed p gap) m₁ 0 (w .locals) (w .place) m₂ n)
+      → Leads T s t (left - 1) (suc (12 - left)) loop (two s (p .at + 4)) (b .code) σ (headed p gap) m₁ 0 (w .locals) (w .place) m₂ n)
   inner t deep b n e =
       let g = block-parts t s left (p .at) b n e in
-      let sw1 = subst (λ (l : ℕ). StmtsWalk T s l (12 - left′) total σ q m₁ w m₂) el sw in
-      let sw2 = subst (λ (d : ℕ). StmtsWalk T s (left - 1) d total σ q m₁ w m₂) depth-same sw1 in
-      let sw3 = subst (λ (k : ℕ). StmtsWalk T s (left - 1) (suc (12 - left)) k σ q m₁ w m₂) et sw2 in
-      let sw4 = subst (λ (x : Place). StmtsWalk T s (left - 1) (suc (12 - left)) (two s (p .at + 4)) σ x m₁ w m₂) eq sw3 in
+      let sw1 = subst (λ (l : ℕ). StmtsWalk T s l (12 - left′) loop total σ q m₁ w m₂) el sw in
+      let sw2 = subst (λ (d : ℕ). StmtsWalk T s (left - 1) d loop total σ q m₁ w m₂) depth-same sw1 in
+      let sw3 = subst (λ (k : ℕ). StmtsWalk T s (left - 1) (suc (12 - left)) loop k σ q m₁ w m₂) et sw2 in
+      let sw4 = subst (λ (x : Place). StmtsWalk T s (left - 1) (suc (12 - left)) loop (two s (p .at + 4)) σ x m₁ w m₂) eq sw3 in
       sw4 .walks t deep (b .code) n (g .stmts)
 
-  pub head-fault : 0 < w .fault → BlockWalks T s left (suc (12 - left)) σ p m w m₂
+  pub head-fault : 0 < w .fault → BlockWalks T s left (suc (12 - left)) loop σ p m w m₂
   head-fault lt = record {
     walks = λ t deep b n e.
         let i = inner t deep b n e in
@@ -94,14 +94,14 @@ module _ (T : Tables) (s : List ℕ) (left left′ total : ℕ) (σ : Scope Stat
       → Stored (m .out) (p .written) (fourBytes (four s (p .at))) (m₁ .out) gap
       → Ends T s left (suc (12 - left)) (w .locals) p gap (w .place) (m₂ .out) r out′
       → m₁ .errs ≡ m .errs → m₁ .warns ≡ m .warns → m₁ .lefts ≡ m .lefts
-      → BlockWalks T s left (suc (12 - left)) σ p m r (memory out′ (m₂ .errs) (m₂ .warns) (m₂ .lefts))
+      → BlockWalks T s left (suc (12 - left)) loop σ p m r (memory out′ (m₂ .errs) (m₂ .warns) (m₂ .lefts))
   head-walks small room eg z r out′ head ends a₁ a₂ a₃ = record {
     walks = λ t deep b n e.
         let i = inner t deep b n e in
         let f = i .0 in
         let clear = real-none (walkFault version1 T (b .code) (suc (12 - left)) σ) (real-walk version1 T (b .code) (suc (12 - left)) σ) (sym f ∙ omega arith) in (
           ends .fault ∙ ap numberOf (sym clear),
-          λ nil. block-done T s t deep left (suc (12 - left)) b n σ (w .locals) p (headed p gap) (w .place) m m₁ m₂ gap r out′
+          λ nil. block-done T s t deep left (suc (12 - left)) loop b n σ (w .locals) p (headed p gap) (w .place) m m₁ m₂ gap r out′
               (block-parts t s left (p .at) b n e) (head-inside s p gap room eg) head (i .1 clear) ends (memory out′ (m₂ .errs) (m₂ .warns) (m₂ .lefts)) a₁ a₂ a₃ refl refl refl refl,
         );
   }

@@ -43,8 +43,8 @@ else-none : (x : Option ℕ) → orElse none x ≡ x
 unfolding orElse
 else-none x = refl
 
-module _ (T : Tables) (s : List ℕ) (small : Bytes s) (t : Reading) (left d total : ℕ) (c₀ : Tree) (σ₀ : Scope Status) (p₀ : Place) (m₀ : Memory) (end : ℕ) where
-  pub leads-start : stmtsAt t s left total (p₀ .at) ≡ ok c₀ end → Leads T s t left d total c₀ σ₀ p₀ m₀ total σ₀ p₀ m₀ end
+module _ (T : Tables) (s : List ℕ) (small : Bytes s) (t : Reading) (left d : ℕ) (loop : Option ℕ) (total : ℕ) (c₀ : Tree) (σ₀ : Scope Status) (p₀ : Place) (m₀ : Memory) (end : ℕ) where
+  pub leads-start : stmtsAt t s left total (p₀ .at) ≡ ok c₀ end → Leads T s t left d loop total c₀ σ₀ p₀ m₀ total σ₀ p₀ m₀ end
   leads-start e = record {
     c = c₀;
     f = false;
@@ -63,7 +63,7 @@ module _ (T : Tables) (s : List ℕ) (small : Bytes s) (t : Reading) (left d tot
     last = λ h. absurd (omega arith);
   }
 
-  module _ (n : ℕ) (σ : Scope Status) (p : Place) (m : Memory) (some : 0 < n) (g : Leads T s t left d total c₀ σ₀ p₀ m₀ n σ p m end) where
+  module _ (n : ℕ) (σ : Scope Status) (p : Place) (m : Memory) (some : 0 < n) (g : Leads T s t left d loop total c₀ σ₀ p₀ m₀ n σ p m end) where
     -- the next statement, where it ends, and the statements behind it
     pub record Next : Type 0 where
       pub x : Stmt
@@ -87,9 +87,9 @@ module _ (T : Tables) (s : List ℕ) (small : Bytes s) (t : Reading) (left d tot
       leads-fault = g .fault ∙ ap (λ (c : Tree). walkFault version1 T c d σ) (k .is) ∙ fault-step T (before (k .x) (k .rest)) d σ
 
       pub leads-next : (q : Place) (m′ : Memory) (σ′ : Scope Status) → ownFault T (before (k .x) (k .rest)) d σ ≡ none
-          → StmtDone T (before (k .x) (k .rest)) d σ p m q m′ σ′ (k .next) → Leads T s t left d total c₀ σ₀ p₀ m₀ (n - 1) σ′ q m′ end
+          → StmtDone T (before (k .x) (k .rest)) d loop σ p m q m′ σ′ (k .next) → Leads T s t left d loop total c₀ σ₀ p₀ m₀ (n - 1) σ′ q m′ end
       leads-next q m′ σ′ clear a =
-          let u = own T here d (p .at) σ in
+          let u = own T here d loop (p .at) σ in
           let going = going-before (k .x) (k .rest) in
           let rest = rest-before (k .x) (k .rest) in
           let b : sureFrom (before (k .x) (done tt)) false ≡ sureOf here = sure-before (k .x) (k .rest) in
@@ -103,23 +103,23 @@ module _ (T : Tables) (s : List ℕ) (small : Bytes s) (t : Reading) (left d tot
             bytes = λ sp.
                 g .bytes sp
                 ∙ ap (λ (c : Tree). g .o .bytes ++ encodeCode (returned T c sp d (g .f) σ)) (k .is)
-                ∙ ap (λ (x : List ℕ). g .o .bytes ++ x) (bytes-step T here sp d (g .f) σ (p .at) going)
+                ∙ ap (λ (x : List ℕ). g .o .bytes ++ x) (bytes-step T here sp d (g .f) σ loop (p .at) going)
                 ∙ ap (λ (c : Tree). g .o .bytes ++ (u .bytes ++ encodeCode (returned T c sp d (sureOf here) (ownAfter T here d σ)))) rest
                 ∙ ap (λ (τ : Scope Status). g .o .bytes ++ (u .bytes ++ encodeCode (returned T (k .rest) sp d (sureOf here) τ))) (sym (a .locals))
                 ∙ sym (append-assoc (g .o .bytes) (u .bytes) (encodeCode (returned T (k .rest) sp d (sureOf here) σ′)));
             reports =
                 let e : p .at + frontSize here + blocksSize here ≡ q .at = sym (stmt-end s small t left (p .at) (k .x) (k .next) (k .read) (k .rest)) ∙ sym (a .at) in
                 g .reports
-                ∙ ap (λ (c : Tree). g .o .reports ++ report T c d (p .at) σ) (k .is)
-                ∙ ap (λ (x : List Report). g .o .reports ++ x) (report-step T here d (p .at) σ)
-                ∙ ap (λ (c : Tree). g .o .reports ++ (u .reports ++ report T c d (p .at + frontSize here + blocksSize here) (ownAfter T here d σ))) rest
-                ∙ ap (λ (τ : Scope Status). g .o .reports ++ (u .reports ++ report T (k .rest) d (p .at + frontSize here + blocksSize here) τ)) (sym (a .locals))
-                ∙ ap (λ (i : ℕ). g .o .reports ++ (u .reports ++ report T (k .rest) d i σ′)) e
-                ∙ sym (append-assoc (g .o .reports) (u .reports) (report T (k .rest) d (q .at) σ′));
+                ∙ ap (λ (c : Tree). g .o .reports ++ report T c d loop (p .at) σ) (k .is)
+                ∙ ap (λ (x : List Report). g .o .reports ++ x) (report-step T here d loop (p .at) σ)
+                ∙ ap (λ (c : Tree). g .o .reports ++ (u .reports ++ report T c d loop (p .at + frontSize here + blocksSize here) (ownAfter T here d σ))) rest
+                ∙ ap (λ (τ : Scope Status). g .o .reports ++ (u .reports ++ report T (k .rest) d loop (p .at + frontSize here + blocksSize here) τ)) (sym (a .locals))
+                ∙ ap (λ (i : ℕ). g .o .reports ++ (u .reports ++ report T (k .rest) d loop i σ′)) e
+                ∙ sym (append-assoc (g .o .reports) (u .reports) (report T (k .rest) d loop (q .at) σ′));
             fits = λ sp.
                 g .fits sp
                 ∙ ap (λ (c : Tree). g .o .fits && countsFit 65535 (returned T c sp d (g .f) σ)) (k .is)
-                ∙ ap (λ (x : Bool). g .o .fits && x) (fits-step T here sp d (g .f) σ (p .at) going)
+                ∙ ap (λ (x : Bool). g .o .fits && x) (fits-step T here sp d (g .f) σ loop (p .at) going)
                 ∙ ap (λ (c : Tree). g .o .fits && (u .fits && countsFit 65535 (returned T c sp d (sureOf here) (ownAfter T here d σ)))) rest
                 ∙ ap (λ (τ : Scope Status). g .o .fits && (u .fits && countsFit 65535 (returned T (k .rest) sp d (sureOf here) τ))) (sym (a .locals))
                 ∙ and-assoc (g .o .fits) (u .fits) (countsFit 65535 (returned T (k .rest) sp d (sureOf here) σ′));
@@ -149,6 +149,6 @@ module _ (T : Tables) (s : List ℕ) (small : Bytes s) (t : Reading) (left d tot
           }
 
 -- the end: nothing is left
-pub leads-end : (T : Tables) (s : List ℕ) (t : Reading) (left d total : ℕ) (c₀ : Tree) (σ₀ : Scope Status) (p₀ : Place) (m₀ : Memory) (end : ℕ) (σ : Scope Status) (p : Place) (m : Memory)
-    (g : Leads T s t left d total c₀ σ₀ p₀ m₀ 0 σ p m end) → (g .c ≡ done tt) × (end ≡ p .at)
-leads-end T s t left d total c₀ σ₀ p₀ m₀ end σ p m g = stmts-none (blockAt t s left) t s 0 (p .at) refl (g .read)
+pub leads-end : (T : Tables) (s : List ℕ) (t : Reading) (left d : ℕ) (loop : Option ℕ) (total : ℕ) (c₀ : Tree) (σ₀ : Scope Status) (p₀ : Place) (m₀ : Memory) (end : ℕ) (σ : Scope Status) (p : Place) (m : Memory)
+    (g : Leads T s t left d loop total c₀ σ₀ p₀ m₀ 0 σ p m end) → (g .c ≡ done tt) × (end ≡ p .at)
+leads-end T s t left d loop total c₀ σ₀ p₀ m₀ end σ p m g = stmts-none (blockAt t s left) t s 0 (p .at) refl (g .read)

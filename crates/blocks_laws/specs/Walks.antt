@@ -3,7 +3,7 @@ use Prim.Native.Nat.{ℕ, suc, _+_, _≤_, _<_}
 use mathlib.Core.Path.{_≡_}
 use mathlib.Core.Bool.{Bool, true, false, _&&_, _||_}
 use mathlib.Core.List.{List, _++_}
-use mathlib.Core.Option.{none}
+use mathlib.Core.Option.{Option, none}
 use lib.ListN.{length, getD}
 use lib.Dec.{eqb}
 use Rattle.image_fields.specs.Parsed.{ok}
@@ -46,8 +46,8 @@ pub record Wrote (o : Own) (p : Place) (m : Memory) (q : Place) (m′ : Memory) 
   pub paged : q .paged ≡ p .paged
 
 -- a block without a fault
-pub record BlockDone (T : Tables) (b : Block) (d : ℕ) (σ : Scope Status) (p : Place) (m : Memory) (r : Walked) (m′ : Memory) (next : ℕ) : Type 0 where
-  pub wrote : Wrote (blockOwn T (b .span) (b .code) d (p .at) σ) p m (r .place) m′
+pub record BlockDone (T : Tables) (b : Block) (d : ℕ) (loop : Option ℕ) (σ : Scope Status) (p : Place) (m : Memory) (r : Walked) (m′ : Memory) (next : ℕ) : Type 0 where
+  pub wrote : Wrote (blockOwn T (b .span) (b .code) d loop (p .at) σ) p m (r .place) m′
   pub inserted : r .place .inserted ≡ p .inserted
   pub last : r .place .last ≡ p .last
   pub at : r .place .at ≡ next
@@ -55,14 +55,14 @@ pub record BlockDone (T : Tables) (b : Block) (d : ℕ) (σ : Scope Status) (p :
   pub sure : r .sure ≡ sureFrom (b .code) false
 
 -- a block of depth d with so much depth left
-pub record BlockWalks (T : Tables) (s : List ℕ) (left d : ℕ) (σ : Scope Status) (p : Place) (m : Memory) (r : Walked) (m′ : Memory) : Type 0 where
+pub record BlockWalks (T : Tables) (s : List ℕ) (left d : ℕ) (loop : Option ℕ) (σ : Scope Status) (p : Place) (m : Memory) (r : Walked) (m′ : Memory) : Type 0 where
   pub walks : (t : Reading) → t .exprDepth ≡ 24 → (b : Block) (next : ℕ) → blockAt t s left (p .at) ≡ ok b next
       → (r .fault ≡ numberOf (walkFault version1 T (b .code) d σ))
-      × (walkFault version1 T (b .code) d σ ≡ none → BlockDone T b d σ p m r m′ next)
+      × (walkFault version1 T (b .code) d σ ≡ none → BlockDone T b d loop σ p m r m′ next)
 
 -- The walk of statements of a block of depth d, total in all, has led from the first place to another, n statements before the end of
 -- the list, which ends at a position: what was stored, the statements c that are left, and what holds of these holds of all.
-pub record Leads (T : Tables) (s : List ℕ) (t : Reading) (left d total : ℕ) (c₀ : Tree) (σ₀ : Scope Status) (p₀ : Place) (m₀ : Memory)
+pub record Leads (T : Tables) (s : List ℕ) (t : Reading) (left d : ℕ) (loop : Option ℕ) (total : ℕ) (c₀ : Tree) (σ₀ : Scope Status) (p₀ : Place) (m₀ : Memory)
     (n : ℕ) (σ : Scope Status) (p : Place) (m : Memory) (end : ℕ) : Type 0 where
   pub c : Tree
   pub f : Bool
@@ -71,7 +71,7 @@ pub record Leads (T : Tables) (s : List ℕ) (t : Reading) (left d total : ℕ) 
   pub read : stmtsAt t s left n (p .at) ≡ ok c end
   pub wrote : Wrote o p₀ m₀ p m
   pub bytes : (sp : ℕ) → encodeCode (returned T c₀ sp d false σ₀) ≡ o .bytes ++ encodeCode (returned T c sp d f σ)
-  pub reports : report T c₀ d (p₀ .at) σ₀ ≡ o .reports ++ report T c d (p .at) σ
+  pub reports : report T c₀ d loop (p₀ .at) σ₀ ≡ o .reports ++ report T c d loop (p .at) σ
   pub fits : (sp : ℕ) → countsFit 65535 (returned T c₀ sp d false σ₀) ≡ (o .fits && countsFit 65535 (returned T c sp d f σ))
   pub size : (sp : ℕ) → size (returned T c₀ sp d false σ₀) + p₀ .inserted + n ≡ size (returned T c sp d f σ) + p .inserted + total
   pub fault : walkFault version1 T c₀ d σ₀ ≡ walkFault version1 T c d σ
@@ -81,22 +81,22 @@ pub record Leads (T : Tables) (s : List ℕ) (t : Reading) (left d total : ℕ) 
   pub last : n < total → (x : Stmt) × (e : ℕ) × (stmtIn t s left (p .last) ≡ ok x e) × (f ≡ sureFrom (before x (done tt)) false)
 
 -- so many statements of a block of depth d, whose own blocks have so much depth left
-pub record StmtsWalk (T : Tables) (s : List ℕ) (left d total : ℕ) (σ : Scope Status) (p : Place) (m : Memory) (r : Walked) (m′ : Memory) : Type 0 where
+pub record StmtsWalk (T : Tables) (s : List ℕ) (left d : ℕ) (loop : Option ℕ) (total : ℕ) (σ : Scope Status) (p : Place) (m : Memory) (r : Walked) (m′ : Memory) : Type 0 where
   pub walks : (t : Reading) → t .exprDepth ≡ 24 → (c : Tree) (end : ℕ) → stmtsAt t s left total (p .at) ≡ ok c end
       → (r .fault ≡ numberOf (walkFault version1 T c d σ))
-      × (walkFault version1 T c d σ ≡ none → Leads T s t left d total c σ p m 0 (r .locals) (r .place) m′ end)
+      × (walkFault version1 T c d σ ≡ none → Leads T s t left d loop total c σ p m 0 (r .locals) (r .place) m′ end)
 
 -- the blocks of the statement c of a block of depth d, without a fault
-pub record BlocksDone (T : Tables) (c : Tree) (d : ℕ) (σ : Scope Status) (p : Place) (m : Memory) (r : Walked) (m′ : Memory) (next : ℕ) : Type 0 where
-  pub wrote : Wrote (blocksOwn T c d (p .at) σ) p m (r .place) m′
+pub record BlocksDone (T : Tables) (c : Tree) (d : ℕ) (loop : Option ℕ) (σ : Scope Status) (p : Place) (m : Memory) (r : Walked) (m′ : Memory) (next : ℕ) : Type 0 where
+  pub wrote : Wrote (blocksOwn T c d loop (p .at) σ) p m (r .place) m′
   pub inserted : r .place .inserted ≡ p .inserted
   pub last : r .place .last ≡ p .last
   pub at : r .place .at ≡ next
   pub locals : r .locals ≡ blocksAfter T c d σ
 
-pub record BlocksWalk (T : Tables) (c : Tree) (d : ℕ) (σ : Scope Status) (p : Place) (m : Memory) (r : Walked) (m′ : Memory) (next : ℕ) : Type 0 where
+pub record BlocksWalk (T : Tables) (c : Tree) (d : ℕ) (loop : Option ℕ) (σ : Scope Status) (p : Place) (m : Memory) (r : Walked) (m′ : Memory) (next : ℕ) : Type 0 where
   pub fault : r .fault ≡ numberOf (blocksFault T c d σ)
-  pub done : blocksFault T c d σ ≡ none → BlocksDone T c d σ p m r m′ next
+  pub done : blocksFault T c d σ ≡ none → BlocksDone T c d loop σ p m r m′ next
 
 -- statements, the blocks of a statement of a tag were read there
 pub record StmtsThere (s : List ℕ) (left total at : ℕ) : Type 0 where
@@ -115,26 +115,26 @@ pub record TagThere (s : List ℕ) (left at tag : ℕ) : Type 0 where
   pub others : (tag ≡ 7 → ⊥) → BlockThere s left at
 
 -- the blocks of an IfElse, of a While, of a statement of a tag, whatever was read there
-pub record IfWalks (T : Tables) (s : List ℕ) (left d : ℕ) (σ : Scope Status) (p : Place) (m : Memory) (r : Walked) (m′ : Memory) : Type 0 where
+pub record IfWalks (T : Tables) (s : List ℕ) (left d : ℕ) (loop : Option ℕ) (σ : Scope Status) (p : Place) (m : Memory) (r : Walked) (m′ : Memory) : Type 0 where
   pub without : (t : Reading) → t .exprDepth ≡ 24 → (b : Block) (q : ℕ) → blockAt t s left (p .at) ≡ ok b q → getD s q 0 ≡ 0 → (sp : ℕ) (x : Expr) (c : Tree)
-      → BlocksWalk T (ifThen sp x (b .span) (b .code) c) d σ p m r m′ (q + 1)
+      → BlocksWalk T (ifThen sp x (b .span) (b .code) c) d loop σ p m r m′ (q + 1)
   pub with : (t : Reading) → t .exprDepth ≡ 24 → (b : Block) (q : ℕ) → blockAt t s left (p .at) ≡ ok b q → getD s q 0 ≡ 1
       → (u : Block) (next : ℕ) → blockAt t s left (q + 1) ≡ ok u next → (sp : ℕ) (x : Expr) (c : Tree)
-      → BlocksWalk T (ifElse sp x (b .span) (b .code) (u .span) (u .code) c) d σ p m r m′ next
+      → BlocksWalk T (ifElse sp x (b .span) (b .code) (u .span) (u .code) c) d loop σ p m r m′ next
 
-pub record LoopWalks (T : Tables) (s : List ℕ) (left d : ℕ) (σ : Scope Status) (p : Place) (m : Memory) (r : Walked) (m′ : Memory) : Type 0 where
+pub record LoopWalks (T : Tables) (s : List ℕ) (left d : ℕ) (loop : Option ℕ) (σ : Scope Status) (p : Place) (m : Memory) (r : Walked) (m′ : Memory) : Type 0 where
   pub walks : (t : Reading) → t .exprDepth ≡ 24 → (b : Block) (q : ℕ) → blockAt t s left (p .at) ≡ ok b q → (sp : ℕ) (x : Expr) (c : Tree)
-      → BlocksWalk T (while sp x (b .span) (b .code) c) d σ p m r m′ q
+      → BlocksWalk T (while sp x (b .span) (b .code) c) d loop σ p m r m′ q
 
-pub record TagWalks (T : Tables) (s : List ℕ) (left d tag : ℕ) (σ : Scope Status) (p : Place) (m : Memory) (r : Walked) (m′ : Memory) : Type 0 where
-  pub ifs : tag ≡ 7 → IfWalks T s left d σ p m r m′
-  pub loops : tag ≡ 8 → LoopWalks T s left d σ p m r m′
-  pub others : (tag ≡ 7 → ⊥) → (tag ≡ 8 → ⊥) → BlockWalks T s left (suc d) σ p m r m′
+pub record TagWalks (T : Tables) (s : List ℕ) (left d : ℕ) (loop : Option ℕ) (tag : ℕ) (σ : Scope Status) (p : Place) (m : Memory) (r : Walked) (m′ : Memory) : Type 0 where
+  pub ifs : tag ≡ 7 → IfWalks T s left d loop σ p m r m′
+  pub loops : tag ≡ 8 → LoopWalks T s left d loop σ p m r m′
+  pub others : (tag ≡ 7 → ⊥) → (tag ≡ 8 → ⊥) → BlockWalks T s left (suc d) loop σ p m r m′
 
 -- of whatever statements were read at the first place
-abbrev pub LeadsAll : Tables → List ℕ → ℕ → ℕ → ℕ → Scope Status → Place → Memory → ℕ → Scope Status → Place → Memory → Type 0
-LeadsAll T s left d total σ₀ p₀ m₀ n σ p m =
-    (t : Reading) → t .exprDepth ≡ 24 → (c : Tree) (end : ℕ) → stmtsAt t s left total (p₀ .at) ≡ ok c end → Leads T s t left d total c σ₀ p₀ m₀ n σ p m end
+abbrev pub LeadsAll : Tables → List ℕ → ℕ → ℕ → Option ℕ → ℕ → Scope Status → Place → Memory → ℕ → Scope Status → Place → Memory → Type 0
+LeadsAll T s left d loop total σ₀ p₀ m₀ n σ p m =
+    (t : Reading) → t .exprDepth ≡ 24 → (c : Tree) (end : ℕ) → stmtsAt t s left total (p₀ .at) ≡ ok c end → Leads T s t left d loop total c σ₀ p₀ m₀ n σ p m end
 
 -- whether a statement of a tag has blocks
 abbrev pub blocked : ℕ → Bool

@@ -1,9 +1,10 @@
 -- What the branches of a statement require, and what is left of both.
 use Prim.Native.Nat.{ℕ, _≤_, _<_}
 use mathlib.Core.Path.{_≡_}
-use mathlib.Core.Bool.{Bool, not, _&&_}
+use mathlib.Core.Bool.{Bool, cond, not, _&&_}
 use mathlib.Core.List.{List}
 use mathlib.Core.Logic.{_⊎_}
+use lib.Dec.{eqb}
 use lib.ListN.{length, getD}
 use Rattle.tables.specs.Limits.{version1}
 use Rattle.rules.specs.Rules.{states, joins, merge}
@@ -17,7 +18,11 @@ use Rattle.blocks_ends.specs.Ends.{placeIn, faultIn, sureIn}
 
 -- the numbers of a branch, whose rows stand behind those of n locals
 abbrev pub behindOf : Env → ℕ → Env
-behindOf env n = record { left = env .left; limit = env .limit; width = env .width; cur = rowOf (env .cur) (env .width) n }
+behindOf env n = record { left = env .left; limit = env .limit; width = env .width; cur = rowOf (env .cur) (env .width) n; base = env .base }
+
+-- those of a While's block, the body of the nearest loop, behind n locals; of another, as they are
+abbrev pub loopedOf : Env → ℕ → ℕ → Env
+loopedOf env tag n = cond (eqb tag 8) (record { left = env .left; limit = env .limit; width = env .width; cur = env .cur; base = n }) env
 
 -- rows that are the same below a place
 pub record Below (cur : ℕ) (rows new : List ℕ) : Type 0 where

@@ -7,7 +7,7 @@ ghost use lib.ListN.{length, getD};
 ghost use Rattle.scope_stack.specs.View.{rowOf, Known};
 ghost use Rattle.scope_rows.specs.Rows.{Copied, Copies};
 ghost use Rattle.blocks_ends.specs.Ends.{faultIn, sureIn};
-ghost use Rattle.blocks_merge.specs.Merges.{behindOf, Branches, MergesIn, MergesElse};
+ghost use Rattle.blocks_merge.specs.Merges.{behindOf, loopedOf, Branches, MergesIn, MergesElse};
 use blocks_ends::Env;
 use scope_stack::States;
 use scope_state::Kinds;
@@ -22,6 +22,23 @@ pub fn behind(env: Env, n: usize) -> Env
         limit: env.limit,
         width: env.width,
         cur: env.cur + n * (env.width + 1),
+        base: env.base,
+    }
+}
+
+// The numbers for the block of a statement of a tag behind n locals: a While's is the body of the nearest loop.
+pub fn in_loop(env: Env, tag: u8, n: usize) -> Env
+    ensures { λ r. ⌜ r ≡ loopedOf env tag n ⌝ }
+{
+    if tag != 8 {
+        return env;
+    }
+    Env {
+        left: env.left,
+        limit: env.limit,
+        width: env.width,
+        cur: env.cur,
+        base: n,
     }
 }
 

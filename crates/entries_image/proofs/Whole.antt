@@ -53,7 +53,7 @@ use Rattle.scope_stack.proofs.Scopes.{length-view, rowed-none, sound-of}
 use Rattle.scope_entered.specs.Entered.{EntryThere, Fresh, Enters as Entered}
 use Rattle.blocks_ends.specs.declared.Env.{Env}
 use Rattle.blocks_ends.specs.Ends.{placeIn, faultIn, walkedIn}
-use Rattle.blocks.specs.Blocks.{Enters, Comes, blockRows}
+use Rattle.blocks.specs.Blocks.{InLoop, Enters, Comes, blockRows}
 use Rattle.entries_image.specs.declared.Seen.{Seen}
 use Rattle.entries_image.specs.Images.{ImageThere, begins, Begins, bodyOwn, BodyWalks, ImageDone, ImageWalks, Closes, PageWalks, MeasuresIn}
 
@@ -101,11 +101,11 @@ module _ (s : List ℕ) (small : Bytes s) (i : Image) (e : decode version1 s ≡
       let b = length-append (encodeTables (i .tables)) (encodeEntry (i .entry)) in
       omega arith
 
-  same-reports : report (i .tables) (i .body .code) 1 (body + 6) σ ≡ reports i
-  same-reports = ap (λ k. report (i .tables) (i .body .code) 1 k σ) first-statement
+  same-reports : report (i .tables) (i .body .code) 1 none (body + 6) σ ≡ reports i
+  same-reports = ap (λ k. report (i .tables) (i .body .code) 1 none k σ) first-statement
 
   abbrev block′ : List ℕ
-  block′ = blockOwn (i .tables) (i .body .span) (i .body .code) 1 body σ .bytes
+  block′ = blockOwn (i .tables) (i .body .span) (i .body .code) 1 none body σ .bytes
 
   parts-are : head ++ block′ ≡ encodeParts version1 (returnedImage i)
   unfolding encodeBlock
@@ -142,15 +142,15 @@ module _ (s : List ℕ) (small : Bytes s) (i : Image) (e : decode version1 s ≡
 
   -- the walk of the body's block is that of the image
   module _ (τ : Scope Status) (v : τ ≡ σ) (few : length τ ≤ 64) (p : Place) (at : p .at ≡ body) (m m′ : Memory) (r : Walked) (left : ℕ) (el : left ≡ 12)
-      (w : BlockWalks (i .tables) s left (suc (12 - left)) τ p m r m′) where
+      (w : BlockWalks (i .tables) s left (suc (12 - left)) none τ p m r m′) where
     few-entered : length σ ≤ 64
     few-entered = subst (λ (υ : Scope Status). length υ ≤ 64) v few
 
     walked : (r .fault ≡ numberOf (walkFault version1 (i .tables) (i .body .code) 1 σ))
-        × (walkFault version1 (i .tables) (i .body .code) 1 σ ≡ none → BlockDone (i .tables) (i .body) 1 σ p m r m′ (length s))
+        × (walkFault version1 (i .tables) (i .body .code) 1 σ ≡ none → BlockDone (i .tables) (i .body) 1 none σ p m r m′ (length s))
     walked =
-        subst (λ (υ : Scope Status). BlockWalks (i .tables) s 12 1 υ p m r m′) v
-        (subst (λ k. BlockWalks (i .tables) s k (suc (12 - k)) τ p m r m′) el w) .walks _ refl (i .body) (length s)
+        subst (λ (υ : Scope Status). BlockWalks (i .tables) s 12 1 none υ p m r m′) v
+        (subst (λ k. BlockWalks (i .tables) s k (suc (12 - k)) none τ p m r m′) el w) .walks _ refl (i .body) (length s)
         (subst (λ k. blockAt (scopeIn version1 (i .tables .names) (i .tables .types)) s 12 k ≡ ok (i .body) (length s)) (sym at) block)
 
     pub image-fault : r .fault ≡ numberOf (imageFault version1 i)
@@ -180,7 +180,7 @@ module _ (s : List ℕ) (small : Bytes s) (i : Image) (e : decode version1 s ≡
         }
       where
         list-stored : (f : List Report → List Report) {xs xs₁ ys ys₁ : List ℕ} {k : ℕ} → xs₁ ≡ xs → ys ≡ ys₁
-            → Stored xs₁ 0 (entriesOf version1 (f (report (i .tables) (i .body .code) 1 (body + 6) σ))) ys₁ k → Stored xs 0 (listed f) ys k
+            → Stored xs₁ 0 (entriesOf version1 (f (report (i .tables) (i .body .code) 1 none (body + 6) σ))) ys₁ k → Stored xs 0 (listed f) ys k
         list-stored f {xs} {xs₁} {ys} {ys₁} {k} ex ey x =
             subst (λ zs. Stored xs 0 (listed f) zs k) (sym ey)
             (subst (λ zs. Stored zs 0 (listed f) ys₁ k) ex
@@ -247,6 +247,8 @@ module _ (s tb : List ℕ) (small : Bytes s) (env : Env) (entry body : ℕ) (h :
       width = h .width;
       sound = sound-of l t rows (env .cur) (env .width) (entered .kept) held (rowed-none (l .count) t rows (env .cur) (env .width) fresh) (λ T says. entered .drops T (h .lent) says);
       nested = subst (λ k. Nested (12 - k) (shape stack)) (sym (h .left)) (entered .nested t rows (env .cur) (env .width));
+      near = none;
+      looped = h .base;
     }
 
     pub there : BlockThere s (env .left) (q .at)
@@ -262,13 +264,13 @@ module _ (s tb : List ℕ) (small : Bytes s) (env : Env) (entry body : ℕ) (h :
 
     module _ (m m′ : Memory) (r : States) (rows′ pl′ : List ℕ)
         (c : Comes s tb (env .cur) (env .width) (blockRows (env .cur) (env .left)) l rows q r rows′ pl′)
-        (w : (T : Tables) → Says s tb T → (faultIn pl′ ≡ 254 → ⊥)
-        → BlockWalks T s (env .left) (suc (12 - env .left)) stack q m (walkedIn pl′ (view l r rows′ (env .cur) (env .width))) m′) where
+        (w : (T : Tables) → Says s tb T → (loop : Option ℕ) → InLoop loop (env .base) (suc (12 - env .left)) l → (faultIn pl′ ≡ 254 → ⊥)
+        → BlockWalks T s (env .left) (suc (12 - env .left)) loop stack q m (walkedIn pl′ (view l r rows′ (env .cur) (env .width))) m′) where
       abbrev W : Walked
       W = walkedIn pl′ (view l r rows′ (env .cur) (env .width))
 
       found : (faultIn pl′ ≡ 254 → ⊥) → faultIn pl′ ≡ numberOf (imageFault version1 (h .i))
-      found z = image-fault s small (h .i) (h .read) body (h .walked) stack locals-are few-locals-in q at-body m m′ W (env .left) (h .left) (w (h .i .tables) (h .says) z)
+      found z = image-fault s small (h .i) (h .read) body (h .walked) stack locals-are few-locals-in q at-body m m′ W (env .left) (h .left) (w (h .i .tables) (h .says) none (h .base) z)
 
       -- a fault is 254 or the walk's
       pub low-fault : faultIn pl′ < 256
@@ -278,7 +280,7 @@ module _ (s tb : List ℕ) (small : Bytes s) (env : Env) (entry body : ℕ) (h :
 
       wrote : (z : faultIn pl′ ≡ 254 → ⊥) → imageFault version1 (h .i) ≡ none → Wrote (bodyOwn (h .i) (p .at)) p m (placeIn pl′) m′
       wrote z f = subst (λ (x : Place). Wrote (bodyOwn (h .i) (x .at)) x m (placeIn pl′) m′) eq
-          (body-wrote s small (h .i) (h .read) body (h .walked) stack locals-are few-locals-in q at-body m m′ W (env .left) (h .left) (w (h .i .tables) (h .says) z) f)
+          (body-wrote s small (h .i) (h .read) body (h .walked) stack locals-are few-locals-in q at-body m m′ W (env .left) (h .left) (w (h .i .tables) (h .says) none (h .base) z) f)
 
       walks : (faultIn pl′ ≡ 254 → ⊥) → (i : Image) → decode version1 s ≡ accepted i
           → (faultIn pl′ ≡ numberOf (imageFault version1 i)) × (imageFault version1 i ≡ none → Wrote (bodyOwn i (p .at)) p m (placeIn pl′) m′)
@@ -296,7 +298,7 @@ module _ (s tb : List ℕ) (small : Bytes s) (env : Env) (entry body : ℕ) (h :
         lefts = λ e. bounded (λ (y : Place). y .lefts) e (c .grows e .lefts);
       })
         where
-          bounded : (f : Place → ℕ) → faultIn pl′ ≡ 0 → f (placeIn pl′) + 600 * q .at ≤ f q + 600 * placeIn pl′ .at → f (placeIn pl′) ≤ f p + 39321600
+          bounded : (f : Place → ℕ) → faultIn pl′ ≡ 0 → f (placeIn pl′) + 1000 * q .at ≤ f q + 1000 * placeIn pl′ .at → f (placeIn pl′) ≤ f p + 65536000
           bounded f e g =
               let a = c .within e .inside in
               let b = c .within e .small in
@@ -307,7 +309,7 @@ module _ (s tb : List ℕ) (small : Bytes s) (env : Env) (entry body : ℕ) (h :
 pub seen-as : {x : Seen} {f : ℕ} {p q : Place} → x ≡ record { fault = f; place = p } → p ≡ q → x ≡ record { fault = f; place = q }
 seen-as {x} {f} e h = e ∙ ap (λ (y : Place). record { fault = f; place = y }) h
 
-pub begins-at : {body written w l : ℕ} {b : Bool} {p : Place} → p ≡ begins body written w l b → written ≤ 120000000 → w ≤ 120000000 → l ≤ 120000000 → Begins body p
+pub begins-at : {body written w l : ℕ} {b : Bool} {p : Place} → p ≡ begins body written w l b → written ≤ 200000000 → w ≤ 200000000 → l ≤ 200000000 → Begins body p
 begins-at {body} {written} {w} {l} {b} {p} e x y z = subst (Begins body) (sym e) (record { is = refl; written = x; warnings = y; lefts = z })
 
 -- the end of the walk, with a fault and without

@@ -37,6 +37,7 @@ pub record ImageThere (s tb : List ℕ) (env : Env) (entry body : ℕ) : Type 0 
   pub limit : env .limit ≡ 64
   pub width : env .width ≡ 8
   pub cur : env .cur ≡ 0
+  pub base : env .base ≡ 64
   pub entered : entryAt version1 (length (i .tables .names)) (length (i .tables .types)) s entry ≡ ok (i .entry) body
   pub walked : blockAt (scopeIn version1 (i .tables .names) (i .tables .types)) s 12 body ≡ ok (i .body) (length s)
 
@@ -47,23 +48,23 @@ begins at written warnings lefts paged =
 
 pub record Begins (body : ℕ) (p : Place) : Type 0 where
   pub is : p ≡ begins body (p .written) (p .warnings) (p .lefts) (p .paged)
-  pub written : p .written ≤ 120000000
-  pub warnings : p .warnings ≤ 120000000
-  pub lefts : p .lefts ≤ 120000000
+  pub written : p .written ≤ 200000000
+  pub warnings : p .warnings ≤ 200000000
+  pub lefts : p .lefts ≤ 200000000
 
 -- what the body's block is given back as, and what is reported of it
 abbrev pub bodyOwn : Image → ℕ → Own
-bodyOwn i at = blockOwn (i .tables) (i .body .span) (i .body .code) 1 at (entered states (i .tables) (localsOf (i .entry)) [])
+bodyOwn i at = blockOwn (i .tables) (i .body .span) (i .body .code) 1 none at (entered states (i .tables) (localsOf (i .entry)) [])
 
 -- the walk of a body from its beginning, with so many rows; fault 254: there are fewer than an image may need
 pub record BodyWalks (s : List ℕ) (rows : ℕ) (p : Place) (m : Memory) (r : Seen) (m′ : Memory) : Type 0 where
   pub short : r .fault ≡ 254 → rows < 13248
   pub walks : (r .fault ≡ 254 → ⊥) → (i : Image) → decode version1 s ≡ accepted i
       → (r .fault ≡ numberOf (imageFault version1 i)) × (imageFault version1 i ≡ none → Wrote (bodyOwn i (p .at)) p m (r .place) m′)
-  pub written : r .fault ≡ 0 → r .place .written ≤ p .written + 39321600
-  pub errors : r .fault ≡ 0 → r .place .errors ≤ 39321600
-  pub warnings : r .fault ≡ 0 → r .place .warnings ≤ p .warnings + 39321600
-  pub lefts : r .fault ≡ 0 → r .place .lefts ≤ p .lefts + 39321600
+  pub written : r .fault ≡ 0 → r .place .written ≤ p .written + 65536000
+  pub errors : r .fault ≡ 0 → r .place .errors ≤ 65536000
+  pub warnings : r .fault ≡ 0 → r .place .warnings ≤ p .warnings + 65536000
+  pub lefts : r .fault ≡ 0 → r .place .lefts ≤ p .lefts + 65536000
 
 -- an image without a fault, walked into memory as far as that reaches
 pub record ImageDone (i : Image) (m : Memory) (p : Place) (m′ : Memory) : Type 0 where
@@ -96,7 +97,7 @@ pub record Measures (s : List ℕ) (paged : Bool) (r : Seen) : Type 0 where
   pub walks : (i : Image) → decode version1 s ≡ accepted i
       → (r .fault ≡ numberOf (imageFault version1 i)) × (imageFault version1 i ≡ none → (r .place .written ≡ length (encode version1 (returnedImage i)))
       × (paged ≡ true → cursorsAt (r .place) ≡ onwardAll (cursors 0 0 0) (reports i)))
-  pub few : r .fault ≡ 0 → (r .place .errors ≤ 39321600) × (r .place .warnings ≤ 39321600) × (r .place .lefts ≤ 39321600)
+  pub few : r .fault ≡ 0 → (r .place .errors ≤ 65536000) × (r .place .warnings ≤ 65536000) × (r .place .lefts ≤ 65536000)
 
 pub record MeasuresIn (s : List ℕ) (rows : ℕ) (paged : Bool) (r : Seen) : Type 0 where
   pub short : r .fault ≡ 254 → rows < 13248

@@ -128,7 +128,7 @@ pub fn page_image(
     warnings: usize,
     lefts: usize,
 ) -> Seen
-    requires { ⌜ ImageThere (now s) (now tb) env (read .entry) (read .body) × (length (now page) ≤ 120000000) × (warnings ≤ 120000000) × (lefts ≤ 120000000) ⌝ }
+    requires { ⌜ ImageThere (now s) (now tb) env (read .entry) (read .body) × (length (now page) ≤ 200000000) × (warnings ≤ 200000000) × (lefts ≤ 200000000) ⌝ }
     ensures { λ r. ⌜ PageWalks (now (s .entry)) (length (now (rows .entry))) (cursors 0 warnings lefts) (now (page .entry)) r (now (page .exit)) ⌝ }
 {
     let mut told = [0u32; 0];

@@ -30,7 +30,7 @@ fn write_page(
     warnings: usize,
     lefts: usize,
 )
-    requires { ⌜ ImageThere (now s) (now tb) env (read .entry) (read .body) × (length (now page) ≤ 120000000) × (warnings ≤ 120000000) × (lefts ≤ 120000000) ⌝ }
+    requires { ⌜ ImageThere (now s) (now tb) env (read .entry) (read .body) × (length (now page) ≤ 200000000) × (warnings ≤ 200000000) × (lefts ≤ 200000000) ⌝ }
     ensures { λ r. ⌜ ((i : Image) → decode version1 (now (s .entry)) ≡ accepted i → imageFault version1 i ≡ none
         → now (page .exit) ≡ lined (cursors 0 warnings lefts) (reports i) (now (page .entry))) ⌝ }
 {

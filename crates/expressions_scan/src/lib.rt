@@ -44,6 +44,7 @@ pub struct Env {
     pub left: usize,
     pub locals: usize,
     pub mark: u64,
+    pub base: usize,
     pub cur: usize,
     pub width: usize,
 }

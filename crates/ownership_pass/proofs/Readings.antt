@@ -44,7 +44,7 @@ module _ (s tb : List ℕ) (r : ImageRead) (g : Reads s tb r) (z : 0 < r .fault 
   abbrev laid : Laid s (found .0) tb r
   laid = g .laid (found .0) (found .1)
 
-  pub image-there : (env : Env) → env ≡ record { left = 12; limit = 64; width = 8; cur = 0 } → ImageThere s tb env (r .entry) (r .body)
+  pub image-there : (env : Env) → env ≡ record { left = 12; limit = 64; width = 8; cur = 0; base = 64 } → ImageThere s tb env (r .entry) (r .body)
   image-there env e = record {
     i = found .0;
     read = found .1;
@@ -54,6 +54,7 @@ module _ (s tb : List ℕ) (r : ImageRead) (g : Reads s tb r) (z : 0 < r .fault 
     limit = ap (λ (x : Env). x .limit) e;
     width = ap (λ (x : Env). x .width) e;
     cur = ap (λ (x : Env). x .cur) e;
+    base = ap (λ (x : Env). x .base) e;
     entered = laid .entry;
     walked = laid .body;
   }

@@ -17,13 +17,14 @@ pub enum Answer {
 
 // The numbers that a walk begins with: 12 blocks deep, 64 locals, 8 places, and rows from the first on.
 fn first_env() -> Env
-    ensures { λ r. ⌜ r ≡ record { left = 12; limit = 64; width = 8; cur = 0 } ⌝ }
+    ensures { λ r. ⌜ r ≡ record { left = 12; limit = 64; width = 8; cur = 0; base = 64 } ⌝ }
 {
     Env {
         left: 12,
         limit: 64,
         width: 8,
         cur: 0,
+        base: 64,
     }
 }
 

@@ -17,9 +17,9 @@ use Rattle.rules.specs.Expr.{called}
 use Rattle.rules.specs.Questions.{auto, isTempOf, isMoveOf, consumes, globalIn}
 use Rattle.rules.specs.Stack.{Local, local}
 use Rattle.rules.specs.Effects.{takes, handed, finish, effects, exprStmtEffects, takeOver, assignEffects, assignTakes}
-use Rattle.rules.specs.Rules.{dropOf, localsOf, PlainBody, decideBody}
+use Rattle.rules.specs.Rules.{dropOf, localsOf, PlainBody, decideBody, atEnd, atReturn, atAssign}
 use Rattle.rules.specs.Report.{flatten}
-use Rattle.rules.specs.Run.{Moment, Reached, start, next, into, atEnd, atReturn, atAssign, Demand3}
+use Rattle.rules.specs.Run.{Moment, Reached, start, next, into, Demand3}
 use Rattle.rules.proofs.Count.{after, after-steps}
 use Rattle.rules.proofs.Project.{demand3}
 

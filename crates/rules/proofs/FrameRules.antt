@@ -5,7 +5,7 @@ use mathlib.Core.Bool.{Bool, true, false, not, _&&_, cond}
 use mathlib.Core.List.{List, [], _∷_, _++_}
 use mathlib.Core.Option.{Option, none, some}
 use lib.ListN.{length}
-use lib.Dec.{eqb}
+use lib.Dec.{eqb, leb}
 use Rattle.tables.specs.Signature.{Param, Entry}
 use Rattle.tables.specs.Tables.{Tables}
 use Rattle.image_body.specs.Expr.{Expr}
@@ -215,6 +215,12 @@ module _ (T : Tables) where
   scopeDrops n [] = []
   scopeDrops n (frame ls m ∷ fs) = frameDrops (λ k. not (excludes n k)) 0 m ls ++ scopeDrops n fs
 
+  -- the frames from the innermost out to the one with l frames outside it, the body of the nearest loop (02, c)
+  abbrev pub loopFrames : Option ℕ → Frames → List Drop
+  loopFrames none fs = []
+  loopFrames (some l) [] = []
+  loopFrames (some l) (frame ls m ∷ fs) = cond (leb l (length fs)) (frameDrops (λ k. true) 0 m ls ++ loopFrames (some l) fs) []
+
   -- transform_block's tail_drops: scope_stack.last(), with the block's span
   abbrev pub lastDrops : ℕ → Frames → List Drop
   lastDrops p [] = []
@@ -271,6 +277,19 @@ module _ (T : Tables) where
       exitFrames r (mergeFrames false false (evaluateFrames e fs) (exitFrames t (push (evaluateFrames e fs))) none)
   exitFrames (jump k s r) fs = exitFrames r fs
 
+  -- behind an if with an else, an if without one, and a loop
+  module _ {X Y : Type 0} (e : Expr) where
+    abbrev pub behindIfFrames : Code X Y → Code X Y → Frames → Frames
+    behindIfFrames t u fs =
+        mergeFrames (sureFrom t false) (sureFrom u false) (evaluateFrames e fs) (exitFrames t (push (evaluateFrames e fs)))
+        (some (exitFrames u (push (evaluateFrames e fs))))
+
+    abbrev pub behindThenFrames : Code X Y → Frames → Frames
+    behindThenFrames t fs = mergeFrames (sureFrom t false) false (evaluateFrames e fs) (exitFrames t (push (evaluateFrames e fs))) none
+
+    abbrev pub behindLoopFrames : Code X Y → Frames → Frames
+    behindLoopFrames t fs = mergeFrames false false (evaluateFrames e fs) (exitFrames t (push (evaluateFrames e fs))) none
+
   -- transform_block: the decisions. p is the block's span, f whether the statement before surely returns
   abbrev pub decideFrames : Tree → ℕ → Bool → Frames → Decided
   decideFrames (done x) p f fs = done (cond f [] (lastDrops p fs))
@@ -284,50 +303,45 @@ module _ (T : Tables) where
   decideFrames (block s c r) p f fs = block s (decideFrames c s false (push fs)) (decideFrames r p (sureFrom c false) (exitFrames c (push fs)))
   decideFrames (ifElse s e ts t us u r) p f fs =
       ifElse s e ts (decideFrames t ts false (push (evaluateFrames e fs))) us (decideFrames u us false (push (evaluateFrames e fs)))
-      (decideFrames r p (sureFrom t false && sureFrom u false)
-      (mergeFrames (sureFrom t false) (sureFrom u false) (evaluateFrames e fs) (exitFrames t (push (evaluateFrames e fs)))
-      (some (exitFrames u (push (evaluateFrames e fs))))))
+      (decideFrames r p (sureFrom t false && sureFrom u false) (behindIfFrames e t u fs))
   decideFrames (ifThen s e ts t r) p f fs =
       ifThen s e ts (decideFrames t ts false (push (evaluateFrames e fs)))
-      (decideFrames r p false (mergeFrames (sureFrom t false) false (evaluateFrames e fs) (exitFrames t (push (evaluateFrames e fs))) none))
+      (decideFrames r p false (behindThenFrames e t fs))
   decideFrames (while s e ts t r) p f fs =
       while s e ts (decideFrames t ts false (push (evaluateFrames e fs)))
-      (decideFrames r p false (mergeFrames false false (evaluateFrames e fs) (exitFrames t (push (evaluateFrames e fs))) none))
+      (decideFrames r p false (behindLoopFrames e t fs))
   decideFrames (jump k s r) p f fs = jump k s (decideFrames r p false fs)
 
-  -- transform_block: what is reported of the statements that stand at a position, in walking order
-  abbrev pub reportFrames : Tree → ℕ → Frames → List Report
-  reportFrames (done x) at fs = []
-  reportFrames (exprStmt s e y r) at fs =
+  -- transform_block: what is reported of the statements that stand at a position, in walking order; l is how many frames are outside
+  -- the body of the nearest loop, if they are in a loop
+  abbrev pub reportFrames : Tree → Option ℕ → ℕ → Frames → List Report
+  reportFrames (done x) l at fs = []
+  reportFrames (exprStmt s e y r) l at fs =
       reportAllFrames (exprStmtEffects T (shapeOf fs) e) fs
-      ++ (unused (auto T (tyOf e) && isCall (view e)) s e at ++ reportFrames r (at + 5 + exprBytes e) (afterExprFrames e fs))
-  reportFrames (variable k s n t e r) at fs =
-      reportAllFrames (effects T (shapeOf fs) e) fs ++ reportFrames r (at + 9 + exprBytes e) (afterVariableFrames n t e fs)
-  reportFrames (assign s e v t x r) at fs =
+      ++ (unused (auto T (tyOf e) && isCall (view e)) s e at ++ reportFrames r l (at + 5 + exprBytes e) (afterExprFrames e fs))
+  reportFrames (variable k s n t e r) l at fs =
+      reportAllFrames (effects T (shapeOf fs) e) fs ++ reportFrames r l (at + 9 + exprBytes e) (afterVariableFrames n t e fs)
+  reportFrames (assign s e v t x r) l at fs =
       reportAllFrames (assignEffects T (shapeOf fs) e v) fs
-      ++ reportFrames r (at + 7 + exprBytes e + exprBytes v) (afterAssignFrames e v (beforeAssignFrames e v fs))
-  reportFrames (return s e t x r) at fs =
-      reportAllFrames (effects T (shapeOf fs) e) fs ++ reportFrames r (at + 8 + exprBytes e) (evaluateFrames e fs)
-  reportFrames (bareReturn s t r) at fs = leftBehind s (scopeDrops nobody fs) ++ reportFrames r (at + 8) fs
-  reportFrames (block s c r) at fs = reportFrames c (at + 7) (push fs) ++ reportFrames r (at + 7 + codeBytes c) (exitFrames c (push fs))
-  reportFrames (ifElse s e ts t us u r) at fs =
+      ++ reportFrames r l (at + 7 + exprBytes e + exprBytes v) (afterAssignFrames e v (beforeAssignFrames e v fs))
+  reportFrames (return s e t x r) l at fs =
+      reportAllFrames (effects T (shapeOf fs) e) fs ++ reportFrames r l (at + 8 + exprBytes e) (evaluateFrames e fs)
+  reportFrames (bareReturn s t r) l at fs = leftBehind s (scopeDrops nobody fs) ++ reportFrames r l (at + 8) fs
+  reportFrames (block s c r) l at fs = reportFrames c l (at + 7) (push fs) ++ reportFrames r l (at + 7 + codeBytes c) (exitFrames c (push fs))
+  reportFrames (ifElse s e ts t us u r) l at fs =
       reportAllFrames (effects T (shapeOf fs) e) fs
-      ++ (reportFrames t (at + 11 + exprBytes e) (push (evaluateFrames e fs))
-      ++ (reportFrames u (at + 18 + exprBytes e + codeBytes t) (push (evaluateFrames e fs))
-      ++ reportFrames r (at + 18 + exprBytes e + codeBytes t + codeBytes u)
-      (mergeFrames (sureFrom t false) (sureFrom u false) (evaluateFrames e fs) (exitFrames t (push (evaluateFrames e fs)))
-      (some (exitFrames u (push (evaluateFrames e fs)))))))
-  reportFrames (ifThen s e ts t r) at fs =
+      ++ (reportFrames t l (at + 11 + exprBytes e) (push (evaluateFrames e fs))
+      ++ (reportFrames u l (at + 18 + exprBytes e + codeBytes t) (push (evaluateFrames e fs))
+      ++ reportFrames r l (at + 18 + exprBytes e + codeBytes t + codeBytes u) (behindIfFrames e t u fs)))
+  reportFrames (ifThen s e ts t r) l at fs =
       reportAllFrames (effects T (shapeOf fs) e) fs
-      ++ (reportFrames t (at + 11 + exprBytes e) (push (evaluateFrames e fs))
-      ++ reportFrames r (at + 12 + exprBytes e + codeBytes t)
-      (mergeFrames (sureFrom t false) false (evaluateFrames e fs) (exitFrames t (push (evaluateFrames e fs))) none))
-  reportFrames (while s e ts t r) at fs =
+      ++ (reportFrames t l (at + 11 + exprBytes e) (push (evaluateFrames e fs))
+      ++ reportFrames r l (at + 12 + exprBytes e + codeBytes t) (behindThenFrames e t fs))
+  reportFrames (while s e ts t r) l at fs =
       reportAllFrames (effects T (shapeOf fs) e) fs
-      ++ (reportFrames t (at + 11 + exprBytes e) (push (evaluateFrames e fs))
-      ++ reportFrames r (at + 11 + exprBytes e + codeBytes t)
-      (mergeFrames false false (evaluateFrames e fs) (exitFrames t (push (evaluateFrames e fs))) none))
-  reportFrames (jump k s r) at fs = reportFrames r (at + 5) fs
+      ++ (reportFrames t (some (length fs)) (at + 11 + exprBytes e) (push (evaluateFrames e fs))
+      ++ reportFrames r l (at + 11 + exprBytes e + codeBytes t) (behindLoopFrames e t fs))
+  reportFrames (jump k s r) l at fs = leftBehind s (loopFrames l fs) ++ reportFrames r l (at + 5) fs
 
 -- run_ownership_for_method_body, run_ownership_for_body: from vec![ScopeFrame::default()]
 abbrev pub decideBodyFrames : Tables → Entry → Block → Decided
@@ -335,4 +349,4 @@ decideBodyFrames T x b = decideFrames T (b .code) (b .span) false (push (entered
 
 -- what is reported of an image
 abbrev pub reportsFrames : Image → List Report
-reportsFrames i = reportFrames (i .tables) (i .body .code) (bodyStart i) (push (enteredFrames (localsOf (i .entry)) (push [])))
+reportsFrames i = reportFrames (i .tables) (i .body .code) none (bodyStart i) (push (enteredFrames (localsOf (i .entry)) (push [])))

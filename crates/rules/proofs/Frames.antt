@@ -8,7 +8,7 @@ use mathlib.Core.List.{List, [], _∷_, _++_, append-nil}
 use mathlib.Core.Option.{Option, none, some}
 use mathlib.Core.Logic.{_⊎_, inl, inr}
 use lib.ListN.{length}
-use lib.Dec.{eqb, T as So, eqb→eq}
+use lib.Dec.{eqb, leb, T as So, eqb→eq, leb→le, le→leb}
 use Rattle.tables.specs.Signature.{Param, Entry}
 use Rattle.tables.specs.Tables.{Tables}
 use Rattle.image_body.specs.Expr.{Expr}
@@ -21,10 +21,10 @@ use Rattle.rules.specs.Expr.{Named, nobody, called, view, identIn, nameI
 use Rattle.rules.specs.Stack.{Static, Local, local, Stack, Shape, shape, inFrame, mark, lookup, pop, has, staticOf}
 use Rattle.rules.specs.State.{deleted, moved, consumed, State, alive, gone, isAlive, handState}
 use Rattle.rules.specs.Effects.{Effect, use′, kill, hand, badMove, globalMove, effects, exprStmtEffects, takeOver, assignEffects, assignTakes, handName}
-use Rattle.rules.specs.Rules.{Drop, dropOf, states, sureFrom, excludes, localsOf, apply, applyAll, doing, revived, register, merge, collect, tailDrops, returnDrops, dropNewest, dropNamed, assignDrops, evaluate, afterExpr, afterVariable, beforeAssign, afterAssign, exit, decide, entered, decideBody}
+use Rattle.rules.specs.Rules.{Drop, dropOf, states, sureFrom, excludes, atJump, concerns, localsOf, apply, applyAll, doing, revived, register, merge, collect, tailDrops, returnDrops, loopDrops, dropNewest, dropNamed, assignDrops, evaluate, afterExpr, afterVariable, beforeAssign, afterAssign, exit, decide, entered, decideBody}
 use Rattle.rules.specs.Report.{useOf, reportOf, reportAll, unused, leftBehind, exprBytes, codeBytes, report, bodyStart, reports}
-use Rattle.rules.proofs.FrameRules.{handLocal, useFrames, reportFrame, reportAllFrames, reportFrames, reportsFrames, Var, States, insert, isSome, isLive, Frame, frame, Frames, push, popFrame, registerLocal, enteredFrames, orElse, newest, findLocal, findState, markAs, markDeleted, markMoved, markConsumed, markAlive, moveIf, handTemp, mergeState, mergeName, frameAt, elseAt, getIn, mergeFrame, mergeFrames, numbered, shapeOf, applyFrames, applyAllFrames, doingFrames, frameDrops, scopeDrops, lastDrops, preDrop, preDeleteName, preDeleteNamed, preDelete, evaluateFrames, afterExprFrames, afterVariableFrames, beforeAssignFrames, afterAssignFrames, exitFrames, decideFrames, decideBodyFrames}
-use Rattle.rules.proofs.Bools.{no≡, of≡, eqb-self}
+use Rattle.rules.proofs.FrameRules.{handLocal, useFrames, reportFrame, reportAllFrames, reportFrames, reportsFrames, Var, States, insert, isSome, isLive, Frame, frame, Frames, push, popFrame, registerLocal, enteredFrames, orElse, newest, findLocal, findState, markAs, markDeleted, markMoved, markConsumed, markAlive, moveIf, handTemp, mergeState, mergeName, frameAt, elseAt, getIn, mergeFrame, mergeFrames, numbered, shapeOf, applyFrames, applyAllFrames, doingFrames, frameDrops, scopeDrops, loopFrames, lastDrops, preDrop, preDeleteName, preDeleteNamed, preDelete, evaluateFrames, afterExprFrames, afterVariableFrames, beforeAssignFrames, afterAssignFrames, exitFrames, decideFrames, decideBodyFrames}
+use Rattle.rules.proofs.Bools.{no≡, of≡, of-false, eqb-self}
 
 -- has one of a frame's locals the name
 abbrev pub named : ℕ → List Var → Bool
@@ -58,6 +58,9 @@ eqb-comm m n = by-case (eqb m n) refl
 
 same : (m n : ℕ) → eqb m n ≡ true → m ≡ n
 same m n e = eqb→eq m n (of≡ (eqb m n) e)
+
+le-cases : (l d : ℕ) → (So (leb l d) → ⊥) → suc d ≤ l
+le-cases l d f = let n : l ≤ d → ⊥ = λ h. f (le→leb l d h) in omega (arith, n)
 
 and-false : (a b : Bool) → b ≡ false → (a && b) ≡ false
 and-false true b e = e
@@ -362,6 +365,36 @@ module _ (T : Tables) where
   agree-return n (framed {m = m} {ls = ls} g o q) =
       ap (λ (ds : List Drop). frameDrops T (λ k. not (excludes n k)) 0 m ls ++ ds) (agree-return n g)
       ∙ over-drops (λ s. not (excludes n (s .name))) (λ k. not (excludes n k)) 0 (λ j t. refl) o
+
+  none-in : (p : ℕ) (m : States) (ls : List Var) → frameDrops T (λ k. false) p m ls ≡ []
+  none-in p m [] = refl
+  none-in p m (v ∷ ls) = none-in p m ls
+
+  no-loop : (p : ℕ) (σ : Stack State) → collect states T (λ s. false) p σ ≡ []
+  no-loop p [] = refl
+  no-loop p (local s a ∷ σ) = no-loop p σ
+
+  -- frames outside the loop's body
+  outside-loop : {k : ℕ} {fs : Frames} {σ : Stack State} (l : ℕ) → k ≤ l → Agree k fs σ → loopDrops states T (some l) σ ≡ []
+  outside-loop l h nothing = refl
+  outside-loop l h (framed {d} {m} {ls} {fs} {τ} g o q) =
+      let e : leb l d ≡ false = no≡ (leb l d) (λ t. let z : l ≤ d = leb→le l d t in omega arith) in
+      sym (over-drops (λ s. concerns (atJump (some l)) s) (λ k. false) 0 (λ n t. sym e) o)
+      ∙ (ap (λ (ds : List Drop). ds ++ loopDrops states T (some l) τ) (none-in 0 m ls) ∙ outside-loop l (omega arith) g)
+
+  -- what a Break or Continue leaves behind
+  pub agree-loop : {k : ℕ} {fs : Frames} {σ : Stack State} (l : Option ℕ) → Agree k fs σ → loopFrames T l fs ≡ loopDrops states T l σ
+  agree-loop {σ = σ} none g = sym (no-loop 0 σ)
+  agree-loop (some l) nothing = refl
+  agree-loop (some l) (framed {d} {m} {ls} {fs} {τ} {σ} g o q) =
+      ap (λ (j : ℕ). cond (leb l j) (frameDrops T (λ k. true) 0 m ls ++ loopFrames T (some l) fs) []) (agree-length g)
+      ∙ split (leb l d) refl (agree-loop (some l) g)
+    where
+      split : (c : Bool) → leb l d ≡ c → loopFrames T (some l) fs ≡ loopDrops states T (some l) τ
+          → cond c (frameDrops T (λ k. true) 0 m ls ++ loopFrames T (some l) fs) [] ≡ loopDrops states T (some l) σ
+      split true e r =
+          ap (λ (ds : List Drop). frameDrops T (λ k. true) 0 m ls ++ ds) r ∙ over-drops (λ s. concerns (atJump (some l)) s) (λ k. true) 0 (λ n t. sym e) o
+      split false e r = sym (outside-loop l (le-cases l d (of-false (leb l d) e)) (framed g o q))
 
   free-drops : (d p : ℕ) (σ : Stack State) → Free d σ → tailDrops states T d p σ ≡ []
   free-drops d p [] t = refl
@@ -761,52 +794,55 @@ module _ (T : Tables) where
   decide-agrees (jump k s r) p f g = ap (jump k s) (decide-agrees r p false g)
 
   -- every tree: the reports are the same
-  pub report-agrees : {d : ℕ} {fs : Frames} {σ : Stack State} (c : Tree) (at : ℕ) → Agree (suc d) fs σ → reportFrames T c at fs ≡ report T c d at σ
-  report-agrees (done x) at g = refl
-  report-agrees (exprStmt s e y r) at g =
-      let a = agree-use (λ Γ. exprStmtEffects T Γ e) g in let q = report-agrees r (at + 5 + exprBytes e) (agree-expr e g) in
+  pub report-agrees : {d : ℕ} {fs : Frames} {σ : Stack State} (c : Tree) (l : Option ℕ) (at : ℕ) → Agree (suc d) fs σ → reportFrames T c l at fs ≡ report T c d l at σ
+  report-agrees (done x) l at g = refl
+  report-agrees (exprStmt s e y r) l at g =
+      let a = agree-use (λ Γ. exprStmtEffects T Γ e) g in let q = report-agrees r l (at + 5 + exprBytes e) (agree-expr e g) in
       λ i. a i ++ (unused (auto T (tyOf e) && isCall (view e)) s e at ++ q i)
-  report-agrees (variable k s n t e r) at g =
-      let a = agree-use (λ Γ. effects T Γ e) g in let q = report-agrees r (at + 9 + exprBytes e) (agree-variable n t e g) in
+  report-agrees (variable k s n t e r) l at g =
+      let a = agree-use (λ Γ. effects T Γ e) g in let q = report-agrees r l (at + 9 + exprBytes e) (agree-variable n t e g) in
       λ i. a i ++ q i
-  report-agrees (assign s e v t x r) at g =
+  report-agrees (assign s e v t x r) l at g =
       let a = agree-use (λ Γ. assignEffects T Γ e v) g in
-      let q = report-agrees r (at + 7 + exprBytes e + exprBytes v) (agree-after e v (agree-before e v g)) in
+      let q = report-agrees r l (at + 7 + exprBytes e + exprBytes v) (agree-after e v (agree-before e v g)) in
       λ i. a i ++ q i
-  report-agrees (return s e t x r) at g =
-      let a = agree-use (λ Γ. effects T Γ e) g in let q = report-agrees r (at + 8 + exprBytes e) (agree-evaluate e g) in
+  report-agrees (return s e t x r) l at g =
+      let a = agree-use (λ Γ. effects T Γ e) g in let q = report-agrees r l (at + 8 + exprBytes e) (agree-evaluate e g) in
       λ i. a i ++ q i
-  report-agrees (bareReturn s t r) at g =
-      let q = report-agrees r (at + 8) g in
+  report-agrees (bareReturn s t r) l at g =
+      let q = report-agrees r l (at + 8) g in
       λ i. leftBehind s (agree-return T nobody g i) ++ q i
-  report-agrees (block s c r) at g =
-      let a = report-agrees c (at + 7) (agree-push g) in let q = report-agrees r (at + 7 + codeBytes c) (walk-agrees c (agree-push g)) in
+  report-agrees (block s c r) l at g =
+      let a = report-agrees c l (at + 7) (agree-push g) in let q = report-agrees r l (at + 7 + codeBytes c) (walk-agrees c (agree-push g)) in
       λ i. a i ++ q i
-  report-agrees {fs = fs} (ifElse s e ts t us u r) at g =
+  report-agrees {fs = fs} (ifElse s e ts t us u r) l at g =
       let g′ = agree-evaluate e g in
       let gs = evaluateFrames T e fs in
       let o = agree-use (λ Γ. effects T Γ e) g in
-      let a = report-agrees t (at + 11 + exprBytes e) (agree-push g′) in
-      let b = report-agrees u (at + 18 + exprBytes e + codeBytes t) (agree-push g′) in
-      let q = report-agrees r (at + 18 + exprBytes e + codeBytes t + codeBytes u)
+      let a = report-agrees t l (at + 11 + exprBytes e) (agree-push g′) in
+      let b = report-agrees u l (at + 18 + exprBytes e + codeBytes t) (agree-push g′) in
+      let q = report-agrees r l (at + 18 + exprBytes e + codeBytes t + codeBytes u)
       (agree-merge (sureFrom t false) (sureFrom u false) (sym (layout-exit t (push gs))) (sym (layout-exit u (push gs))) g′
       (walk-agrees t (agree-push g′)) (walk-agrees u (agree-push g′))) in
       λ i. o i ++ (a i ++ (b i ++ q i))
-  report-agrees {fs = fs} (ifThen s e ts t r) at g =
+  report-agrees {fs = fs} (ifThen s e ts t r) l at g =
       let g′ = agree-evaluate e g in
       let o = agree-use (λ Γ. effects T Γ e) g in
-      let a = report-agrees t (at + 11 + exprBytes e) (agree-push g′) in
-      let q = report-agrees r (at + 12 + exprBytes e + codeBytes t)
+      let a = report-agrees t l (at + 11 + exprBytes e) (agree-push g′) in
+      let q = report-agrees r l (at + 12 + exprBytes e + codeBytes t)
       (agree-merge-then (sureFrom t false) false (sym (layout-exit t (push (evaluateFrames T e fs)))) g′ (walk-agrees t (agree-push g′))) in
       λ i. o i ++ (a i ++ q i)
-  report-agrees {fs = fs} (while s e ts t r) at g =
+  report-agrees {d = d} {fs = fs} (while s e ts t r) l at g =
       let g′ = agree-evaluate e g in
       let o = agree-use (λ Γ. effects T Γ e) g in
-      let a = report-agrees t (at + 11 + exprBytes e) (agree-push g′) in
-      let q = report-agrees r (at + 11 + exprBytes e + codeBytes t)
+      let j = ap (λ (k : ℕ). reportFrames T t (some k) (at + 11 + exprBytes e) (push (evaluateFrames T e fs))) (agree-length g) in
+      let a = j ∙ report-agrees t (some (suc d)) (at + 11 + exprBytes e) (agree-push g′) in
+      let q = report-agrees r l (at + 11 + exprBytes e + codeBytes t)
       (agree-merge-then false false (sym (layout-exit t (push (evaluateFrames T e fs)))) g′ (walk-agrees t (agree-push g′))) in
       λ i. o i ++ (a i ++ q i)
-  report-agrees (jump k s r) at g = report-agrees r (at + 5) g
+  report-agrees (jump k s r) l at g =
+      let q = report-agrees r l (at + 5) g in
+      λ i. leftBehind s (agree-loop T l g i) ++ q i
 
 -- every body: on mod.rs's frames the rules decide what they decide on the flat stack
 pub body-agrees : (T : Tables) (x : Entry) (b : Block) → decideBodyFrames T x b ≡ decideBody T x b
@@ -815,7 +851,7 @@ body-agrees T x b = decide-agrees T (b .code) (b .span) false (agree-push (agree
 -- every image: on mod.rs's frames the rules report what they report on the flat stack
 pub reports-agree : (i : Image) → reportsFrames i ≡ reports i
 reports-agree i =
-    report-agrees (i .tables) (i .body .code) (bodyStart i) (agree-push (agree-entered (i .tables) (localsOf (i .entry)) (agree-push nothing)))
+    report-agrees (i .tables) (i .body .code) none (bodyStart i) (agree-push (agree-entered (i .tables) (localsOf (i .entry)) (agree-push nothing)))
 
 -- The whole: of every image the rules give the same decisions and the same reports on mod.rs's frames and on the flat stack. Its steps: agree-local,
 -- agree-state, agree-deleted, agree-moved, agree-consumed, agree-revived, agree-hand, agree-register, agree-push, agree-pop, agree-merge, agree-merge-then, agree-return,

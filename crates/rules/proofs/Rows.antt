@@ -1,9 +1,10 @@
--- K1 to K12 of document 01 as rows of one table: a body, and what the pass gives for it.
+-- K1 to K12 of document 01, and what a Break or Continue leaves behind (02, c), as rows of tables: a body, and what the pass gives for it.
 -- Assumes nothing.
 use Prim.Native.Nat.{ℕ}
 use mathlib.Core.Path.{_≡_, refl}
 use mathlib.Core.Bool.{true, false}
 use mathlib.Core.List.{List, [], _∷_, map}
+use mathlib.Core.Option.{Option}
 use Rattle.image_fields.specs.Table.{member}
 use Rattle.tables.specs.Name.{sameBytes, startsWith}
 use Rattle.tables.specs.Signature.{Param}
@@ -41,7 +42,7 @@ statesOf (local s a ∷ σ) = a ∷ statesOf σ
 abbrev pub answer : Row → Row
 answer r =
     row (r .params) (r .body) (flatten (decideIn states tables (r .params) 10 (r .body)))
-    (report tables (r .body) 1 100 (entered states tables (r .params) []))
+    (report tables (r .body) 1 Option.none 100 (entered states tables (r .params) []))
     (statesOf (exit states tables (r .body) 1 (entered states tables (r .params) [])))
 
 abbrev v : ℕ → Expr
@@ -179,3 +180,41 @@ further =
 pub other-corners : map answer further ≡ further
 unfolding member sameBytes startsWith firstFrom andThen orElse inside structNamed structShaped structOfGeneric structOfTy structOf hasDestructor shouldAutoDelete classOfTy classOf modifierIn modifierOf isConsuming globalOf countWidth through auto isTempOf isMoveOf consumes globalIn takes handed finish effects exprStmtEffects takeOver assignEffects assignTakes calleeAt
 other-corners = refl
+
+-- let n: T
+abbrev new : ℕ → ℕ → Tree → Tree
+new s n c = variable false s n 1 literal c
+
+-- What a Break or Continue leaves behind (02, c)
+abbrev pub leaving : List Row
+leaving =
+    -- outside any loop nothing, though a bare return would leave `v` behind
+    row (param 2 ∷ []) (new 21 1 (jump false 22 (jump true 23 end))) (new 21 1 (jump false 22 (jump true 23 (deletion 10 1 end)))) [] (alive ∷ [])
+    -- in a loop the loop's body and what is inside it, newest first; neither the frames outside nor a closed block's
+    ∷ row (param 2 ∷ []) (while 20 literal 21 (new 22 1 (block 23 (new 24 5 (ifThen 25 literal 26 (jump false 27 end) end)) (jump true 28 end))) end)
+    (while 20 literal 21 (new 22 1 (block 23 (new 24 5 (ifThen 25 literal 26 (jump false 27 end) (deletion 23 5 end))) (jump true 28 (deletion 21 1 end)))) end)
+    (left 27 5 ∷ left 27 1 ∷ left 28 1 ∷ []) (alive ∷ [])
+    -- the nearest loop; behind it the outer one again
+    ∷ row [] (while 20 literal 21 (new 22 1 (while 23 literal 24 (new 25 2 (jump true 26 end)) (jump false 27 end))) end)
+    (while 20 literal 21 (new 22 1 (while 23 literal 24 (new 25 2 (jump true 26 (deletion 24 2 end))) (jump false 27 (deletion 21 1 end)))) end)
+    (left 26 2 ∷ left 27 1 ∷ []) []
+    -- each branch has its own
+    ∷ row [] (while 20 literal 21 (new 22 1 (ifElse 23 literal 24 (jump false 25 end) 26 (new 27 2 (jump true 28 end)) end)) end)
+    (while 20 literal 21 (new 22 1 (ifElse 23 literal 24 (jump false 25 end) 26 (new 27 2 (jump true 28 (deletion 26 2 end))) (deletion 21 1 end))) end)
+    (left 25 1 ∷ left 28 2 ∷ left 28 1 ∷ []) []
+    -- what is Alive only; behind a closed loop nothing, though `w` is held there
+    ∷ row [] (new 19 2 (while 20 literal 21 (new 22 1 (moving 23 (v 24) (jump false 25 end))) (jump false 26 end)))
+    (new 19 2 (while 20 literal 21 (new 22 1 (moving 23 (v 24) (jump false 25 end))) (jump false 26 (deletion 10 2 end)))) [] []
+    -- K4 in a loop: two locals of one name, revived, two entries
+    ∷ row [] (while 20 literal 21 (new 22 1 (moving 23 (v 24) (new 25 1 (jump false 26 end)))) end)
+    (while 20 literal 21 (new 22 1 (moving 23 (v 24) (new 25 1 (jump false 26 (deletion 21 1 (deletion 21 1 end)))))) end)
+    (left 26 1 ∷ left 26 1 ∷ []) []
+    -- each one that the walk comes to, among the entries of bare returns, also where no run comes
+    ∷ row [] (while 20 literal 21 (new 22 1 (jump true 23 (bareReturn 24 0 (jump false 25 end)))) end)
+    (while 20 literal 21 (new 22 1 (jump true 23 (bareReturn 24 0 (jump false 25 (deletion 21 1 end))))) end)
+    (left 23 1 ∷ left 24 1 ∷ left 25 1 ∷ []) []
+    ∷ []
+
+pub left-by-jumps : map answer leaving ≡ leaving
+unfolding member sameBytes startsWith firstFrom andThen orElse inside structNamed structShaped structOfGeneric structOfTy structOf hasDestructor shouldAutoDelete classOfTy classOf modifierIn modifierOf isConsuming globalOf countWidth through auto isTempOf isMoveOf consumes globalIn takes handed finish effects exprStmtEffects takeOver assignEffects assignTakes
+left-by-jumps = refl

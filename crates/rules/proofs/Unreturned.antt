@@ -19,9 +19,9 @@ use Rattle.rules.specs.Questions.{auto, isTempOf, isMoveOf, consumes, gl
 use Rattle.rules.specs.Expr.{nobody, called}
 use Rattle.rules.specs.Stack.{Stack}
 use Rattle.rules.specs.Effects.{takes, handed, finish, effects, exprStmtEffects, takeOver, assignEffects, assignTakes}
-use Rattle.rules.specs.Rules.{holding, dropOf, Decided, localsOf, entered}
+use Rattle.rules.specs.Rules.{holding, dropOf, Decided, atReturn, entered}
 use Rattle.rules.specs.Report.{forget}
-use Rattle.rules.specs.Run.{returning, deleting, Config, at, Steps, arrived, onward, start, Moment, moment, Reached, holds, atReturn, Lost, Demand3}
+use Rattle.rules.specs.Run.{returning, deleting, Config, at, Steps, arrived, onward, start, Moment, moment, Reached, holds, Lost, Demand3}
 use Rattle.rules.specs.AsReturned.{Marked, gathered, ReturnedBody}
 use Rattle.rules.proofs.Nodes.{ident, literal, tables, param}
 use Rattle.rules.proofs.Count.{after, after-steps}

@@ -16,7 +16,7 @@ use Rattle.rules.specs.Expr.{nobody, view, isCall, tyOf, calleeAt}
 use Rattle.rules.specs.Stack.{Local, local, Stack, shape, lookup}
 use Rattle.rules.specs.State.{State, alive, gone, deleted, moved, consumed}
 use Rattle.rules.specs.Effects.{Effect, use′, kill, hand, badMove, globalMove, effects, exprStmtEffects, assignEffects}
-use Rattle.rules.specs.Rules.{Drop, dropOf, Decided, states, apply, joins, merge, sureFrom, returnDrops, evaluate, afterExpr, afterVariable, beforeAssign, afterAssign, exit, entered, localsOf, decideBody}
+use Rattle.rules.specs.Rules.{Drop, dropOf, Decided, states, apply, returnDrops, loopDrops, evaluate, afterExpr, afterVariable, beforeAssign, afterAssign, exit, behindIf, behindThen, behindLoop, entered, localsOf, decideBody}
 
 -- a Delete, of type 0
 abbrev pub deleteNode : ℕ → Expr → Expr
@@ -75,7 +75,7 @@ abbrev pub returnedImage : Image → Image
 returnedImage i = withCode i (flatten (decideBody (i .tables) (i .entry) (i .body)))
 
 -- An error: kind, place, hint, other places. A warning: the statement's span, and where the callee's tag stands in the image. A
--- left-behind entry: the return's span, and the name
+-- left-behind entry: the span of the return, Break or Continue, and the name
 pub data Report : Type 0 where
   error : ℕ → ℕ → ℕ → List ℕ → Report
   warning : ℕ → ℕ → Report
@@ -115,7 +115,8 @@ reportAll (e ∷ es) σ = reportOf e σ ++ reportAll es (apply states e σ)
 abbrev pub unused : Bool → ℕ → Expr → ℕ → List Report
 unused b s e at = cond b (warning s (calleeAt e (at + 5)) ∷ []) []
 
--- a return without a value: what one with a value that excludes no name would delete
+-- entries for what is left behind: at a return without a value, what one with a value that excludes no name would delete; at a Break or
+-- Continue, what the frames out to the loop's body have (02, c)
 abbrev pub leftBehind : ℕ → List Drop → List Report
 leftBehind s [] = []
 leftBehind s (dropOf p n t ∷ x) = left s n ∷ leftBehind s x
@@ -127,36 +128,35 @@ abbrev pub codeBytes : Tree → ℕ
 codeBytes c = length (encodeCode c)
 
 module _ (T : Tables) where
-  -- transform_block: what is reported of the statements of a block of depth d that stand at a position, in walking order
-  abbrev pub report : Tree → ℕ → ℕ → Stack State → List Report
-  report (done x) d at σ = []
-  report (exprStmt s e y r) d at σ =
+  -- transform_block: what is reported of the statements of a block of depth d that stand at a position, in walking order; l is the
+  -- depth of the nearest loop's body, if they are in a loop
+  abbrev pub report : Tree → ℕ → Option ℕ → ℕ → Stack State → List Report
+  report (done x) d l at σ = []
+  report (exprStmt s e y r) d l at σ =
       reportAll (exprStmtEffects T (shape σ) e) σ
-      ++ (unused (auto T (tyOf e) && isCall (view e)) s e at ++ report r d (at + 5 + exprBytes e) (afterExpr states T e σ))
-  report (variable k s n t e r) d at σ =
-      reportAll (effects T (shape σ) e) σ ++ report r d (at + 9 + exprBytes e) (afterVariable states T d n t e σ)
-  report (assign s e v t x r) d at σ =
+      ++ (unused (auto T (tyOf e) && isCall (view e)) s e at ++ report r d l (at + 5 + exprBytes e) (afterExpr states T e σ))
+  report (variable k s n t e r) d l at σ =
+      reportAll (effects T (shape σ) e) σ ++ report r d l (at + 9 + exprBytes e) (afterVariable states T d n t e σ)
+  report (assign s e v t x r) d l at σ =
       reportAll (assignEffects T (shape σ) e v) σ
-      ++ report r d (at + 7 + exprBytes e + exprBytes v) (afterAssign states T e v (beforeAssign states T e v σ))
-  report (return s e t x r) d at σ = reportAll (effects T (shape σ) e) σ ++ report r d (at + 8 + exprBytes e) (evaluate states T e σ)
-  report (bareReturn s t r) d at σ = leftBehind s (returnDrops states T nobody σ) ++ report r d (at + 8) σ
-  report (block s c r) d at σ = report c (suc d) (at + 7) σ ++ report r d (at + 7 + codeBytes c) (exit states T c (suc d) σ)
-  report (ifElse s e ts t us u r) d at σ =
+      ++ report r d l (at + 7 + exprBytes e + exprBytes v) (afterAssign states T e v (beforeAssign states T e v σ))
+  report (return s e t x r) d l at σ = reportAll (effects T (shape σ) e) σ ++ report r d l (at + 8 + exprBytes e) (evaluate states T e σ)
+  report (bareReturn s t r) d l at σ = leftBehind s (returnDrops states T nobody σ) ++ report r d l (at + 8) σ
+  report (block s c r) d l at σ = report c (suc d) l (at + 7) σ ++ report r d l (at + 7 + codeBytes c) (exit states T c (suc d) σ)
+  report (ifElse s e ts t us u r) d l at σ =
       reportAll (effects T (shape σ) e) σ
-      ++ (report t (suc d) (at + 11 + exprBytes e) (evaluate states T e σ)
-      ++ (report u (suc d) (at + 18 + exprBytes e + codeBytes t) (evaluate states T e σ)
-      ++ report r d (at + 18 + exprBytes e + codeBytes t + codeBytes u)
-      (merge states (sureFrom t false) (sureFrom u false) (evaluate states T e σ) (exit states T t (suc d) (evaluate states T e σ)) (exit states T u (suc d) (evaluate states T e σ)))))
-  report (ifThen s e ts t r) d at σ =
+      ++ (report t (suc d) l (at + 11 + exprBytes e) (evaluate states T e σ)
+      ++ (report u (suc d) l (at + 18 + exprBytes e + codeBytes t) (evaluate states T e σ)
+      ++ report r d l (at + 18 + exprBytes e + codeBytes t + codeBytes u) (behindIf states T e t u d σ)))
+  report (ifThen s e ts t r) d l at σ =
       reportAll (effects T (shape σ) e) σ
-      ++ (report t (suc d) (at + 11 + exprBytes e) (evaluate states T e σ)
-      ++ report r d (at + 12 + exprBytes e + codeBytes t)
-      (merge states (sureFrom t false) false (evaluate states T e σ) (exit states T t (suc d) (evaluate states T e σ)) (evaluate states T e σ)))
-  report (while s e ts t r) d at σ =
+      ++ (report t (suc d) l (at + 11 + exprBytes e) (evaluate states T e σ)
+      ++ report r d l (at + 12 + exprBytes e + codeBytes t) (behindThen states T e t d σ))
+  report (while s e ts t r) d l at σ =
       reportAll (effects T (shape σ) e) σ
-      ++ (report t (suc d) (at + 11 + exprBytes e) (evaluate states T e σ)
-      ++ report r d (at + 11 + exprBytes e + codeBytes t) (joins states (exit states T t (suc d) (evaluate states T e σ)) (evaluate states T e σ)))
-  report (jump k s r) d at σ = report r d (at + 5) σ
+      ++ (report t (suc d) (some (suc d)) (at + 11 + exprBytes e) (evaluate states T e σ)
+      ++ report r d l (at + 11 + exprBytes e + codeBytes t) (behindLoop states T e t d σ))
+  report (jump k s r) d l at σ = leftBehind s (loopDrops states T l σ) ++ report r d l (at + 5) σ
 
 -- where the body's first statement stands: behind length and version, the tables, the entry, the block's span and count
 abbrev pub bodyStart : Image → ℕ
@@ -164,7 +164,7 @@ bodyStart i = 11 + length (encodeTables (i .tables)) + length (encodeEntry (i .e
 
 -- what is reported of an image
 abbrev pub reports : Image → List Report
-reports i = report (i .tables) (i .body .code) 1 (bodyStart i) (entered states (i .tables) (localsOf (i .entry)) [])
+reports i = report (i .tables) (i .body .code) 1 Option.none (bodyStart i) (entered states (i .tables) (localsOf (i .entry)) [])
 
 -- the three lists
 abbrev pub errors : List Report → List Report

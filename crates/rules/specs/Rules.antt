@@ -4,7 +4,7 @@ use Prim.Native.Nat.{ℕ, suc}
 use mathlib.Core.Bool.{Bool, true, false, not, _&&_, cond}
 use mathlib.Core.List.{List, [], _∷_}
 use mathlib.Core.Option.{Option, none, some}
-use lib.Dec.{eqb, ltb, T as So}
+use lib.Dec.{eqb, ltb, leb, T as So}
 use Rattle.tables.specs.Signature.{Param, Entry}
 use Rattle.tables.specs.Tables.{Tables}
 use Rattle.image_body.specs.Expr.{Expr}
@@ -75,6 +75,22 @@ abbrev pub excludes : Named → ℕ → Bool
 excludes nobody n = false
 excludes (called m s) n = eqb n m
 
+-- A place where locals are deleted or left behind: a block's end and its depth; a return and the returned name; a Break or Continue
+-- and the depth of the nearest loop's body, if any; an assignment and the name it assigns
+pub data Place : Type 0 where
+  atEnd : ℕ → Place
+  atReturn : Named → Place
+  atJump : Option ℕ → Place
+  atAssign : Named → Place
+
+-- does the place concern a local; a Break or Continue: the frames from the innermost out to the nearest loop's body (02, c)
+abbrev pub concerns : Place → Static → Bool
+concerns (atEnd d) s = eqb (s .depth) d
+concerns (atReturn n) s = not (excludes n (s .name))
+concerns (atJump none) s = false
+concerns (atJump (some l)) s = leb l (s .depth)
+concerns (atAssign n) s = excludes n (s .name)
+
 -- the locals a body is entered with: `this` after the entry bytes 2 to 4, then the parameters
 abbrev pub localsOf : Entry → List Param
 localsOf x = cond (ltb (x .receiver) 2) (x .params) (record { name = 0; ty = x .this } ∷ x .params)
@@ -131,11 +147,15 @@ module _ {A : Type 0} (𝓐 : Alg A) where
 
     -- transform_block's tail_drops: the block's own frame, with the block's span
     abbrev pub tailDrops : ℕ → ℕ → Stack A → List Drop
-    tailDrops d p σ = collect (λ s. eqb (s .depth) d) p σ
+    tailDrops d p σ = collect (λ s. concerns (atEnd d) s) p σ
 
     -- collect_scope_drops: every frame, but not the returned name, with span 0
     abbrev pub returnDrops : Named → Stack A → List Drop
-    returnDrops n σ = collect (λ s. not (excludes n (s .name))) 0 σ
+    returnDrops n σ = collect (λ s. concerns (atReturn n) s) 0 σ
+
+    -- what a Break or Continue leaves behind (02, c), in the order of a return
+    abbrev pub loopDrops : Option ℕ → Stack A → List Drop
+    loopDrops l σ = collect (λ s. concerns (atJump l) s) 0 σ
 
     abbrev pub dropNewest : ℕ → ℕ → Option (Local A) → List Drop
     dropNewest p n none = []
@@ -184,6 +204,17 @@ module _ {A : Type 0} (𝓐 : Alg A) where
     exit (while s e ts t r) d σ = exit r d (joins (exit t (suc d) (evaluate e σ)) (evaluate e σ))
     exit (jump k s r) d σ = exit r d σ
 
+    -- behind an if with an else, an if without one, and a loop
+    module _ {X Y : Type 0} (e : Expr) where
+      abbrev pub behindIf : Code X Y → Code X Y → ℕ → Stack A → Stack A
+      behindIf t u d σ = merge (sureFrom t false) (sureFrom u false) (evaluate e σ) (exit t (suc d) (evaluate e σ)) (exit u (suc d) (evaluate e σ))
+
+      abbrev pub behindThen : Code X Y → ℕ → Stack A → Stack A
+      behindThen t d σ = merge (sureFrom t false) false (evaluate e σ) (exit t (suc d) (evaluate e σ)) (evaluate e σ)
+
+      abbrev pub behindLoop : Code X Y → ℕ → Stack A → Stack A
+      behindLoop t d σ = joins (exit t (suc d) (evaluate e σ)) (evaluate e σ)
+
     -- transform_block: the decisions. p is the block's span, d its depth, f whether the statement before surely returns
     abbrev pub decide : Tree → ℕ → ℕ → Bool → Stack A → Decided
     decide (done x) p d f σ = done (cond f [] (tailDrops d p σ))
@@ -196,13 +227,11 @@ module _ {A : Type 0} (𝓐 : Alg A) where
     decide (block s c r) p d f σ = block s (decide c s (suc d) false σ) (decide r p d (sureFrom c false) (exit c (suc d) σ))
     decide (ifElse s e ts t us u r) p d f σ =
         ifElse s e ts (decide t ts (suc d) false (evaluate e σ)) us (decide u us (suc d) false (evaluate e σ))
-        (decide r p d (sureFrom t false && sureFrom u false)
-        (merge (sureFrom t false) (sureFrom u false) (evaluate e σ) (exit t (suc d) (evaluate e σ)) (exit u (suc d) (evaluate e σ))))
+        (decide r p d (sureFrom t false && sureFrom u false) (behindIf e t u d σ))
     decide (ifThen s e ts t r) p d f σ =
-        ifThen s e ts (decide t ts (suc d) false (evaluate e σ))
-        (decide r p d false (merge (sureFrom t false) false (evaluate e σ) (exit t (suc d) (evaluate e σ)) (evaluate e σ)))
+        ifThen s e ts (decide t ts (suc d) false (evaluate e σ)) (decide r p d false (behindThen e t d σ))
     decide (while s e ts t r) p d f σ =
-        while s e ts (decide t ts (suc d) false (evaluate e σ)) (decide r p d false (joins (exit t (suc d) (evaluate e σ)) (evaluate e σ)))
+        while s e ts (decide t ts (suc d) false (evaluate e σ)) (decide r p d false (behindLoop e t d σ))
     decide (jump k s r) p d f σ = jump k s (decide r p d false σ)
 
     -- Plain, in its four parts: no Break or Continue; no name registered while a frame holds it; nothing after what surely returns;
@@ -217,13 +246,11 @@ module _ {A : Type 0} (𝓐 : Alg A) where
     Plain (block s c r) d σ = Plain c (suc d) σ × (So (sureFrom c false) → So (isDone r)) × Plain r d (exit c (suc d) σ)
     Plain (ifElse s e ts t us u r) d σ =
         Plain t (suc d) (evaluate e σ) × Plain u (suc d) (evaluate e σ) × (So (sureFrom t false && sureFrom u false) → So (isDone r))
-        × Plain r d (merge (sureFrom t false) (sureFrom u false) (evaluate e σ) (exit t (suc d) (evaluate e σ)) (exit u (suc d) (evaluate e σ)))
+        × Plain r d (behindIf e t u d σ)
     Plain (ifThen s e ts t r) d σ =
-        Plain t (suc d) (evaluate e σ)
-        × Plain r d (merge (sureFrom t false) false (evaluate e σ) (exit t (suc d) (evaluate e σ)) (evaluate e σ))
+        Plain t (suc d) (evaluate e σ) × Plain r d (behindThen e t d σ)
     Plain (while s e ts t r) d σ =
-        Plain t (suc d) (evaluate e σ) × Keeps σ (exit t (suc d) (evaluate e σ))
-        × Plain r d (joins (exit t (suc d) (evaluate e σ)) (evaluate e σ))
+        Plain t (suc d) (evaluate e σ) × Keeps σ (exit t (suc d) (evaluate e σ)) × Plain r d (behindLoop e t d σ)
     Plain (jump k s r) d σ = ⊥
 
     -- run_ownership_for_method_body, run_ownership_for_body: the locals a body is entered with, registered in the outermost frame

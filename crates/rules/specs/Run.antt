@@ -13,7 +13,7 @@ use Rattle.image_body.specs.Stmt.{done, exprStmt, variable, assign, return, bar
 use Rattle.rules.specs.Questions.{auto}
 use Rattle.rules.specs.Expr.{view, Named, identIn, nameIn}
 use Rattle.rules.specs.Stack.{Static, Local, local, Stack, shape, mark, lookup, pop, staticOf, has}
-use Rattle.rules.specs.Rules.{holding, Drop, dropOf, Decided, excludes, evaluate, afterExpr, afterVariable, beforeAssign, afterAssign, entered}
+use Rattle.rules.specs.Rules.{holding, Drop, dropOf, Decided, Place, atEnd, atReturn, atAssign, concerns, evaluate, afterExpr, afterVariable, beforeAssign, afterAssign, entered}
 
 -- A path to a statement list: past a statement, into its block, into its second block (else)
 pub data Dir : Type 0 where
@@ -93,12 +93,6 @@ module _ (T : Tables) where
   abbrev pub start : List Param → Decided → List Bool → Config
   start params body cs = at (code [] 1 body ∷ []) (entered holding T params []) cs
 
--- The place asked about: a block's end and its depth; a return and the returned name; an assignment and the name it assigns
-pub data Place : Type 0 where
-  atEnd : ℕ → Place
-  atReturn : Named → Place
-  atAssign : Named → Place
-
 -- A moment: its path, its place, the deletes put in there, what is held before them
 pub record Moment : Type 0 where
   pub path : Path
@@ -152,12 +146,6 @@ holds n H = valueOf (lookup n H)
 abbrev pub dropped : ℕ → List Drop → Bool
 dropped n [] = false
 dropped n (dropOf p m t ∷ ds) = eqb m n || dropped n ds
-
--- does the place concern a local
-abbrev pub concerns : Place → Static → Bool
-concerns (atEnd d) s = eqb (s .depth) d
-concerns (atReturn n) s = not (excludes n (s .name))
-concerns (atAssign n) s = excludes n (s .name)
 
 -- of a type with a destructor, and admitted by q
 abbrev pub admits : Tables → (Static → Bool) → Option Static → Bool

@@ -13,7 +13,7 @@ use Rattle.image_body.specs.Stmt.{Tree, done, exprStmt, variable, assign, retur
 use Rattle.image.specs.Image.{Image}
 use Rattle.rules.specs.Stack.{Local, local, Stack}
 use Rattle.rules.specs.State.{State, alive, gone}
-use Rattle.rules.specs.Rules.{states, joins, merge, sureFrom, evaluate, afterExpr, afterVariable, beforeAssign, afterAssign, exit, entered, localsOf}
+use Rattle.rules.specs.Rules.{states, joins, sureFrom, evaluate, afterExpr, afterVariable, beforeAssign, afterAssign, exit, behindIf, behindThen, behindLoop, entered, localsOf}
 
 abbrev pub placesOf : State → List ℕ
 placesOf alive = []
@@ -48,16 +48,15 @@ module _ (L : Limits) where
         (orElse (walkFault u (suc d) (evaluate states T e σ))
         (orElse (tooWide (not (sureFrom t false) && not (sureFrom u false))
         (joins states (exit states T t (suc d) (evaluate states T e σ)) (exit states T u (suc d) (evaluate states T e σ))))
-        (walkFault r d
-        (merge states (sureFrom t false) (sureFrom u false) (evaluate states T e σ) (exit states T t (suc d) (evaluate states T e σ)) (exit states T u (suc d) (evaluate states T e σ))))))
+        (walkFault r d (behindIf states T e t u d σ))))
     walkFault (ifThen s e ts t r) d σ =
         orElse (walkFault t (suc d) (evaluate states T e σ))
         (orElse (tooWide (not (sureFrom t false)) (joins states (exit states T t (suc d) (evaluate states T e σ)) (evaluate states T e σ)))
-        (walkFault r d (merge states (sureFrom t false) false (evaluate states T e σ) (exit states T t (suc d) (evaluate states T e σ)) (evaluate states T e σ))))
+        (walkFault r d (behindThen states T e t d σ)))
     walkFault (while s e ts t r) d σ =
         orElse (walkFault t (suc d) (evaluate states T e σ))
-        (orElse (tooWide true (joins states (exit states T t (suc d) (evaluate states T e σ)) (evaluate states T e σ)))
-        (walkFault r d (joins states (exit states T t (suc d) (evaluate states T e σ)) (evaluate states T e σ))))
+        (orElse (tooWide true (behindLoop states T e t d σ))
+        (walkFault r d (behindLoop states T e t d σ)))
     walkFault (jump k s r) d σ = walkFault r d σ
 
   -- of a whole image: `this` and the parameters are registered first

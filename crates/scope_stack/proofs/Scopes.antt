@@ -163,7 +163,7 @@ pop-newer f g d n (suc k) h =
     rw (z, eq-eqb (f (n + k) .depth) d e) (pop-newer f g d n k (λ i a b. h i a (omega arith)))
 
 -- no local of a nested stack is deeper than its block
-nested-at : (d n : ℕ) (f : ℕ → Static) (g : ℕ → Status) → Nested d (shape (stacked n f g)) → (i : ℕ) → i < n → f i .depth ≤ d
+pub nested-at : (d n : ℕ) (f : ℕ → Static) (g : ℕ → Status) → Nested d (shape (stacked n f g)) → (i : ℕ) → i < n → f i .depth ≤ d
 unfolding stacked
 nested-at d zero f g h i l = absurd (omega arith)
 nested-at d (suc n) f g h i l =

@@ -1,5 +1,6 @@
 -- What the code of each kind of statement does is what the rules say of whatever statement was read there.
 -- Assumes nothing.
+use mathlib.Core.Option.{Option}
 use mathlib.Core.Path.{_≡_, refl, sym, ap, _∙_, subst}
 use mathlib.Core.List.{List, [], _∷_, _++_, append-nil}
 use mathlib.Core.Bool.{Bool, true, false, cond, _&&_, _||_}
@@ -31,7 +32,7 @@ use Rattle.rules.specs.Expr as rules
 use Rattle.rules.specs.State.{State as Status}
 use Rattle.rules.specs.Stack.{shape, Stack as Scope}
 use Rattle.rules.specs.Effects.{takeOver, assignTakes}
-use Rattle.rules.specs.Rules.{Drop, dropOf, states, applyAll, collect, dropNamed, assignDrops, returnDrops}
+use Rattle.rules.specs.Rules.{Drop, dropOf, states, applyAll, collect, dropNamed, assignDrops, returnDrops, loopDrops}
 use Rattle.rules.specs.Report.{warning, left as leaves, errors, warnings, lefts, deleteNode, unused, leftBehind}
 use Rattle.rules.specs.Verdict.{entriesOf}
 use Rattle.image_body.proofs.Walking.{within}
@@ -52,11 +53,11 @@ use Rattle.statements_acts.specs.declared.Change.{Change}
 use Rattle.statements_acts.specs.declared.Change.the-variants.{Nothing, Register}
 use Rattle.statements_acts.specs.declared.Place.{Place}
 use Rattle.statements_acts.specs.declared.Warned.{Warned}
-use Rattle.statements_steps.specs.Statement.{frontDrops, frontReports, settle}
+use Rattle.statements_steps.specs.Statement.{frontDrops, ownBytes, frontBytes, frontReports, settle}
 use Rattle.statements_acts.specs.Act.{changeIn, takenIn, FrontThere, Within, Grows, cursorsAt, Acts, ActsThere}
 use Rattle.statements_acts.specs.Parts.{deletedName, deleteOf, reviveOf, sparing, noPut, relisted, Copied, wrapping, warningAt, WarnsAt, Untouched}
 use Rattle.statements_acts.proofs.Slices.{written-slice, no-value, one-value}
-use Rattle.statements_acts.proofs.Fronts.{Front, head-bytes, front-plain, front-variable, front-assign, front-return, front-bare}
+use Rattle.statements_acts.proofs.Fronts.{Front, head-bytes, front-plain, front-variable, front-assign, front-return, front-bare, front-jump}
 use Rattle.statements_acts.proofs.Taken.{delete-is, revive-is}
 use Rattle.statements_acts.proofs.Views.{callee-some}
 
@@ -85,7 +86,7 @@ all-lefts p (dropOf q n t ∷ ds) = ap (λ l. leaves p n ∷ l) (all-lefts p ds)
 
 -- what is stored stays small
 pub room-of : {s : List ℕ} {p : Place} → Within s p
-    → (length s ≤ 65536) × (p .at ≤ 65536) × (p .written ≤ 159321600) × (p .warnings ≤ 159321600) × (p .lefts ≤ 159321600) × (p .inserted ≤ 39321600)
+    → (length s ≤ 65536) × (p .at ≤ 65536) × (p .written ≤ 265536000) × (p .warnings ≤ 265536000) × (p .lefts ≤ 265536000) × (p .inserted ≤ 65536000)
 room-of w =
     let a = w .small in
     let b = w .inside in
@@ -103,7 +104,7 @@ listed-is p e = (ap (λ (z : Place). z .at) e, ap (λ (z : Place). z .inserted) 
 
 -- as much as the bytes read allow, of what was copied behind deletes
 pub grows-of : {s : List ℕ} {p : Place} {put : Put} {to : ℕ} {out : List ℕ} {q : Place} {out′ : List ℕ} → Copied s p put to out q out′ → p .at ≤ to → to ≤ length s
-    → put .at + 599 * p .at ≤ p .written + 599 * to → put .count + 600 * p .at ≤ 600 * to → Grows s p q
+    → put .at + 999 * p .at ≤ p .written + 999 * to → put .count + 1000 * p .at ≤ 1000 * to → Grows s p q
 grows-of {s} {p} {put} {to} c l h w n =
     let b = c .bytes .place in
     let e = length-slice (p .at) to s h in
@@ -125,10 +126,10 @@ module _ (T : Tables) (σ : Scope Status) (p : Place) where
   -- what was copied behind deletes, if nothing is reported
   pub acts-of : (c : Tree) (put : Put) {to : ℕ} {s before′ out out′ warns left : List ℕ} (q : Place) (change : Change) (taken : Named) → Copied s p put to out q out′
       → Stored before′ (p .written) (deleteBytes (frontDrops T c σ)) out (put .at) → put .count ≡ length (frontDrops T c σ)
-      → Front T s (p .at) to c → frontReports T c (p .at) σ ≡ []
+      → Front T s (p .at) to c → (loop : Option ℕ) → frontReports T c loop (p .at) σ ≡ []
       → ((d : ℕ) → takenIn taken (changeIn d change σ) ≡ settle T c d σ)
-      → Acts T c σ p before′ warns left (record { place = q; change = change; taken = taken }) out′ warns left
-  acts-of c put {to} {s} {before′} {out} {out′} {warns} {left} q change taken w st n f e settled =
+      → Acts T c loop σ p before′ warns left (record { place = q; change = change; taken = taken }) out′ warns left
+  acts-of c put {to} {s} {before′} {out} {out′} {warns} {left} q change taken w st n f loop e settled =
       let b = both-stored st (subst (λ v. Stored out (put .at) v out′ (q .written)) (written-slice (f .written)) (w .bytes)) in
       record {
         bytes = λ n. b;
@@ -162,13 +163,13 @@ module _ (s : List ℕ) (small : Bytes s) (p : Place) (to : ℕ) (g : FrontThere
         let e = none-put-is p ep in
         grows-of w (r .0) (r .1) (omega arith) (omega arith)
 
-    pub plain-acts : (T : Tables) (σ : Scope Status) (warns left : List ℕ) → ActsThere T s σ p out warns left (record { place = q; change = Nothing; taken = Nobody }) out′ warns left
-    plain-acts T σ warns left = record {
+    pub plain-acts : (T : Tables) (σ : Scope Status) (warns left : List ℕ) (loop : Option ℕ) → ActsThere T s loop σ p out warns left (record { place = q; change = Nothing; taken = Nobody }) out′ warns left
+    plain-acts T σ warns left loop = record {
       acts = λ f t x next r deep read.
           let v = front-plain T s small (p .at) to g f t x next read u r in
           acts-of T σ p (before x r) (noPut p) q Nothing Nobody (subst (λ z. Copied s p z to out q out′) ep w)
           (subst (λ d. Stored out (p .written) (deleteBytes d) out (p .written)) (sym (v .1 .drops σ)) (none-stored out (p .written)))
-          (sym (ap length (v .1 .drops σ))) (v .0) (v .1 .reports (p .at) σ) (λ d. sym (v .1 .settles d σ));
+          (sym (ap length (v .1 .drops σ))) (v .0) loop (v .1 .reports loop (p .at) σ) (λ d. sym (v .1 .settles d σ));
     }
 
 -- a Let or Const
@@ -190,12 +191,12 @@ module _ (s : List ℕ) (small : Bytes s) (p : Place) (to : ℕ) (g : FrontThere
   pub variable-acts : (put : Put) → put ≡ noPut p → {out out′ : List ℕ} (q : Place) → Copied s p put to out q out′ → (T : Tables) (σ : Scope Status) (n ty : ℕ) (taken : Named)
       → n ≡ two s (p .at + 5) → ty ≡ two s (p .at + 7)
       → ((e : Expr) (next : ℕ) → Stands e s (p .at + 9) next → (τ : Scope Status) → takenIn taken τ ≡ applyAll states (takeOver T (shape σ) n ty e) τ)
-      → (warns left : List ℕ) → ActsThere T s σ p out warns left (record { place = q; change = Register n ty; taken = taken }) out′ warns left
-  variable-acts put ep {out} {out′} q w T σ n ty taken en et tk warns left = record {
+      → (warns left : List ℕ) (loop : Option ℕ) → ActsThere T s loop σ p out warns left (record { place = q; change = Register n ty; taken = taken }) out′ warns left
+  variable-acts put ep {out} {out′} q w T σ n ty taken en et tk warns left loop = record {
     acts = λ f t x next r deep read.
         let v = front-variable T s small (p .at) to g f t x next read low high r in
-        subst (λ c. Acts T c σ p out warns left (record { place = q; change = Register n ty; taken = taken }) out′ warns left) (sym (v .is))
-        (acts-of T σ p _ (noPut p) q (Register n ty) taken (subst (λ z. Copied s p z to out q out′) ep w) (none-stored out (p .written)) refl (v .front) refl
+        subst (λ c. Acts T c loop σ p out warns left (record { place = q; change = Register n ty; taken = taken }) out′ warns left) (sym (v .is))
+        (acts-of T σ p _ (noPut p) q (Register n ty) taken (subst (λ z. Copied s p z to out q out′) ep w) (none-stored out (p .written)) refl (v .front) loop refl
         (λ d. settled d (v .e) (tk (v .e) (v .q) (v .stands))));
   }
     where
@@ -238,13 +239,13 @@ module _ (s : List ℕ) (small : Bytes s) (p : Place) (end : ℕ) (g : FrontTher
       → Stored before′ (p .written) (deleteBytes (assignDrops states T span e σ)) out (put .at) × (put .count ≡ length (assignDrops states T span e σ)))
       → ((e : Expr) (next : ℕ) → Stands e s (p .at + 5) next → change ≡ reviveOf (nameIn (viewed e)))
       → ((e v : Expr) (i j : ℕ) → Stands e s (p .at + 5) i → Stands v s i j → (τ : Scope Status) → takenIn taken τ ≡ applyAll states (assignTakes T (shape σ) e v) τ)
-      → (warns left : List ℕ) → ActsThere T s σ p before′ warns left (record { place = q; change = change; taken = taken }) out′ warns left
-  assign-acts {before′} {out} {out′} put q change taken w T σ span es dr rv tk warns left = record {
+      → (warns left : List ℕ) (loop : Option ℕ) → ActsThere T s loop σ p before′ warns left (record { place = q; change = change; taken = taken }) out′ warns left
+  assign-acts {before′} {out} {out′} put q change taken w T σ span es dr rv tk warns left loop = record {
     acts = λ f t x next r deep read.
         let v = front-assign T s small (p .at) end g f t x next read k r in
         let d = subst (λ m. Stored before′ (p .written) (deleteBytes (assignDrops states T m (v .e) σ)) out (put .at) × (put .count ≡ length (assignDrops states T m (v .e) σ))) es (dr (v .e) (v .p) (v .stands)) in
-        subst (λ c. Acts T c σ p before′ warns left (record { place = q; change = change; taken = taken }) out′ warns left) (sym (v .is))
-        (acts-of T σ p _ put q change taken w (d .0) (d .1) (v .front) refl
+        subst (λ c. Acts T c loop σ p before′ warns left (record { place = q; change = change; taken = taken }) out′ warns left) (sym (v .is))
+        (acts-of T σ p _ put q change taken w (d .0) (d .1) (v .front) loop refl
         (λ i. tk (v .e) (v .v) (v .p) end (v .stands) (v .other) (changeIn i change σ)
         ∙ ap (λ τ. applyAll states (assignTakes T (shape σ) (v .e) (v .v)) τ)
         (ap (λ z. changeIn i z σ) (rv (v .e) (v .p) (v .stands)) ∙ revive-is i (nameIn (viewed (v .e))) σ)));
@@ -268,14 +269,68 @@ module _ (s : List ℕ) (small : Bytes s) (p : Place) (end : ℕ) (g : FrontTher
   pub return-acts : {before′ out out′ : List ℕ} (put : Put) (q : Place) → Copied s p put (end + 2) out q out′ → (T : Tables) (σ : Scope Status) (which : Which)
       → ((e : Expr) (next : ℕ) → Stands e s (p .at + 6) next → which ≡ sparing (nameIn (viewed e)))
       → Stored before′ (p .written) (deleteBytes (collect states T (admitted which) 0 σ)) out (put .at) × (put .count ≡ length (collect states T (admitted which) 0 σ))
-      → (warns left : List ℕ) → ActsThere T s σ p before′ warns left (record { place = q; change = Nothing; taken = Nobody }) out′ warns left
-  return-acts {before′} {out} {out′} put q w T σ which ew dr warns left = record {
+      → (warns left : List ℕ) (loop : Option ℕ) → ActsThere T s loop σ p before′ warns left (record { place = q; change = Nothing; taken = Nobody }) out′ warns left
+  return-acts {before′} {out} {out′} put q w T σ which ew dr warns left loop = record {
     acts = λ f t x next r deep read.
         let v = front-return T s small (p .at) end g f t x next read k o r in
         let d = sparing-is T σ which (nameIn (viewed (v .e))) (ew (v .e) end (v .stands)) in
-        subst (λ c. Acts T c σ p before′ warns left (record { place = q; change = Nothing; taken = Nobody }) out′ warns left) (sym (v .is))
-        (acts-of T σ p _ put q Nothing Nobody w (subst (λ x. Stored before′ (p .written) (deleteBytes x) out (put .at)) d (dr .0)) (dr .1 ∙ ap length d) (v .front) refl (λ i. refl));
+        subst (λ c. Acts T c loop σ p before′ warns left (record { place = q; change = Nothing; taken = Nobody }) out′ warns left) (sym (v .is))
+        (acts-of T σ p _ put q Nothing Nobody w (subst (λ x. Stored before′ (p .written) (deleteBytes x) out (put .at)) d (dr .0)) (dr .1 ∙ ap length d) (v .front) loop refl (λ i. refl));
   }
+
+-- a statement of so many bytes that puts nothing in, changes nothing and leaves locals behind
+pub record Lists (T : Tables) (c : Tree) (loop : Option ℕ) (at : ℕ) (σ : Scope Status) (span : ℕ) (ds : List Drop) : Type 0 where
+  pub drops : frontDrops T c σ ≡ []
+  pub reports : frontReports T c loop at σ ≡ leftBehind span ds
+  pub settles : (d : ℕ) → settle T c d σ ≡ σ
+
+module _ (s : List ℕ) (small : Bytes s) (p : Place) (size : ℕ) (few : 5 ≤ size) (reach : p .at + size ≤ length s) where
+  module _ (n : ℕ) (p′ : Place) (e′ : p′ ≡ relisted p n) (put : Put) (ep : put ≡ noPut p) {out out′ : List ℕ} (q : Place) (w : Copied s p′ put (p .at + size) out q out′) where
+    copied : Copied s (relisted p n) (noPut p) (p .at + size) out q out′
+    copied = subst (λ z. Copied s (relisted p n) z (p .at + size) out q out′) ep (subst (λ z. Copied s z put (p .at + size) out q out′) e′ w)
+
+    pub lists-grows : n ≤ p .lefts + 4672 → Grows s p q
+    lists-grows l =
+        let c = copied in
+        let b = c .bytes .place in
+        let e = length-slice (p .at) (p .at + size) s reach in
+        let a = c .at in
+        let i = c .inserted in
+        let x = c .errors in
+        let y = c .warnings in
+        let z = c .lefts in
+        record { on = omega arith; inside = subst (λ m. m ≤ length s) (sym a) reach; written = omega arith; errors = omega arith; warnings = omega arith; lefts = omega arith; inserted = omega arith }
+
+    pub lists-acts : (T : Tables) (σ : Scope Status) (c : Tree) (loop : Option ℕ) (ds : List Drop) → Front T s (p .at) (p .at + size) c → Lists T c loop (p .at) σ (four s (p .at + 1)) ds
+        → (span : ℕ) → span ≡ four s (p .at + 1) → {left left′ : List ℕ} → {out₀ : List ℕ} → Listed (p .paged) (leftBehind span ds) left out₀ (p .lefts) left′ out n
+        → (warns : List ℕ) → Acts T c loop σ p out₀ warns left (record { place = q; change = Nothing; taken = Nobody }) out′ warns left′
+    lists-acts T σ c loop ds front is span es {left} {left′} {out₀} st warns =
+        let k = copied in
+        let b = subst (λ x. Stored out (p .written) x out′ (q .written)) (written-slice (front .written)) (k .bytes) in
+        let none : frontBytes T c σ ≡ ownBytes T c = ap (λ x. deleteBytes x ++ ownBytes T c) (is .drops) in
+        let here = four s (p .at + 1) in
+        let l : Listed (p .paged) (leftBehind here ds) left out₀ (p .lefts) left′ out n = subst (λ m. Listed (p .paged) (leftBehind m ds) left out₀ (p .lefts) left′ out n) es st in
+        record {
+          bytes = λ e. subst (λ x. Stored out₀ (p .written) x out′ (q .written)) (sym none) (stored-from (l .numbers e .0) b);
+          warned = λ e. subst (λ z. Stored warns (p .warnings) (entriesOf version1 z) warns (q .warnings)) (sym (ap warnings (is .reports) ∙ no-warnings here ds)) (none-at warns (k .warnings));
+          listed = λ e. subst (Stored left (p .lefts) _ left′) (sym (k .lefts))
+              (subst (λ z. Stored left (p .lefts) (entriesOf version1 z) left′ n) (sym (ap lefts (is .reports) ∙ all-lefts here ds)) (l .numbers e .1));
+          lines = λ e h.
+              let x = l .lines e in
+              let y : out′ ≡ out = past b (let z = stored-length x in omega arith) .0 in
+              subst (λ z. Lined (cursorsAt p) z out₀ (cursorsAt q) out′) (sym (is .reports))
+              (subst (λ z. Lined (cursorsAt p) (leftBehind here ds) out₀ z out′) (rw (k .errors, k .warnings, k .lefts))
+              (subst (λ z. Lined (cursorsAt p) (leftBehind here ds) out₀ (cursors (p .errors) (p .warnings) n) z) (sym y)
+              (lined-lefts (p .errors) (p .warnings) (p .lefts) (no-errors here ds) (no-warnings here ds) (all-lefts here ds) x)));
+          long = b .place ∙ ap (λ x. p .written + length x) (sym none);
+          paged = k .paged;
+          errors = k .errors;
+          inserted = k .inserted ∙ ap (λ x. p .inserted + length x) (sym (is .drops));
+          last = k .last;
+          fits = k .fits;
+          at = k .at ∙ front .size;
+          settles = λ d. sym (is .settles d);
+        }
 
 -- a Return without a value
 module _ (s : List ℕ) (small : Bytes s) (p : Place) {end : ℕ} (g : FrontThere s (p .at) end) (k : getD s (p .at) 0 ≡ 2) (o : getD s (p .at + 5) 0 ≡ 0) where
@@ -285,52 +340,40 @@ module _ (s : List ℕ) (small : Bytes s) (p : Place) {end : ℕ} (g : FrontTher
       front-bare T s small (p .at) (g .f) (g .t) (g .x) (g .next) (g .read) k o (done tt) .1 .inside
 
   module _ (n : ℕ) (p′ : Place) (e′ : p′ ≡ relisted p n) (put : Put) (ep : put ≡ noPut p) {out out′ : List ℕ} (q : Place) (w : Copied s p′ put (p .at + 8) out q out′) where
-    copied : Copied s (relisted p n) (noPut p) (p .at + 8) out q out′
-    copied = subst (λ z. Copied s (relisted p n) z (p .at + 8) out q out′) ep (subst (λ z. Copied s z put (p .at + 8) out q out′) e′ w)
-
     pub bare-grows : n ≤ p .lefts + 4672 → Grows s p q
-    bare-grows l =
-        let c = copied in
-        let b = c .bytes .place in
-        let e = length-slice (p .at) (p .at + 8) s bare-reach in
-        let a = c .at in
-        let i = c .inserted in
-        let x = c .errors in
-        let y = c .warnings in
-        let z = c .lefts in
-        record { on = omega arith; inside = subst (λ m. m ≤ length s) (sym a) bare-reach; written = omega arith; errors = omega arith; warnings = omega arith; lefts = omega arith; inserted = omega arith }
+    bare-grows = lists-grows s small p 8 (omega arith) bare-reach n p′ e′ put ep q w
 
     pub bare-acts : (T : Tables) (σ : Scope Status) (span : ℕ) → span ≡ four s (p .at + 1) → {left left′ : List ℕ}
         → {out₀ : List ℕ} → Listed (p .paged) (leftBehind span (collect states T (admitted All) 0 σ)) left out₀ (p .lefts) left′ out n
-        → (warns : List ℕ) → ActsThere T s σ p out₀ warns left (record { place = q; change = Nothing; taken = Nobody }) out′ warns left′
-    bare-acts T σ span es {left} {left′} {out₀} st warns = record {
+        → (warns : List ℕ) (loop : Option ℕ) → ActsThere T s loop σ p out₀ warns left (record { place = q; change = Nothing; taken = Nobody }) out′ warns left′
+    bare-acts T σ span es {left} {left′} {out₀} st warns loop = record {
       acts = λ f t x next r deep read.
           let v = front-bare T s small (p .at) f t x next read k o r in
-          let c = copied in
-          let b = subst (λ x. Stored out (p .written) x out′ (q .written)) (written-slice (v .1 .written)) (c .bytes) in
-          let ds = collect states T (admitted All) 0 σ in
-          let rs = leftBehind (four s (p .at + 1)) ds in
-          let l : Listed (p .paged) rs left out₀ (p .lefts) left′ out n = subst (λ m. Listed (p .paged) (leftBehind m ds) left out₀ (p .lefts) left′ out n) es st in
-          subst (λ c. Acts T c σ p out₀ warns left (record { place = q; change = Nothing; taken = Nobody }) out′ warns left′) (sym (v .0)) (record {
-            bytes = λ e. stored-from (l .numbers e .0) b;
-            warned = λ e. subst (λ z. Stored warns (p .warnings) (entriesOf version1 z) warns (q .warnings)) (sym (no-warnings (four s (p .at + 1)) ds)) (none-at warns (c .warnings));
-            listed = λ e. subst (Stored left (p .lefts) _ left′) (sym (c .lefts))
-                (subst (λ z. Stored left (p .lefts) (entriesOf version1 z) left′ n) (sym (all-lefts (four s (p .at + 1)) ds)) (l .numbers e .1));
-            lines = λ e h.
-                let x = l .lines e in
-                let y : out′ ≡ out = past b (let k = stored-length x in omega arith) .0 in
-                subst (λ z. Lined (cursorsAt p) rs out₀ z out′) (rw (c .errors, c .warnings, c .lefts))
-                (subst (λ z. Lined (cursorsAt p) rs out₀ (cursors (p .errors) (p .warnings) n) z) (sym y)
-                (lined-lefts (p .errors) (p .warnings) (p .lefts) (no-errors (four s (p .at + 1)) ds) (no-warnings (four s (p .at + 1)) ds) (all-lefts (four s (p .at + 1)) ds) x));
-            long = b .place;
-            paged = c .paged;
-            errors = c .errors;
-            inserted = c .inserted;
-            last = c .last;
-            fits = c .fits;
-            at = c .at;
-            settles = λ d. refl;
-          });
+          subst (λ c. Acts T c loop σ p out₀ warns left (record { place = q; change = Nothing; taken = Nobody }) out′ warns left′) (sym (v .0))
+          (lists-acts s small p 8 (omega arith) bare-reach n p′ e′ put ep q w T σ _ loop (collect states T (admitted All) 0 σ) (v .1)
+          (record { drops = refl; reports = refl; settles = λ d. refl }) span es st warns);
+    }
+
+-- a Break or Continue
+module _ (s : List ℕ) (small : Bytes s) (p : Place) {end : ℕ} (g : FrontThere s (p .at) end) (k : 8 < getD s (p .at) 0) where
+  pub jump-reach : p .at + 5 ≤ length s
+  jump-reach =
+      let T : Tables = record { names = []; types = []; structs = []; globals = [] } in
+      front-jump T s small (p .at) (g .f) (g .t) (g .x) (g .next) (g .read) k (done tt) .2 .inside
+
+  module _ (n : ℕ) (p′ : Place) (e′ : p′ ≡ relisted p n) (put : Put) (ep : put ≡ noPut p) {out out′ : List ℕ} (q : Place) (w : Copied s p′ put (p .at + 5) out q out′) where
+    pub jump-grows : n ≤ p .lefts + 4672 → Grows s p q
+    jump-grows = lists-grows s small p 5 (omega arith) jump-reach n p′ e′ put ep q w
+
+    pub jump-acts : (T : Tables) (σ : Scope Status) (loop : Option ℕ) (ds : List Drop) → ds ≡ loopDrops states T loop σ → (span : ℕ) → span ≡ four s (p .at + 1) → {left left′ : List ℕ}
+        → {out₀ : List ℕ} → Listed (p .paged) (leftBehind span ds) left out₀ (p .lefts) left′ out n
+        → (warns : List ℕ) → ActsThere T s loop σ p out₀ warns left (record { place = q; change = Nothing; taken = Nobody }) out′ warns left′
+    jump-acts T σ loop ds ed span es {left} {left′} {out₀} st warns = record {
+      acts = λ f t x next r deep read.
+          let v = front-jump T s small (p .at) f t x next read k r in
+          subst (λ c. Acts T c loop σ p out₀ warns left (record { place = q; change = Nothing; taken = Nobody }) out′ warns left′) (sym (v .1))
+          (lists-acts s small p 5 (omega arith) jump-reach n p′ e′ put ep q w T σ _ loop ds (v .2)
+          (record { drops = refl; reports = ap (leftBehind (four s (p .at + 1))) (sym ed); settles = λ d. refl }) span es st warns);
     }
 
 -- an expression statement
@@ -431,9 +474,9 @@ module _ (s : List ℕ) (small : Bytes s) (p : Place) (end : ℕ) (g : FrontTher
     pub expr-acts : (change : Change) (T : Tables) (σ : Scope Status)
         → ((e : Expr) (next : ℕ) → Stands e s (p .at + 5) next → callee ≡ cond (auto T (tyOf e) && isCall (viewed e)) (calleeAt e (p .at + 5)) 0)
         → ((e : Expr) (next : ℕ) → Stands e s (p .at + 5) next → change ≡ deleteOf (deletedName (viewed e)))
-        → (left : List ℕ) → ActsThere T s σ p out warns left (record { place = place; change = change; taken = Nobody }) out′ warns′ left
+        → (left : List ℕ) (loop : Option ℕ) → ActsThere T s loop σ p out warns left (record { place = place; change = change; taken = Nobody }) out′ warns′ left
     unfolding headBytes valueFlag valueCount
-    expr-acts change T σ ec ed left = record {
+    expr-acts change T σ ec ed left loop = record {
       acts = λ f t x next rest deep read.
           let v = stmt-expr f t s (p .at) x next read k in
           let l : p .at + 5 ≤ length s = v .1 in
@@ -451,7 +494,7 @@ module _ (s : List ℕ) (small : Bytes s) (p : Place) (end : ℕ) (g : FrontTher
           let whole : slice (p .at) (p .at + 5) s ++ (wrapping callee span ++ slice (p .at + 5) end s) ≡ (3 ∷ fourBytes span) ++ encodeExpr (cond wrap (deleteNode span (v .0)) (v .0)) =
           ap (λ y. y ++ (wrapping callee span ++ slice (p .at + 5) end s)) h ∙ ap (λ y. (3 ∷ fourBytes span) ++ (wrapping callee span ++ y)) m
           ∙ ap (λ y. (3 ∷ fourBytes span) ++ y) (own-bytes wrap callee (p .at + 5) span (v .0) c pos) in
-          subst (λ y. Acts T y σ p out warns left (record { place = place; change = change; taken = Nobody }) out′ warns′ left) (sym (v .3 rest)) (record {
+          subst (λ y. Acts T y loop σ p out warns left (record { place = place; change = change; taken = Nobody }) out′ warns′ left) (sym (v .3 rest)) (record {
             bytes = λ n. subst (λ y. Stored out (p .written) y out′ j) whole (both-stored head (both-stored (mid .bytes n) tail));
             warned = λ n. subst (λ y. Stored warns (p .warnings) (entriesOf version1 y) warns′ (r .warnings)) (told ∙ sym (own-warnings wrap span (v .0) (p .at))) (mid .warned n);
             listed = λ n. subst (λ y. Stored left (p .lefts) (entriesOf version1 y) left (p .lefts)) (sym (own-lefts wrap span (v .0) (p .at))) (none-stored left (p .lefts));
@@ -482,6 +525,16 @@ bare-there s at end g k ne =
     let o : getD s (at + 5) 0 ≡ 0 = ⊎-elim (λ z. absurd (ne (omega arith))) (λ z. omega arith) (less 0 (getD s (at + 5) 0)) in
     (subst (FrontThere s at) (no-value s at end g 2 k (omega arith) (omega arith)) g, o)
 
+-- a Break or Continue has no values
+pub jump-there : (s : List ℕ) (at end : ℕ) → FrontThere s at end → 8 < getD s at 0 → FrontThere s at (at + 5)
+unfolding headBytes valueFlag valueCount
+jump-there s at end g low =
+    let high = stmt-tag (g .f) (g .t) s at (g .x) (g .next) (g .read) .1 in
+    ⊎-elim {C = FrontThere s at (at + 5)}
+    (λ c. let k : getD s at 0 ≡ 9 = omega arith in subst (FrontThere s at) (no-value s at end g 9 k (omega arith) refl) g)
+    (λ c. let k : getD s at 0 ≡ 10 = omega arith in subst (FrontThere s at) (no-value s at end g 10 k (omega arith) refl) g)
+    (less (getD s at 0) 10)
+
 -- the tag that the code tests
 pub tag-there : {s : List ℕ} {at end : ℕ} → FrontThere s at end → at < length s
 tag-there {s} {at} g = within s at (getD s at 0) refl (stmt-tag (g .f) (g .t) s at (g .x) (g .next) (g .read) .0)
@@ -501,9 +554,9 @@ one-of : (k : ℕ) → (k ≡ 2 → ⊥) → (k ≡ 3 → ⊥) → (k ≡ 4 → 
 one-of k n2 n3 n4 n5 n6 l h =
     ⊎-elim (λ a. n2 (omega arith)) (λ a. ⊎-elim (λ b. n3 (omega arith)) (λ b. ⊎-elim (λ c. n4 (omega arith)) (λ c. ⊎-elim (λ d. n5 (omega arith)) (λ d. n6 (omega arith)) (less k 6)) (less k 5)) (less k 4)) (less k 3)
 
-pub plain-tag : (k : ℕ) → (k ≡ 2 → ⊥) → (k ≡ 3 → ⊥) → (k ≡ 6 → ⊥) → (eqb k 4 || eqb k 5) ≡ false → Untouched k
-plain-tag k n2 n3 n6 e =
+pub plain-tag : (k : ℕ) → (k ≡ 2 → ⊥) → (k ≡ 3 → ⊥) → k ≤ 8 → (k ≡ 6 → ⊥) → (eqb k 4 || eqb k 5) ≡ false → Untouched k
+plain-tag k n2 n3 low n6 e =
     let z = or-none (eqb k 4) (eqb k 5) e in
     let n4 = eqb-false k 4 (z .0) in
     let n5 = eqb-false k 5 (z .1) in
-    ⊎-elim {C = Untouched k} inl (λ l2. ⊎-elim {C = Untouched k} inr (λ l6. absurd (one-of k n2 n3 n4 n5 n6 l2 l6)) (less 6 k)) (less k 2)
+    ⊎-elim {C = Untouched k} inl (λ l2. ⊎-elim {C = Untouched k} (λ l7. inr (l7, omega arith)) (λ l6. absurd (one-of k n2 n3 n4 n5 n6 l2 l6)) (less 6 k)) (less k 2)

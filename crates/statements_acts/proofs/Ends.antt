@@ -1,6 +1,7 @@
 -- Where the front of a statement ends, whatever the mark says.
 -- Assumes nothing.
-use Prim.Native.Nat.{ℕ, _+_}
+use Prim.Native.Nat.{ℕ, _+_, _<_}
+use mathlib.Core.Option.{Option}
 use mathlib.Core.Path.{_≡_, sym, ap, _∙_}
 use mathlib.Core.List.{List, []}
 use lib.ListN.{getD}
@@ -12,15 +13,15 @@ use Rattle.rules.specs.Stack.{Stack as Scope}
 use Rattle.statements_acts.specs.declared.Place.{Place}
 use Rattle.statements_acts.specs.declared.Act.{Act}
 use Rattle.statements_acts.specs.Act.{FrontThere, ActsThere}
-use Rattle.statements_acts.proofs.Fronts.{front-assign, front-return, front-bare}
+use Rattle.statements_acts.proofs.Fronts.{front-assign, front-return, front-bare, front-jump}
 use Rattle.statements_steps.specs.Statement.{frontSize}
 use Rattle.statements_acts.specs.Marks.{EndsThere}
 
 abbrev bare : Tables
 bare = record { names = []; types = []; structs = []; globals = [] }
 
-pub acts-ends : {T : Tables} {s : List ℕ} {σ : Scope Status} {p : Place} {out warns left : List ℕ} {a : Act} {out′ warns′ left′ : List ℕ}
-    → ActsThere T s σ p out warns left a out′ warns′ left′ → EndsThere s (p .at) (a .place .at)
+pub acts-ends : {T : Tables} {s : List ℕ} {loop : Option ℕ} {σ : Scope Status} {p : Place} {out warns left : List ℕ} {a : Act} {out′ warns′ left′ : List ℕ}
+    → ActsThere T s loop σ p out warns left a out′ warns′ left′ → EndsThere s (p .at) (a .place .at)
 acts-ends h = record { is = λ f t x next r deep read. h .acts f t x next r deep read .at }
 
 module _ (s : List ℕ) (small : Bytes s) (p : Place) (end : ℕ) (g : FrontThere s (p .at) end) where
@@ -43,4 +44,11 @@ bare-ends s small p k o q w = record {
   is = λ f t x next r deep read.
       let v = front-bare bare s small (p .at) f t x next read k o r in
       w ∙ v .1 .size ∙ ap (λ (c : Tree). p .at + frontSize c) (sym (v .0));
+}
+
+pub jump-ends : (s : List ℕ) (small : Bytes s) (p : Place) → 8 < getD s (p .at) 0 → (q : Place) → q .at ≡ p .at + 5 → EndsThere s (p .at) (q .at)
+jump-ends s small p k q w = record {
+  is = λ f t x next r deep read.
+      let v = front-jump bare s small (p .at) f t x next read k r in
+      w ∙ v .2 .size ∙ ap (λ (c : Tree). p .at + frontSize c) (sym (v .1));
 }

@@ -1,5 +1,6 @@
 -- The bytes of a statement up to its blocks, of whatever statement was read there.
 -- Assumes nothing.
+use mathlib.Core.Option.{Option}
 use mathlib.Core.Path.{_≡_, refl, sym, ap, _∙_, subst}
 use mathlib.Core.List.{List, [], _∷_, _++_}
 use mathlib.Core.Bool.{Bool, true, false, cond}
@@ -38,7 +39,7 @@ pub record Front (T : Tables) (s : List ℕ) (at to : ℕ) (c : Tree) : Type 0 w
 -- nothing is put before it, nothing reported and no local changed
 pub record Plainly (T : Tables) (c : Tree) : Type 0 where
   pub drops : (σ : Scope Status) → frontDrops T c σ ≡ []
-  pub reports : (at : ℕ) (σ : Scope Status) → frontReports T c at σ ≡ []
+  pub reports : (loop : Option ℕ) (at : ℕ) (σ : Scope Status) → frontReports T c loop at σ ≡ []
   pub settles : (d : ℕ) (σ : Scope Status) → settle T c d σ ≡ σ
 
 -- tag and span
@@ -63,7 +64,7 @@ module _ (T : Tables) (s : List ℕ) (small : Bytes s) (at end : ℕ) (g : Front
       let e : end ≡ at + 1 = no-value s at end g 1 k (omega arith) refl in
       subst (λ c. Front T s at end c × Plainly T c) (sym (v .3 r)) (
         record { written = upto (sym e) (being (ap (λ x. x ∷ []) k) (byte-at s at (omega arith))); size = e; inside = omega arith },
-        record { drops = λ σ. refl; reports = λ i σ. refl; settles = λ d σ. refl },
+        record { drops = λ σ. refl; reports = λ l i σ. refl; settles = λ d σ. refl },
       )
 
   -- a statement with one value behind its span
@@ -86,12 +87,12 @@ module _ (T : Tables) (s : List ℕ) (small : Bytes s) (at end : ℕ) (g : Front
       ⊎-elim {C = Front T s at end (before x r) × Plainly T (before x r)}
       (λ z. subst (λ c. Front T s at end c × Plainly T c) (sym (v .with z .2 r)) (
         record { written = w .0; size = w .1; inside = w .2 },
-        record { drops = λ σ. refl; reports = λ i σ. refl; settles = λ d σ. refl },
+        record { drops = λ σ. refl; reports = λ l i σ. refl; settles = λ d σ. refl },
       ))
       (λ z. let e : getD s (v .q) 0 ≡ 0 = omega arith in
       subst (λ c. Front T s at end c × Plainly T c) (sym (v .without e .1 r)) (
         record { written = w .0; size = w .1; inside = w .2 },
-        record { drops = λ σ. refl; reports = λ i σ. refl; settles = λ d σ. refl },
+        record { drops = λ σ. refl; reports = λ l i σ. refl; settles = λ d σ. refl },
       )) (less 0 (getD s (v .q) 0))
 
   front-while : getD s at 0 ≡ 8 → (r : Tree) → Front T s at end (before x r) × Plainly T (before x r)
@@ -101,17 +102,7 @@ module _ (T : Tables) (s : List ℕ) (small : Bytes s) (at end : ℕ) (g : Front
       let w = spanned 8 k (v .3) (v .0) (v .1) (v .4) (omega arith) refl in
       subst (λ c. Front T s at end c × Plainly T c) (sym (v .6 r)) (
         record { written = w .0; size = w .1; inside = w .2 },
-        record { drops = λ σ. refl; reports = λ i σ. refl; settles = λ d σ. refl },
-      )
-
-  front-jump : (b : Bool) (k : ℕ) → getD s at 0 ≡ k → k ≡ cond b 10 9 → frontOf s at k .first ≡ at + 5 → frontOf s at k .values ≡ 0
-      → (next ≡ at + 5) × (next ≤ length s) × ((c : Tree) → before x c ≡ jump b (four s (at + 1)) c) → (r : Tree) → Front T s at end (before x r) × Plainly T (before x r)
-  front-jump b k ek kb f1 f2 v r =
-      let l : at + 5 ≤ length s = subst (λ y. y ≤ length s) (v .0) (v .1) in
-      let e : end ≡ at + 5 = no-value s at end g k ek f1 f2 in
-      subst (λ c. Front T s at end c × Plainly T c) (sym (v .2 r)) (
-        record { written = upto (sym e) (head-bytes s small at (cond b 10 9) (ek ∙ kb) l); size = e; inside = omega arith },
-        record { drops = λ σ. refl; reports = λ i σ. refl; settles = λ d σ. refl },
+        record { drops = λ σ. refl; reports = λ l i σ. refl; settles = λ d σ. refl },
       )
 
   pub front-plain : Untouched (getD s at 0) → (r : Tree) → Front T s at end (before x r) × Plainly T (before x r)
@@ -121,12 +112,8 @@ module _ (T : Tables) (s : List ℕ) (small : Bytes s) (at end : ℕ) (g : Front
       let low = h .0 in
       let high = h .1 in
       ⊎-elim {C = Front T s at end (before x r) × Plainly T (before x r)} (λ l. let k : getD s at 0 ≡ 1 = omega arith in front-block k r)
-      (λ l. ⊎-elim {C = Front T s at end (before x r) × Plainly T (before x r)} (λ a. let k : getD s at 0 ≡ 7 = omega arith in front-if k r)
-      (λ a. ⊎-elim {C = Front T s at end (before x r) × Plainly T (before x r)} (λ b. let k : getD s at 0 ≡ 8 = omega arith in front-while k r)
-      (λ b. ⊎-elim {C = Front T s at end (before x r) × Plainly T (before x r)}
-      (λ c. let k : getD s at 0 ≡ 9 = omega arith in front-jump false 9 k refl (omega arith) refl (stmt-break f t s at x next read k) r)
-      (λ c. let k : getD s at 0 ≡ 10 = omega arith in front-jump true 10 k refl (omega arith) refl (stmt-continue f t s at x next read k) r)
-      (less (getD s at 0) 10)) (less (getD s at 0) 9)) (less (getD s at 0) 8)) u
+      (λ l. ⊎-elim {C = Front T s at end (before x r) × Plainly T (before x r)} (λ a. let k : getD s at 0 ≡ 7 = omega (arith, l .0) in front-if k r)
+      (λ a. let k : getD s at 0 ≡ 8 = omega (arith, l .1) in front-while k r) (less (getD s at 0) 8)) u
 
   -- a Let or Const
   pub record FrontVariable (r : Tree) : Type 0 where
@@ -243,6 +230,22 @@ module _ (T : Tables) (s : List ℕ) (small : Bytes s) (at end : ℕ) (g : Front
 
 -- a Return without a value
 module _ (T : Tables) (s : List ℕ) (small : Bytes s) (at : ℕ) (f : ℕ → Parsed Block) (t : Reading) (x : Stmt) (next : ℕ) (read : stmtAt f t s at ≡ ok x next) where
+  jump-written : (b : Bool) (k : ℕ) → getD s at 0 ≡ k → k ≡ cond b 10 9
+      → (next ≡ at + 5) × (next ≤ length s) × ((c : Tree) → before x c ≡ jump b (four s (at + 1)) c) → (r : Tree)
+      → (before x r ≡ jump b (four s (at + 1)) r) × Front T s at (at + 5) (jump b (four s (at + 1)) r)
+  jump-written b k ek kb v r =
+      let l : at + 5 ≤ length s = subst (λ y. y ≤ length s) (v .0) (v .1) in
+      (v .2 r, record { written = head-bytes s small at (cond b 10 9) (ek ∙ kb) l; size = refl; inside = l })
+
+  -- a Break or Continue
+  pub front-jump : 8 < getD s at 0 → (r : Tree) → (b : Bool) × (before x r ≡ jump b (four s (at + 1)) r) × Front T s at (at + 5) (jump b (four s (at + 1)) r)
+  front-jump low r =
+      let high = stmt-tag f t s at x next read .1 in
+      ⊎-elim {C = (b : Bool) × (before x r ≡ jump b (four s (at + 1)) r) × Front T s at (at + 5) (jump b (four s (at + 1)) r)}
+      (λ c. let k : getD s at 0 ≡ 9 = omega arith in let w = jump-written false 9 k refl (stmt-break f t s at x next read k) r in (false, w .0, w .1))
+      (λ c. let k : getD s at 0 ≡ 10 = omega arith in let w = jump-written true 10 k refl (stmt-continue f t s at x next read k) r in (true, w .0, w .1))
+      (less (getD s at 0) 10)
+
   pub front-bare : getD s at 0 ≡ 2 → getD s (at + 5) 0 ≡ 0 → (r : Tree)
       → (before x r ≡ bareReturn (four s (at + 1)) (two s (at + 6)) r) × Front T s at (at + 8) (bareReturn (four s (at + 1)) (two s (at + 6)) r)
   front-bare k o r =

@@ -1,5 +1,6 @@
 -- What the code of a statement does, whatever statement was read there.
 use Prim.Native.Nat.{ℕ, _+_, _*_, _≤_}
+use mathlib.Core.Option.{Option}
 use mathlib.Core.Path.{_≡_}
 use mathlib.Core.Bool.{true, false}
 use mathlib.Core.List.{List}
@@ -52,38 +53,38 @@ pub record FrontThere (s : List ℕ) (at end : ℕ) : Type 0 where
   pub read : stmtAt f t s at ≡ ok x next
   pub values : exprsAt t s 24 (frontAt s at .values) (frontAt s at .first) ≡ ok (x .front .values) end
 
--- a place of the walk: within the image; at most 600 numbers or bytes were stored for each byte read; bytes, warnings and left-behind entries
--- may begin at up to 120,000,000, where a page's lists are
+-- a place of the walk: within the image; at most 1,000 numbers or bytes were stored for each byte read; bytes, warnings and left-behind entries
+-- may begin at up to 200,000,000, where a page's lists are
 pub record Within (s : List ℕ) (p : Place) : Type 0 where
   pub small : length s ≤ 65536
   pub inside : p .at ≤ length s
-  pub written : p .written ≤ 120000000 + 600 * p .at
-  pub errors : p .errors ≤ 600 * p .at
-  pub warnings : p .warnings ≤ 120000000 + 600 * p .at
-  pub lefts : p .lefts ≤ 120000000 + 600 * p .at
-  pub inserted : p .inserted ≤ 600 * p .at
+  pub written : p .written ≤ 200000000 + 1000 * p .at
+  pub errors : p .errors ≤ 1000 * p .at
+  pub warnings : p .warnings ≤ 200000000 + 1000 * p .at
+  pub lefts : p .lefts ≤ 200000000 + 1000 * p .at
+  pub inserted : p .inserted ≤ 1000 * p .at
 
 -- from one place to a later one, as many
 pub record Grows (s : List ℕ) (p q : Place) : Type 0 where
   pub on : p .at ≤ q .at
   pub inside : q .at ≤ length s
-  pub written : q .written + 600 * p .at ≤ p .written + 600 * q .at
-  pub errors : q .errors + 600 * p .at ≤ p .errors + 600 * q .at
-  pub warnings : q .warnings + 600 * p .at ≤ p .warnings + 600 * q .at
-  pub lefts : q .lefts + 600 * p .at ≤ p .lefts + 600 * q .at
-  pub inserted : q .inserted + 600 * p .at ≤ p .inserted + 600 * q .at
+  pub written : q .written + 1000 * p .at ≤ p .written + 1000 * q .at
+  pub errors : q .errors + 1000 * p .at ≤ p .errors + 1000 * q .at
+  pub warnings : q .warnings + 1000 * p .at ≤ p .warnings + 1000 * q .at
+  pub lefts : q .lefts + 1000 * p .at ≤ p .lefts + 1000 * q .at
+  pub inserted : q .inserted + 1000 * p .at ≤ p .inserted + 1000 * q .at
 
 -- where the next line of each list is stored, if a page is made
 abbrev pub cursorsAt : Place → Cursors
 cursorsAt p = cursors (p .errors) (p .warnings) (p .lefts)
 
--- the statement c up to its blocks, walked from a place: what is stored, where the walk stands then, and how the locals change; where a
+-- the statement c up to its blocks, in a loop whose body has that depth, if any, walked from a place: what is stored, where the walk stands then, and how the locals change; where a
 -- page is made, the output ends no later than the place, and no byte is stored but its lines
-pub record Acts (T : Tables) (c : Tree) (σ : Scope Status) (p : Place) (out warns left : List ℕ) (a : Act) (out′ warns′ left′ : List ℕ) : Type 0 where
+pub record Acts (T : Tables) (c : Tree) (loop : Option ℕ) (σ : Scope Status) (p : Place) (out warns left : List ℕ) (a : Act) (out′ warns′ left′ : List ℕ) : Type 0 where
   pub bytes : p .paged ≡ false → Stored out (p .written) (frontBytes T c σ) out′ (a .place .written)
-  pub warned : p .paged ≡ false → Stored warns (p .warnings) (entriesOf version1 (warnings (frontReports T c (p .at) σ))) warns′ (a .place .warnings)
-  pub listed : p .paged ≡ false → Stored left (p .lefts) (entriesOf version1 (lefts (frontReports T c (p .at) σ))) left′ (a .place .lefts)
-  pub lines : p .paged ≡ true → length out ≤ p .written → Lined (cursorsAt p) (frontReports T c (p .at) σ) out (cursorsAt (a .place)) out′
+  pub warned : p .paged ≡ false → Stored warns (p .warnings) (entriesOf version1 (warnings (frontReports T c loop (p .at) σ))) warns′ (a .place .warnings)
+  pub listed : p .paged ≡ false → Stored left (p .lefts) (entriesOf version1 (lefts (frontReports T c loop (p .at) σ))) left′ (a .place .lefts)
+  pub lines : p .paged ≡ true → length out ≤ p .written → Lined (cursorsAt p) (frontReports T c loop (p .at) σ) out (cursorsAt (a .place)) out′
   pub long : a .place .written ≡ p .written + length (frontBytes T c σ)
   pub paged : a .place .paged ≡ p .paged
   pub errors : a .place .errors ≡ p .errors
@@ -94,6 +95,6 @@ pub record Acts (T : Tables) (c : Tree) (σ : Scope Status) (p : Place) (out war
   pub settles : (d : ℕ) → takenIn (a .taken) (changeIn d (a .change) σ) ≡ settle T c d σ
 
 -- of whatever statement was read at the place, before whatever follows it
-pub record ActsThere (T : Tables) (s : List ℕ) (σ : Scope Status) (p : Place) (out warns left : List ℕ) (a : Act) (out′ warns′ left′ : List ℕ) : Type 0 where
+pub record ActsThere (T : Tables) (s : List ℕ) (loop : Option ℕ) (σ : Scope Status) (p : Place) (out warns left : List ℕ) (a : Act) (out′ warns′ left′ : List ℕ) : Type 0 where
   pub acts : (f : ℕ → Parsed Block) (t : Reading) (x : Stmt) (next : ℕ) (r : Tree) → t .exprDepth ≡ 24 → stmtAt f t s (p .at) ≡ ok x next
-      → Acts T (before x r) σ p out warns left a out′ warns′ left′
+      → Acts T (before x r) loop σ p out warns left a out′ warns′ left′

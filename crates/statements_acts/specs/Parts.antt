@@ -88,6 +88,6 @@ pub record WarnsAt (paged : Bool) (callee span : ℕ) (out : List ℕ) (written 
   pub long : r .written ≡ written + length (wrapping callee span)
   pub few : r .warnings ≤ told + 73
 
--- Block, IfElse, While, Break, Continue
+-- Block, IfElse, While
 abbrev pub Untouched : ℕ → Type 0
-Untouched tag = (tag < 2) ⊎ (6 < tag)
+Untouched tag = (tag < 2) ⊎ ((6 < tag) × (tag < 9))

@@ -3,6 +3,7 @@
 ghost use mathlib.Core.Path.{_≡_};
 ghost use mathlib.Core.Bool.{true, cond, _&&_, _||_};
 ghost use mathlib.Core.List.{List, [], _∷_, map};
+ghost use mathlib.Core.Option.{Option};
 ghost use Prim.Native.Nat.{ℕ, _+_, _≤_, _<_};
 ghost use lib.Dec.{eqb};
 ghost use lib.ListN.{length, getD};
@@ -29,7 +30,7 @@ ghost use Rattle.statements_acts.specs.Drops.{admitted};
 ghost use Rattle.statements_acts.specs.declared.Which.the-variants.{All};
 ghost use Rattle.statements_acts.specs.Act.{namedOf, takenIn, FrontThere, Within, Grows, ActsThere};
 ghost use Rattle.statements_acts.specs.Parts.{deletedName, deleteOf, reviveOf, takesOver, noPut, sparing, relisted, Copied, WarnsAt, Untouched};
-ghost use Rattle.statements_acts.specs.Marks.{lent, Marked, EndsThere};
+ghost use Rattle.statements_acts.specs.Marks.{lent, Marked, Looped, EndsThere};
 use expressions_effects::name_at;
 use expressions_effects::span_at;
 use image_body::Node;
@@ -243,8 +244,8 @@ fn nothing_put(p: Place) -> Put
 // A statement that changes nothing and puts nothing in, up to a position.
 fn plain_statement(s: &[u8], p: Place, to: usize, out: &mut [u8]) -> Act
     requires { ⌜ Within (now s) p × FrontThere (now s) (p .at) to × Untouched (getD (now s) (p .at) 0) ⌝ }
-    ensures { λ a. ⌜ ((T : Tables) (σ : Scope Status) (warns left : List ℕ)
-        → ActsThere T (now (s .entry)) σ p (now (out .entry)) warns left a (now (out .exit)) warns left) ⌝ }
+    ensures { λ a. ⌜ ((T : Tables) (σ : Scope Status) (warns left : List ℕ) (loop : Option ℕ)
+        → ActsThere T (now (s .entry)) loop σ p (now (out .entry)) warns left a (now (out .exit)) warns left) ⌝ }
     ensures { λ a. ⌜ Grows (now (s .entry)) p (a .place) ⌝ }
 {
     let place = behind(s, p, nothing_put(p), to, out);
@@ -265,8 +266,8 @@ fn expr_statement(
     warns: &mut [u32],
 ) -> Act
     requires { ⌜ Lent (now s) (now tb) × Within (now s) p × FrontThere (now s) (p .at) end × (getD (now s) (p .at) 0 ≡ 3) ⌝ }
-    ensures { λ a. ⌜ ((T : Tables) → Says (now (s .entry)) (now (tb .entry)) T → (σ : Scope Status) (left : List ℕ)
-        → ActsThere T (now (s .entry)) σ p (now (out .entry)) (now (warns .entry)) left a (now (out .exit)) (now (warns .exit)) left) ⌝ }
+    ensures { λ a. ⌜ ((T : Tables) → Says (now (s .entry)) (now (tb .entry)) T → (σ : Scope Status) (left : List ℕ) (loop : Option ℕ)
+        → ActsThere T (now (s .entry)) loop σ p (now (out .entry)) (now (warns .entry)) left a (now (out .exit)) (now (warns .exit)) left) ⌝ }
     ensures { λ a. ⌜ Grows (now (s .entry)) p (a .place) ⌝ }
 {
     let value = p.at + 5;
@@ -360,8 +361,8 @@ fn variable_statement<'a>(
     requires { ⌜ AllWithin (now s) (now ns) × (n ≤ 64) × Within (now s) p × FrontThere (now s) (p .at) end
         × (3 < getD (now s) (p .at) 0) × (getD (now s) (p .at) 0 < 6) ⌝ }
     ensures { λ a. ⌜ ((T : Tables) → map (nameOf (now (s .entry))) (now (ns .entry)) ≡ T .names
-        → (ld : List ℕ) (g : ℕ → Status) → (warns left : List ℕ)
-        → ActsThere T (now (s .entry)) (lent (now (ln .entry)) (now (lt .entry)) ld g n) p (now (out .entry)) warns left a (now (out .exit)) warns left) ⌝ }
+        → (ld : List ℕ) (g : ℕ → Status) → (warns left : List ℕ) (loop : Option ℕ)
+        → ActsThere T (now (s .entry)) loop (lent (now (ln .entry)) (now (lt .entry)) ld g n) p (now (out .entry)) warns left a (now (out .exit)) warns left) ⌝ }
     ensures { λ a. ⌜ Grows (now (s .entry)) p (a .place) ⌝ }
 {
     let name = name_at(s, p.at + 5);
@@ -485,7 +486,7 @@ fn put_left(
     image_writing::put_pair(lefts, at, span, name)
 }
 
-// A return without a value: the locals that are left behind, newest first, each as the span and the name.
+// What a return without a value, a Break or a Continue leaves behind: the locals that a mark has, newest first, each as the span and the name.
 pub fn list_left(
     names: &Names,
     mark: u64,
@@ -558,8 +559,8 @@ fn return_statement<'a>(
     out: &mut [u8],
 ) -> Act
     requires { ⌜ Within (now s) p × FrontThere (now s) (p .at) end × (getD (now s) (p .at) 0 ≡ 2) × (getD (now s) (p .at + 5) 0 ≡ 1) ⌝ }
-    ensures { λ a. ⌜ ((T : Tables) (ld : List ℕ) (g : ℕ → Status) (n : ℕ) → Marked T (now (lt .entry)) g n mark → (warns left : List ℕ)
-        → ActsThere T (now (s .entry)) (lent (now (ln .entry)) (now (lt .entry)) ld g n) p (now (out .entry)) warns left a (now (out .exit)) warns left) ⌝ }
+    ensures { λ a. ⌜ ((T : Tables) (ld : List ℕ) (g : ℕ → Status) (n : ℕ) → Marked T (now (lt .entry)) g n mark → (warns left : List ℕ) (loop : Option ℕ)
+        → ActsThere T (now (s .entry)) loop (lent (now (ln .entry)) (now (lt .entry)) ld g n) p (now (out .entry)) warns left a (now (out .exit)) warns left) ⌝ }
     ensures { λ a. ⌜ Grows (now (s .entry)) p (a .place) × EndsThere (now (s .entry)) (p .at) (a .place .at) ⌝ }
 {
     let which = returned_identifier_name(s, p.at + 6);
@@ -592,13 +593,39 @@ fn listed(p: Place, lefts: usize) -> Place
 // A Return without a value: what is left behind is listed.
 fn bare_return(s: &[u8], ln: &Names, mark: u64, p: Place, out: &mut [u8], lefts: &mut [u32]) -> Act
     requires { ⌜ Within (now s) p × FrontThere (now s) (p .at) (p .at + 6) × (getD (now s) (p .at) 0 ≡ 2) × (getD (now s) (p .at + 5) 0 ≡ 0) ⌝ }
-    ensures { λ a. ⌜ ((T : Tables) (lt ld : List ℕ) (g : ℕ → Status) (n : ℕ) → Marked T lt g n mark → (warns : List ℕ)
-        → ActsThere T (now (s .entry)) (lent (now (ln .entry)) lt ld g n) p (now (out .entry)) warns (now (lefts .entry)) a (now (out .exit)) warns (now (lefts .exit))) ⌝ }
+    ensures { λ a. ⌜ ((T : Tables) (lt ld : List ℕ) (g : ℕ → Status) (n : ℕ) → Marked T lt g n mark → (warns : List ℕ) (loop : Option ℕ)
+        → ActsThere T (now (s .entry)) loop (lent (now (ln .entry)) lt ld g n) p (now (out .entry)) warns (now (lefts .entry)) a (now (out .exit)) warns (now (lefts .exit))) ⌝ }
     ensures { λ a. ⌜ Grows (now (s .entry)) p (a .place) × EndsThere (now (s .entry)) (p .at) (a .place .at) ⌝ }
 {
     let span = span_at(s, p.at + 1);
     let left = list_left(ln, mark, span, p.paged, out, lefts, p.lefts);
     let place = behind(s, listed(p, left), nothing_put(p), p.at + 8, out);
+    Act {
+        place: place,
+        change: Change::Nothing,
+        taken: Named::Nobody,
+    }
+}
+
+// A Break or Continue: what the frames out to the nearest loop's body leave behind is listed, that is the locals from base on.
+fn jump_statement(
+    s: &[u8],
+    ln: &Names,
+    mark: u64,
+    base: usize,
+    p: Place,
+    out: &mut [u8],
+    lefts: &mut [u32],
+) -> Act
+    requires { ⌜ Within (now s) p × FrontThere (now s) (p .at) (p .at + 5) × (8 < getD (now s) (p .at) 0) × (base ≤ 64) ⌝ }
+    ensures { λ a. ⌜ ((T : Tables) (lt ld : List ℕ) (g : ℕ → Status) (n : ℕ) → Marked T lt g n mark → (loop : Option ℕ) → Looped ld loop base n → (warns : List ℕ)
+        → ActsThere T (now (s .entry)) loop (lent (now (ln .entry)) lt ld g n) p (now (out .entry)) warns (now (lefts .entry)) a (now (out .exit)) warns (now (lefts .exit))) ⌝ }
+    ensures { λ a. ⌜ Grows (now (s .entry)) p (a .place) × EndsThere (now (s .entry)) (p .at) (a .place .at) ⌝ }
+{
+    let span = span_at(s, p.at + 1);
+    let own = scope_stack::since(mark, base);
+    let left = list_left(ln, own, span, p.paged, out, lefts, p.lefts);
+    let place = behind(s, listed(p, left), nothing_put(p), p.at + 5, out);
     Act {
         place: place,
         change: Change::Nothing,
@@ -618,8 +645,8 @@ fn either_return<'a>(
     lefts: &mut [u32],
 ) -> Act
     requires { ⌜ Within (now s) p × FrontThere (now s) (p .at) end × (getD (now s) (p .at) 0 ≡ 2) ⌝ }
-    ensures { λ a. ⌜ ((T : Tables) (ld : List ℕ) (g : ℕ → Status) (n : ℕ) → Marked T (now (lt .entry)) g n mark → (warns : List ℕ)
-        → ActsThere T (now (s .entry)) (lent (now (ln .entry)) (now (lt .entry)) ld g n) p (now (out .entry)) warns (now (lefts .entry)) a (now (out .exit)) warns (now (lefts .exit))) ⌝ }
+    ensures { λ a. ⌜ ((T : Tables) (ld : List ℕ) (g : ℕ → Status) (n : ℕ) → Marked T (now (lt .entry)) g n mark → (warns : List ℕ) (loop : Option ℕ)
+        → ActsThere T (now (s .entry)) loop (lent (now (ln .entry)) (now (lt .entry)) ld g n) p (now (out .entry)) warns (now (lefts .entry)) a (now (out .exit)) warns (now (lefts .exit))) ⌝ }
     ensures { λ a. ⌜ Grows (now (s .entry)) p (a .place) × EndsThere (now (s .entry)) (p .at) (a .place .at) ⌝ }
 {
     if peek(s, p.at + 5) == 1 {
@@ -668,8 +695,8 @@ fn assign_statement<'a>(
 ) -> Act
     requires { ⌜ AllWithin (now s) (now ns) × (n ≤ 64) × Within (now s) p × FrontThere (now s) (p .at) end × (getD (now s) (p .at) 0 ≡ 6) ⌝ }
     ensures { λ a. ⌜ ((T : Tables) → map (nameOf (now (s .entry))) (now (ns .entry)) ≡ T .names
-        → (ld : List ℕ) (g : ℕ → Status) → Marked T (now (lt .entry)) g n mark → (warns left : List ℕ)
-        → ActsThere T (now (s .entry)) (lent (now (ln .entry)) (now (lt .entry)) ld g n) p (now (out .entry)) warns left a (now (out .exit)) warns left) ⌝ }
+        → (ld : List ℕ) (g : ℕ → Status) → Marked T (now (lt .entry)) g n mark → (warns left : List ℕ) (loop : Option ℕ)
+        → ActsThere T (now (s .entry)) loop (lent (now (ln .entry)) (now (lt .entry)) ld g n) p (now (out .entry)) warns left a (now (out .exit)) warns left) ⌝ }
     ensures { λ a. ⌜ Grows (now (s .entry)) p (a .place) × EndsThere (now (s .entry)) (p .at) (a .place .at) ⌝ }
 {
     let span = span_at(s, p.at + 1);
@@ -702,16 +729,17 @@ pub fn statement<'a>(
     lt: &'a Types,
     n: usize,
     mark: u64,
+    base: usize,
     p: Place,
     end: usize,
     out: &mut [u8],
     warns: &mut [u32],
     lefts: &mut [u32],
 ) -> Act
-    requires { ⌜ Lent (now s) (now tb) × (n ≤ 64) × Within (now s) p × FrontThere (now s) (p .at) end ⌝ }
+    requires { ⌜ Lent (now s) (now tb) × (n ≤ 64) × (base ≤ 64) × Within (now s) p × FrontThere (now s) (p .at) end ⌝ }
     ensures { λ a. ⌜ ((T : Tables) → Says (now (s .entry)) (now (tb .entry)) T
-        → (ld : List ℕ) (g : ℕ → Status) → Marked T (now (lt .entry)) g n mark
-        → ActsThere T (now (s .entry)) (lent (now (ln .entry)) (now (lt .entry)) ld g n) p (now (out .entry)) (now (warns .entry)) (now (lefts .entry)) a (now (out .exit)) (now (warns .exit)) (now (lefts .exit))) ⌝ }
+        → (ld : List ℕ) (g : ℕ → Status) → Marked T (now (lt .entry)) g n mark → (loop : Option ℕ) → Looped ld loop base n
+        → ActsThere T (now (s .entry)) loop (lent (now (ln .entry)) (now (lt .entry)) ld g n) p (now (out .entry)) (now (warns .entry)) (now (lefts .entry)) a (now (out .exit)) (now (warns .exit)) (now (lefts .exit))) ⌝ }
     ensures { λ a. ⌜ Grows (now (s .entry)) p (a .place) × EndsThere (now (s .entry)) (p .at) (a .place .at) ⌝ }
 {
     let at = p.at;
@@ -721,6 +749,9 @@ pub fn statement<'a>(
     }
     if tag == 3 {
         return expr_statement(s, tb, p, end, out, warns);
+    }
+    if 8 < tag {
+        return jump_statement(s, ln, mark, base, p, out, lefts);
     }
     let names = 8 + tb[0] as usize;
     let ns = &tb[8..names];

@@ -4,6 +4,7 @@ use Prim.Native.Nat.{ℕ, _≤_, _<_}
 use mathlib.Core.Path.{_≡_, refl, _∙_}
 use mathlib.Core.Bool.{true, false}
 use mathlib.Core.List.{List}
+use mathlib.Core.Option.{Option}
 use mathlib.Core.Logic.{⊎-elim}
 use borrow.Author.Tests.{lt-ltb, le-ltb}
 use native.Mathlib.Omega.{arith}
@@ -15,6 +16,7 @@ use Rattle.expressions_scan.specs.States.{lowOf, Kept, AllKept}
 use Rattle.scope_stack.specs.declared.Locals.{Locals}
 use Rattle.scope_stack.specs.declared.States.{States}
 use Rattle.scope_stack.specs.View.{rowOf, stateAt, view, markOf, Sound}
+use Rattle.statements_acts.specs.Marks.{Looped}
 use Rattle.statements_changes.specs.Turns.{Lends}
 
 low-of : (k : ℕ) → k < 15 → (k < 9 → k < 7) → (lowOf k < 7) × (8 ≤ k → 0 < lowOf k)
@@ -26,8 +28,8 @@ low-of k h s =
 
 module _ (l : Locals) (t : States) (rows : List ℕ) (cur width : ℕ) where
   pub lends-view : {P : Tables → Type 0} → Sound P l t rows cur width → (T : Tables) → P T → (mark : ℕ) → mark ≡ markOf l t
-      → Lends T mark (l .names) (l .types) (l .depths) (stateAt t rows cur width) (l .count) (view l t rows cur width)
-  lends-view s T p mark e = record { held = refl; marked = e ∙ s .marked T p }
+      → (loop : Option ℕ) (base : ℕ) → Looped (l .depths) loop base (l .count) → Lends T mark loop base (l .names) (l .types) (l .depths) (stateAt t rows cur width) (l .count) (view l t rows cur width)
+  lends-view s T p mark e loop base j = record { held = refl; marked = e ∙ s .marked T p; jumps = j }
 
   -- what the walk asks of states and rows
   pub kept-view : {P : Tables → Type 0} → Sound P l t rows cur width → cur < 4294967296 → width ≤ 8 → AllKept (t .kinds) (t .firsts) rows cur width (l .count)

@@ -2,6 +2,7 @@
 -- Assumes nothing.
 use Prim.Native.Nat.{ℕ, _+_, _-_, _*_, _≤_, _<_}
 use native.Mathlib.Omega.{arith}
+use mathlib.Core.Option.{Option}
 use mathlib.Core.Path.{_≡_, refl, sym, ap, _∙_, subst}
 use mathlib.Core.Bool.{Bool, true, false, cond}
 use mathlib.Core.List.{List, []}
@@ -111,7 +112,7 @@ module _ (s : List ℕ) (left : ℕ) (c : Cursor) (st : SomeSteady s left c) (on
       inserted = grows .inserted;
     }
 
-    few-errors : c .place .errors ≤ 600 * a .place .at
+    few-errors : c .place .errors ≤ 1000 * a .place .at
     few-errors =
         let v = vals in
         let e = ended in
@@ -128,7 +129,7 @@ module _ (s : List ℕ) (left : ℕ) (c : Cursor) (st : SomeSteady s left c) (on
         fuel-none : c .nodes ≡ 0 → fuel s (c .nodes) (c .at) ≡ 2 * (length s - c .at)
         fuel-none e = rw e (omega arith)
 
-    as-within : (k : ℕ) → k ≤ 600 * a .place .at → Within s (retold (a .place) k)
+    as-within : (k : ℕ) → k ≤ 1000 * a .place .at → Within s (retold (a .place) k)
     as-within k le =
         let w = within-there in
         record { small = w .small; inside = w .inside; written = w .written; errors = le; warnings = w .warnings; lefts = w .lefts; inserted = w .inserted }
@@ -169,13 +170,13 @@ within-told {s} e w = subst (Within s) (sym e) w
 pub front-told : (s : List ℕ) (p q : Place) (end : ℕ) → q ≡ p → FrontThere s (p .at) end → FrontThere s (q .at) end
 front-told s p q end e f = subst (λ (x : Place). FrontThere s (x .at) end) (sym e) f
 
-pub acts-told : {T : Tables} {s : List ℕ} {σ : Scope Status} {p q : Place} {out warns lefts out₁ warns₁ lefts₁ : List ℕ} {a : Act} → q ≡ p
-    → ActsThere T s σ q out warns lefts a out₁ warns₁ lefts₁ → ActsThere T s σ p out warns lefts a out₁ warns₁ lefts₁
-acts-told {T} {s} {σ} {p} {q} {out} {warns} {lefts} {out₁} {warns₁} {lefts₁} {a} e h = subst (λ (x : Place). ActsThere T s σ x out warns lefts a out₁ warns₁ lefts₁) e h
+pub acts-told : {T : Tables} {s : List ℕ} {loop : Option ℕ} {σ : Scope Status} {p q : Place} {out warns lefts out₁ warns₁ lefts₁ : List ℕ} {a : Act} → q ≡ p
+    → ActsThere T s loop σ q out warns lefts a out₁ warns₁ lefts₁ → ActsThere T s loop σ p out warns lefts a out₁ warns₁ lefts₁
+acts-told {T} {s} {loop} {σ} {p} {q} {out} {warns} {lefts} {out₁} {warns₁} {lefts₁} {a} e h = subst (λ (x : Place). ActsThere T s loop σ x out warns lefts a out₁ warns₁ lefts₁) e h
 
-pub acts-of : {T : Tables} {s : List ℕ} {σ τ : Scope Status} {p : Place} {out warns lefts out₁ warns₁ lefts₁ : List ℕ} {a : Act} → σ ≡ τ
-    → ActsThere T s τ p out warns lefts a out₁ warns₁ lefts₁ → ActsThere T s σ p out warns lefts a out₁ warns₁ lefts₁
-acts-of {T} {s} {σ} {τ} {p} {out} {warns} {lefts} {out₁} {warns₁} {lefts₁} {a} e h = subst (λ (x : Scope Status). ActsThere T s x p out warns lefts a out₁ warns₁ lefts₁) (sym e) h
+pub acts-of : {T : Tables} {s : List ℕ} {loop : Option ℕ} {σ τ : Scope Status} {p : Place} {out warns lefts out₁ warns₁ lefts₁ : List ℕ} {a : Act} → σ ≡ τ
+    → ActsThere T s loop τ p out warns lefts a out₁ warns₁ lefts₁ → ActsThere T s loop σ p out warns lefts a out₁ warns₁ lefts₁
+acts-of {T} {s} {loop} {σ} {τ} {p} {out} {warns} {lefts} {out₁} {warns₁} {lefts₁} {a} e h = subst (λ (x : Scope Status). ActsThere T s loop x p out warns lefts a out₁ warns₁ lefts₁) (sym e) h
 
 pub grows-told : {s : List ℕ} {p q z : Place} → q ≡ p → Grows s q z → Grows s p z
 grows-told {s} {p} {q} {z} e h = subst (λ (x : Place). Grows s x z) e h

@@ -3,7 +3,7 @@ use Prim.Native.Nat.{ℕ, _+_, _*_, _≤_, _<_}
 use mathlib.Core.Path.{_≡_}
 use mathlib.Core.Bool.{true, false, cond}
 use mathlib.Core.List.{List, [], _∷_}
-use mathlib.Core.Option.{none}
+use mathlib.Core.Option.{Option, none}
 use Rattle.image_fields.specs.Parsed.{ok}
 use Rattle.tables.specs.Limits.{version1}
 use Rattle.tables.specs.Tables.{Tables}
@@ -28,16 +28,17 @@ use Rattle.image_writing.specs.Memory.{Memory, memory}
 use Rattle.blocks_laws.specs.Walks.{Walked, LeadsAll, StmtsWalk, StmtsThere, TagThere, TagWalks, blocked}
 use Rattle.expressions_scan.specs.Changes.{Standing}
 use Rattle.expressions_scan.specs.Resumed.{opens, Onward}
-use Rattle.statements_acts.specs.Marks.{lent, Marked}
+use Rattle.statements_acts.specs.Marks.{lent, Marked, Looped}
 use Rattle.statements_changes.specs.declared.Turn.{Turn}
 use Rattle.statements_changes.specs.declared.Turn.the-variants.{Nothing, Over, Mark, Register, Blocks}
 use Rattle.statements_changes.specs.declared.Cursor.{Cursor}
 use Rattle.statements_changes.specs.declared.Came.{Came}
 
--- the stack is that of the first n locals of lent arrays, and the mark is its mark
-pub record Lends (T : Tables) (mark : ℕ) (names types depths : List ℕ) (at : ℕ → Status) (n : ℕ) (σ : Scope Status) : Type 0 where
+-- the stack is that of the first n locals of lent arrays, the mark is its mark, and those from base on are the nearest loop's
+pub record Lends (T : Tables) (mark : ℕ) (loop : Option ℕ) (base : ℕ) (names types depths : List ℕ) (at : ℕ → Status) (n : ℕ) (σ : Scope Status) : Type 0 where
   pub held : σ ≡ lent names types depths at n
   pub marked : Marked T types at n mark
+  pub jumps : Looped depths loop base n
 
 -- a place with other errors
 abbrev pub retold : Place → ℕ → Place
@@ -61,7 +62,7 @@ abbrev pub cameOf : ℕ → ℕ → Place → Change → Named → Came
 cameOf tag left p ch taken =
     cond (blocked tag) (record { cursor = betweenOf left p Nobody; turn = Blocks tag }) (record { cursor = betweenOf left p taken; turn = turnOf ch })
 
-module _ (T : Tables) (s : List ℕ) (left d all : ℕ) (σ₀ : Scope Status) (p₀ : Place) (m₀ : Memory) where
+module _ (T : Tables) (s : List ℕ) (left d : ℕ) (loop : Option ℕ) (all : ℕ) (σ₀ : Scope Status) (p₀ : Place) (m₀ : Memory) where
   -- the values of the statement at the place are scanned: the locals, the errors and the output when that began, and how it went on from there
   pub record Midst (ns : List ℕ) (c : Cursor) (σ : Scope Status) (m : Memory) : Type 0 where
     pub old : Scope Status
@@ -70,13 +71,13 @@ module _ (T : Tables) (s : List ℕ) (left d all : ℕ) (σ₀ : Scope Status) (
     pub out : List ℕ
     pub os : List Open
     pub some : 0 < c .left
-    pub leads : LeadsAll T s left d all σ₀ p₀ m₀ (c .left) old (retold (c .place) told) (memory out errs (m .warns) (m .lefts))
+    pub leads : LeadsAll T s left d loop all σ₀ p₀ m₀ (c .left) old (retold (c .place) told) (memory out errs (m .warns) (m .lefts))
     pub root : topOf os 1 ≡ rootOf (frontAt s (c .place .at) .values)
     pub onward : Onward T s os 1 (frontAt s (c .place .at) .first) old (c .place .paged) errs out told (opens ns) (c .nodes) (c .at) σ (m .errs) (m .out) (c .place .errors)
 
   -- the walk of all statements has led to the cursor, with the locals σ
   pub record Stood (ns : List ℕ) (c : Cursor) (σ : Scope Status) (m : Memory) : Type 0 where
-    pub between : c .begun ≡ false → LeadsAll T s left d all σ₀ p₀ m₀ (c .left) (takenIn (c .taken) σ) (c .place) m
+    pub between : c .begun ≡ false → LeadsAll T s left d loop all σ₀ p₀ m₀ (c .left) (takenIn (c .taken) σ) (c .place) m
     pub within : c .begun ≡ true → Midst ns c σ m
 
   -- all statements have that fault
@@ -86,14 +87,14 @@ module _ (T : Tables) (s : List ℕ) (left d all : ℕ) (σ₀ : Scope Status) (
   -- what holds once the stack has done what it must
   abbrev pub After : List ℕ → Cursor → Scope Status → Memory → Turn → Type 0
   After ns c σ m Nothing = Stood ns c σ m
-  After ns c σ m Over = LeadsAll T s left d all σ₀ p₀ m₀ 0 σ (c .place) m
+  After ns c σ m Over = LeadsAll T s left d loop all σ₀ p₀ m₀ 0 σ (c .place) m
   After ns c σ m (Mark n k p o) = Stood ns c (mark n (put o (said k (p ∷ []))) σ) m
   After ns c σ m (Register n t) =
       (tooMany version1 (register states n t d σ) ≡ none → Stood ns c (register states n t d σ) m)
       × (0 < numberOf (tooMany version1 (register states n t d σ)) → Faulty (numberOf (tooMany version1 (register states n t d σ))))
   After ns c σ m (Blocks tag) =
-      (w : Walked) (m′ : Memory) → TagWalks T s left d tag σ (c .place) m w m′
-      → (0 < w .fault → StmtsWalk T s left d all σ₀ p₀ m₀ w m′) × (w .fault ≤ 0 → LeadsAll T s left d all σ₀ p₀ m₀ (c .left) (w .locals) (w .place) m′)
+      (w : Walked) (m′ : Memory) → TagWalks T s left d loop tag σ (c .place) m w m′
+      → (0 < w .fault → StmtsWalk T s left d loop all σ₀ p₀ m₀ w m′) × (w .fault ≤ 0 → LeadsAll T s left d loop all σ₀ p₀ m₀ (c .left) (w .locals) (w .place) m′)
 
 -- what the code is given of the values that are scanned: statements were read at the place; the scan can go on to their end
 pub record Begun (s ns : List ℕ) (c : Cursor) : Type 0 where
@@ -101,13 +102,13 @@ pub record Begun (s ns : List ℕ) (c : Cursor) : Type 0 where
   pub ready : Ready s (opens ns) (c .nodes) (c .at)
   pub ends : (es : Exprs) (next : ℕ) → Standing s (frontAt s (c .place .at) .values) (frontAt s (c .place .at) .first) es next
       → (fs : List Stage) × Stacked (opens ns) (c .nodes) fs s (c .at) next
-  pub most : c .place .errors + 219 * fuel s (c .nodes) (c .at) ≤ 600 * c .place .at + 219 * fuel s 1 (frontAt s (c .place .at) .first)
+  pub most : c .place .errors + 219 * fuel s (c .nodes) (c .at) ≤ 1000 * c .place .at + 219 * fuel s 1 (frontAt s (c .place .at) .first)
   pub free : c .taken ≡ Nobody
 
 pub record Steady (s : List ℕ) (left : ℕ) (ns : List ℕ) (c : Cursor) : Type 0 where
   pub inside : Within s (retold (c .place) 0)
   pub there : StmtsThere s left (c .left) (c .place .at)
-  pub between : c .begun ≡ false → c .place .errors ≤ 600 * c .place .at
+  pub between : c .begun ≡ false → c .place .errors ≤ 1000 * c .place .at
   pub within : c .begun ≡ true → Begun s ns c
 
 -- of some array of open nodes

@@ -2,6 +2,7 @@
 // Throughout, tb has the tables of the image s, and ln, lt, lk and lf the names, types, kinds and first places of the locals, rows the places of joined states, all lent; env has the numbers of the walk.
 ghost use mathlib.Core.Path.{_≡_};
 ghost use mathlib.Core.Bool.{true, false};
+ghost use mathlib.Core.Option.{Option};
 ghost use mathlib.Core.List.{List};
 ghost use Prim.Native.Nat.{ℕ, _+_, _-_, _≤_, _<_};
 ghost use lib.ListN.{length};
@@ -153,13 +154,13 @@ fn acted<'a>(
     warns: &mut [u32],
     lefts: &mut [u32],
 ) -> Came
-    requires { ⌜ Lent (now s) (now tb) × (env .locals ≤ 64) × (env .left ≤ 12)
+    requires { ⌜ Lent (now s) (now tb) × (env .locals ≤ 64) × (env .base ≤ 64) × (env .left ≤ 12)
         × SomeSteady (now s) (env .left) c × (c .begun ≡ true) × (c .nodes ≡ 0) ⌝ }
     ensures { λ r. ⌜ ((T : Tables) → Says (now (s .entry)) (now (tb .entry)) T
-        → (ld : List ℕ) (at : ℕ → Status) (σ : Scope Status) → Lends T (env .mark) (now (ln .entry)) (now (lt .entry)) ld at (env .locals) σ
+        → (ld : List ℕ) (at : ℕ → Status) (σ : Scope Status) (loop : Option ℕ) → Lends T (env .mark) loop (env .base) (now (ln .entry)) (now (lt .entry)) ld at (env .locals) σ
         → (all : ℕ) (σ₀ : Scope Status) (p₀ : Place) (m₀ : Memory) (nodes errs : List ℕ)
-        → Stood T (now (s .entry)) (env .left) (12 - env .left) all σ₀ p₀ m₀ nodes c σ (memory (now (out .entry)) errs (now (warns .entry)) (now (lefts .entry)))
-        → After T (now (s .entry)) (env .left) (12 - env .left) all σ₀ p₀ m₀ nodes (r .cursor) σ (memory (now (out .exit)) errs (now (warns .exit)) (now (lefts .exit))) (r .turn)) ⌝ }
+        → Stood T (now (s .entry)) (env .left) (12 - env .left) loop all σ₀ p₀ m₀ nodes c σ (memory (now (out .entry)) errs (now (warns .entry)) (now (lefts .entry)))
+        → After T (now (s .entry)) (env .left) (12 - env .left) loop all σ₀ p₀ m₀ nodes (r .cursor) σ (memory (now (out .exit)) errs (now (warns .exit)) (now (lefts .exit))) (r .turn)) ⌝ }
     ensures { λ r. ⌜ ((nodes : List ℕ) → Fit (now (s .entry)) (env .left) nodes (r .cursor) (r .turn)) × (r .cursor .left + 1 ≡ c .left) × (r .cursor .begun ≡ false)
         × Grows (now (s .entry)) (retold (c .place) 0) (retold (r .cursor .place) 0) ⌝ }
 {
@@ -169,8 +170,9 @@ fn acted<'a>(
     let end = c.at;
     let n = env.locals;
     let m = env.mark;
+    let base = env.base;
     let q = told(p, 0);
-    let a = statements_acts::statement(s, tb, ln, lt, n, m, q, end, out, warns, lefts);
+    let a = statements_acts::statement(s, tb, ln, lt, n, m, base, q, end, out, warns, lefts);
     let y = a.place;
     let z = told(y, p.errors);
     let change = a.change;
@@ -194,8 +196,8 @@ fn owed(c: Cursor, name: u16, span: u32) -> Came
 fn due(c: Cursor) -> Came
     ensures { λ r. ⌜ ((s : List ℕ) (left : ℕ) (nodes : List ℕ) → Steady s left nodes c → Fit s left nodes (r .cursor) (r .turn)
         × (r .turn ≡ Nothing → (c .taken ≡ Nobody) × (0 < c .left)) × ((r .turn ≡ Nothing → ⊥) → (r .turn ≡ Over → ⊥) → ahead s (r .cursor) < ahead s c)
-        × ((T : Tables) (all : ℕ) (σ₀ : Scope Status) (p₀ : Place) (m₀ : Memory) (σ : Scope Status) (m : Memory)
-        → Stood T s left (12 - left) all σ₀ p₀ m₀ nodes c σ m → After T s left (12 - left) all σ₀ p₀ m₀ nodes (r .cursor) σ m (r .turn))) ⌝ }
+        × ((T : Tables) (loop : Option ℕ) (all : ℕ) (σ₀ : Scope Status) (p₀ : Place) (m₀ : Memory) (σ : Scope Status) (m : Memory)
+        → Stood T s left (12 - left) loop all σ₀ p₀ m₀ nodes c σ m → After T s left (12 - left) loop all σ₀ p₀ m₀ nodes (r .cursor) σ m (r .turn))) ⌝ }
     ensures { λ r. ⌜ r .cursor .place ≡ c .place ⌝ }
 {
     let taken = c.taken;
@@ -217,9 +219,9 @@ fn due(c: Cursor) -> Came
 // The scan of the values of the next statement begins, if it has not.
 fn begun(s: &[u8], left: usize, nodes: &mut [u64; 26], c: Cursor) -> Cursor
     requires { ⌜ Steady (now s) left (now nodes) c × (c .taken ≡ Nobody) × (0 < c .left) × (length (now nodes) ≡ 26) ⌝ }
-    ensures { λ r. ⌜ ((T : Tables) (all : ℕ) (σ₀ : Scope Status) (p₀ : Place) (m₀ : Memory) (σ : Scope Status) (out errs warns lefts : List ℕ)
-        → Stood T (now (s .entry)) left (12 - left) all σ₀ p₀ m₀ (now (nodes .entry)) c σ (memory out errs warns lefts)
-        → Stood T (now (s .entry)) left (12 - left) all σ₀ p₀ m₀ (now (nodes .exit)) r σ (memory out errs warns lefts))
+    ensures { λ r. ⌜ ((T : Tables) (loop : Option ℕ) (all : ℕ) (σ₀ : Scope Status) (p₀ : Place) (m₀ : Memory) (σ : Scope Status) (out errs warns lefts : List ℕ)
+        → Stood T (now (s .entry)) left (12 - left) loop all σ₀ p₀ m₀ (now (nodes .entry)) c σ (memory out errs warns lefts)
+        → Stood T (now (s .entry)) left (12 - left) loop all σ₀ p₀ m₀ (now (nodes .exit)) r σ (memory out errs warns lefts))
         × Steady (now (s .entry)) left (now (nodes .exit)) r × (r .begun ≡ true) × (r .left ≡ c .left) × (length (now (nodes .exit)) ≡ 26)
         × (ahead (now (s .entry)) r ≤ ahead (now (s .entry)) c) × (r .place ≡ c .place) ⌝ }
 {
@@ -251,9 +253,9 @@ fn scanned<'a>(
     ensures { λ r. ⌜ ((T : Tables) → Says (now (s .entry)) (now (tb .entry)) T
         → (types depths : List ℕ) (σ : Scope Status)
         → σ ≡ lent (now (ln .entry)) types depths (stateIn (now (lk .entry)) (now (lf .entry)) (now (rows .entry)) (env .cur) (env .width)) (env .locals)
-        → (all : ℕ) (σ₀ : Scope Status) (p₀ : Place) (m₀ : Memory) (warns lefts : List ℕ)
-        → Stood T (now (s .entry)) (env .left) (12 - env .left) all σ₀ p₀ m₀ (now (nodes .entry)) c σ (memory (now (out .entry)) (now (errs .entry)) warns lefts)
-        → After T (now (s .entry)) (env .left) (12 - env .left) all σ₀ p₀ m₀ (now (nodes .exit)) (r .cursor) σ (memory (now (out .exit)) (now (errs .exit)) warns lefts) (r .turn)) ⌝ }
+        → (loop : Option ℕ) (all : ℕ) (σ₀ : Scope Status) (p₀ : Place) (m₀ : Memory) (warns lefts : List ℕ)
+        → Stood T (now (s .entry)) (env .left) (12 - env .left) loop all σ₀ p₀ m₀ (now (nodes .entry)) c σ (memory (now (out .entry)) (now (errs .entry)) warns lefts)
+        → After T (now (s .entry)) (env .left) (12 - env .left) loop all σ₀ p₀ m₀ (now (nodes .exit)) (r .cursor) σ (memory (now (out .exit)) (now (errs .exit)) warns lefts) (r .turn)) ⌝ }
     ensures { λ r. ⌜ Fit (now (s .entry)) (env .left) (now (nodes .exit)) (r .cursor) (r .turn) × (length (now (nodes .exit)) ≡ 26)
         × (r .turn ≡ Nothing → (r .cursor .begun ≡ true) × (r .cursor .nodes ≡ 0) × (r .cursor .left ≡ c .left))
         × ((r .turn ≡ Nothing → ⊥) → ahead (now (s .entry)) (r .cursor) < ahead (now (s .entry)) c)
@@ -312,13 +314,13 @@ pub fn next_change<'a>(
     lefts: &mut [u32],
 ) -> Came
     requires { ⌜ Lent (now s) (now tb) × AllKept (now lk) (now lf) (now rows) (env .cur) (env .width) (env .locals)
-        × (env .left ≤ 12) × Steady (now s) (env .left) (now nodes) cursor × (length (now nodes) ≡ 26) ⌝ }
+        × (env .left ≤ 12) × (env .base ≤ 64) × Steady (now s) (env .left) (now nodes) cursor × (length (now nodes) ≡ 26) ⌝ }
     ensures { λ r. ⌜ ((T : Tables) → Says (now (s .entry)) (now (tb .entry)) T
-        → (ld : List ℕ) (σ : Scope Status)
-        → Lends T (env .mark) (now (ln .entry)) (now (lt .entry)) ld (stateIn (now (lk .entry)) (now (lf .entry)) (now (rows .entry)) (env .cur) (env .width)) (env .locals) σ
+        → (ld : List ℕ) (σ : Scope Status) (loop : Option ℕ)
+        → Lends T (env .mark) loop (env .base) (now (ln .entry)) (now (lt .entry)) ld (stateIn (now (lk .entry)) (now (lf .entry)) (now (rows .entry)) (env .cur) (env .width)) (env .locals) σ
         → (all : ℕ) (σ₀ : Scope Status) (p₀ : Place) (m₀ : Memory)
-        → Stood T (now (s .entry)) (env .left) (12 - env .left) all σ₀ p₀ m₀ (now (nodes .entry)) cursor σ (memory (now (out .entry)) (now (errs .entry)) (now (warns .entry)) (now (lefts .entry)))
-        → After T (now (s .entry)) (env .left) (12 - env .left) all σ₀ p₀ m₀ (now (nodes .exit)) (r .cursor) σ (memory (now (out .exit)) (now (errs .exit)) (now (warns .exit)) (now (lefts .exit))) (r .turn)) ⌝ }
+        → Stood T (now (s .entry)) (env .left) (12 - env .left) loop all σ₀ p₀ m₀ (now (nodes .entry)) cursor σ (memory (now (out .entry)) (now (errs .entry)) (now (warns .entry)) (now (lefts .entry)))
+        → After T (now (s .entry)) (env .left) (12 - env .left) loop all σ₀ p₀ m₀ (now (nodes .exit)) (r .cursor) σ (memory (now (out .exit)) (now (errs .exit)) (now (warns .exit)) (now (lefts .exit))) (r .turn)) ⌝ }
     ensures { λ r. ⌜ Fit (now (s .entry)) (env .left) (now (nodes .exit)) (r .cursor) (r .turn) × (length (now (nodes .exit)) ≡ 26) × (r .turn ≡ Nothing → ⊥)
         × ((r .turn ≡ Over → ⊥) → ahead (now (s .entry)) (r .cursor) < ahead (now (s .entry)) cursor)
         × Grows (now (s .entry)) (retold (cursor .place) 0) (retold (r .cursor .place) 0) ⌝ }

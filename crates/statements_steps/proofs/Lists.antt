@@ -12,7 +12,7 @@ use Rattle.rules.specs.Expr.{nobody}
 use Rattle.rules.specs.State.{State as Status, alive, gone, deleted, moved, consumed}
 use Rattle.rules.specs.Stack.{Local, local, lookup, Stack as Scope}
 use Rattle.rules.specs.Effects.{Effect, use′, kill, hand, badMove, globalMove}
-use Rattle.rules.specs.Rules.{Drop, dropOf, states, apply, returnDrops}
+use Rattle.rules.specs.Rules.{Drop, dropOf, states, apply, returnDrops, loopDrops}
 use Rattle.rules.specs.Report.{Report, error, warning, left, badUse, useOf, reportOf, reportAll, unused, leftBehind, errors, warnings, lefts}
 use Rattle.rules.specs.Verdict.{entryOf, entriesOf}
 use Rattle.statements_steps.specs.Statement.{wrapped, frontReports}
@@ -76,19 +76,19 @@ left-errors s [] = refl
 left-errors s (dropOf p n t ∷ x) = left-errors s x
 
 -- a front reports none
-pub front-errors : (T : Tables) (c : Tree) (at : ℕ) (σ : Scope Status) → errors (frontReports T c at σ) ≡ []
-front-errors T (done x) at σ = refl
-front-errors T (exprStmt s e y r) at σ = go (wrapped T (exprStmt s e y r))
+pub front-errors : (T : Tables) (c : Tree) (l : Option ℕ) (at : ℕ) (σ : Scope Status) → errors (frontReports T c l at σ) ≡ []
+front-errors T (done x) l at σ = refl
+front-errors T (exprStmt s e y r) l at σ = go (wrapped T (exprStmt s e y r))
   where
     go : (b : Bool) → errors (unused b s e at) ≡ []
     go true = refl
     go false = refl
-front-errors T (variable k s n t e r) at σ = refl
-front-errors T (assign s e v t x r) at σ = refl
-front-errors T (return s e t x r) at σ = refl
-front-errors T (bareReturn s t r) at σ = left-errors s (returnDrops states T nobody σ)
-front-errors T (block s c r) at σ = refl
-front-errors T (ifElse s e ts t us u r) at σ = refl
-front-errors T (ifThen s e ts t r) at σ = refl
-front-errors T (while s e ts t r) at σ = refl
-front-errors T (jump k s r) at σ = refl
+front-errors T (variable k s n t e r) l at σ = refl
+front-errors T (assign s e v t x r) l at σ = refl
+front-errors T (return s e t x r) l at σ = refl
+front-errors T (bareReturn s t r) l at σ = left-errors s (returnDrops states T nobody σ)
+front-errors T (block s c r) l at σ = refl
+front-errors T (ifElse s e ts t us u r) l at σ = refl
+front-errors T (ifThen s e ts t r) l at σ = refl
+front-errors T (while s e ts t r) l at σ = refl
+front-errors T (jump k s r) l at σ = left-errors s (loopDrops states T l σ)

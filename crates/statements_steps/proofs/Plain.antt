@@ -39,18 +39,18 @@ same-length : (σ τ : Scope Status) → shape τ ≡ shape σ → length σ ≤
 same-length σ τ e h = let a = length-shape σ in let b = length-shape τ in let c = ap length e in omega arith
 
 module _ (T : Tables) where
-  pub blockless-own : (c : Tree) (d at : ℕ) (σ : Scope Status) → blockless c ≡ true → blocksOwn T c d at σ ≡ nothing
-  blockless-own (done x) d at σ h = refl
-  blockless-own (exprStmt s e y r) d at σ h = refl
-  blockless-own (variable k s n t e r) d at σ h = refl
-  blockless-own (assign s e v t x r) d at σ h = refl
-  blockless-own (return s e t x r) d at σ h = refl
-  blockless-own (bareReturn s t r) d at σ h = refl
-  blockless-own (block s c r) d at σ h = false-true h
-  blockless-own (ifElse s e ts t us u r) d at σ h = false-true h
-  blockless-own (ifThen s e ts t r) d at σ h = false-true h
-  blockless-own (while s e ts t r) d at σ h = false-true h
-  blockless-own (jump k s r) d at σ h = refl
+  pub blockless-own : (c : Tree) (d : ℕ) (l : Option ℕ) (at : ℕ) (σ : Scope Status) → blockless c ≡ true → blocksOwn T c d l at σ ≡ nothing
+  blockless-own (done x) d l at σ h = refl
+  blockless-own (exprStmt s e y r) d l at σ h = refl
+  blockless-own (variable k s n t e r) d l at σ h = refl
+  blockless-own (assign s e v t x r) d l at σ h = refl
+  blockless-own (return s e t x r) d l at σ h = refl
+  blockless-own (bareReturn s t r) d l at σ h = refl
+  blockless-own (block s c r) d l at σ h = false-true h
+  blockless-own (ifElse s e ts t us u r) d l at σ h = false-true h
+  blockless-own (ifThen s e ts t r) d l at σ h = false-true h
+  blockless-own (while s e ts t r) d l at σ h = false-true h
+  blockless-own (jump k s r) d l at σ h = refl
 
   pub blockless-after : (c : Tree) (d : ℕ) (σ : Scope Status) → blockless c ≡ true → blocksAfter T c d σ ≡ settle T c d σ
   blockless-after (done x) d σ h = refl

@@ -19,7 +19,7 @@ use Rattle.rules.specs.Expr.{Named, nobody, called, View, anIdent, aThis, aFiel
 use Rattle.rules.specs.State.{State as Status}
 use Rattle.rules.specs.Stack.{Shape, shape, pop, Stack as Scope}
 use Rattle.rules.specs.Effects.{Effect, group, resolveAll, effects, deletedIn, deletedBy, exprStmtEffects, takeOver, assignEffects}
-use Rattle.rules.specs.Rules.{Drop, dropOf, isDone, states, apply, applyAll, sureFrom, register, evaluate, afterExpr, afterVariable, beforeAssign, afterAssign, assignDrops, returnDrops, joins, merge, exit, decide}
+use Rattle.rules.specs.Rules.{Drop, dropOf, isDone, states, apply, applyAll, sureFrom, register, evaluate, afterExpr, afterVariable, beforeAssign, afterAssign, assignDrops, returnDrops, loopDrops, joins, merge, exit, decide}
 use Rattle.rules.specs.Report.{Report, reportOf, reportAll, deleteNode, identNode, inserts, flatten, report, exprBytes, codeBytes, unused, leftBehind}
 use Rattle.rules.specs.Walk.{walkFault, tooMany, tooWide}
 use Rattle.rules.specs.Verdict.{countsFit}
@@ -190,40 +190,40 @@ module _ (T : Tables) where
   fault-step (jump k s r) d σ = ap (walkFault version1 T r d) (sym (after-none σ))
 
   -- the bytes given back
-  pub bytes-step : (c : Tree) (p d : ℕ) (f : Bool) (σ : Scope Status) (at : ℕ) → So (not (isDone c))
-      → encodeCode (returned T c p d f σ) ≡ own T c d at σ .bytes ++ encodeCode (returned T (restOf c) p d (sureOf c) (ownAfter T c d σ))
+  pub bytes-step : (c : Tree) (p d : ℕ) (f : Bool) (σ : Scope Status) (l : Option ℕ) (at : ℕ) → So (not (isDone c))
+      → encodeCode (returned T c p d f σ) ≡ own T c d l at σ .bytes ++ encodeCode (returned T (restOf c) p d (sureOf c) (ownAfter T c d σ))
   unfolding encodeCode
-  bytes-step (done x) p d f σ at h = absurd h
-  bytes-step (exprStmt s e y r) p d f σ at h =
+  bytes-step (done x) p d f σ l at h = absurd h
+  bytes-step (exprStmt s e y r) p d f σ l at h =
       ap (λ (τ : Scope Status). encodeCode (flatten (exprStmt s e (wrapped T (exprStmt s e y r)) (decide states T r p d false τ)))) (expr-after e σ)
       ∙ simp (append-assoc, append-nil)
-  bytes-step (variable k s n t e r) p d f σ at h =
+  bytes-step (variable k s n t e r) p d f σ l at h =
       ap (λ (τ : Scope Status). encodeCode (flatten (variable k s n t e (decide states T r p d false τ)))) (variable-after d n t e σ) ∙ simp (append-assoc, append-nil)
-  bytes-step (assign s e v t x r) p d f σ at h =
+  bytes-step (assign s e v t x r) p d f σ l at h =
       ap (λ (τ : Scope Status). encodeCode (inserts (assignDrops states T s e τ) (assign s e v t tt (returned T r p d false (afterAssign states T e v τ))))) (sym (after-two T σ e v))
       ∙ inserts-bytes (assignDrops states T s e (valued T (assign s e v t x r) σ)) (assign s e v t tt (returned T r p d false (afterAssign states T e v (valued T (assign s e v t x r) σ))))
       ∙ simp (append-assoc, append-nil)
-  bytes-step (return s e t x r) p d f σ at h =
+  bytes-step (return s e t x r) p d f σ l at h =
       ap (λ (τ : Scope Status). encodeCode (inserts (returnDrops states T (nameIn (view e)) τ) (return s e t tt (returned T r p d true τ)))) (sym (after-one T σ e))
       ∙ inserts-bytes (returnDrops states T (nameIn (view e)) (valued T (return s e t x r) σ)) (return s e t tt (returned T r p d true (valued T (return s e t x r) σ)))
       ∙ simp (append-assoc, append-nil)
-  bytes-step (bareReturn s t r) p d f σ at h =
+  bytes-step (bareReturn s t r) p d f σ l at h =
       ap (λ (τ : Scope Status). encodeCode (flatten (bareReturn s t (decide states T r p d true τ)))) (sym (after-none σ)) ∙ simp (append-assoc, append-nil)
-  bytes-step (block s c r) p d f σ at h =
+  bytes-step (block s c r) p d f σ l at h =
       ap (λ (τ : Scope Status). encodeCode (flatten (block s (decide states T c s (suc d) false τ) (decide states T r p d (sureFrom c false) (exit states T c (suc d) τ))))) (sym (after-none σ))
       ∙ simp (append-assoc, append-nil)
-  bytes-step (ifElse s e ts t us u r) p d f σ at h =
+  bytes-step (ifElse s e ts t us u r) p d f σ l at h =
       ap (λ (τ : Scope Status). encodeCode (flatten (ifElse s e ts (decide states T t ts (suc d) false τ) us (decide states T u us (suc d) false τ)
       (decide states T r p d (sureFrom t false && sureFrom u false) (merge states (sureFrom t false) (sureFrom u false) τ (exit states T t (suc d) τ) (exit states T u (suc d) τ)))))) (sym (after-one T σ e))
       ∙ simp (append-assoc, append-nil)
-  bytes-step (ifThen s e ts t r) p d f σ at h =
+  bytes-step (ifThen s e ts t r) p d f σ l at h =
       ap (λ (τ : Scope Status). encodeCode (flatten (ifThen s e ts (decide states T t ts (suc d) false τ)
       (decide states T r p d false (merge states (sureFrom t false) false τ (exit states T t (suc d) τ) τ))))) (sym (after-one T σ e))
       ∙ simp (append-assoc, append-nil)
-  bytes-step (while s e ts t r) p d f σ at h =
+  bytes-step (while s e ts t r) p d f σ l at h =
       ap (λ (τ : Scope Status). encodeCode (flatten (while s e ts (decide states T t ts (suc d) false τ) (decide states T r p d false (joins states (exit states T t (suc d) τ) τ))))) (sym (after-one T σ e))
       ∙ simp (append-assoc, append-nil)
-  bytes-step (jump k s r) p d f σ at h =
+  bytes-step (jump k s r) p d f σ l at h =
       ap (λ (τ : Scope Status). encodeCode (flatten (jump k s (decide states T r p d false τ)))) (sym (after-none σ)) ∙ simp (append-assoc, append-nil)
 
   -- how many statements there are
@@ -265,24 +265,24 @@ module _ (T : Tables) where
       omega arith
 
   -- whether every block in it counts at most 65,535
-  pub fits-step : (c : Tree) (p d : ℕ) (f : Bool) (σ : Scope Status) (at : ℕ) → So (not (isDone c))
-      → countsFit 65535 (returned T c p d f σ) ≡ (own T c d at σ .fits && countsFit 65535 (returned T (restOf c) p d (sureOf c) (ownAfter T c d σ)))
+  pub fits-step : (c : Tree) (p d : ℕ) (f : Bool) (σ : Scope Status) (l : Option ℕ) (at : ℕ) → So (not (isDone c))
+      → countsFit 65535 (returned T c p d f σ) ≡ (own T c d l at σ .fits && countsFit 65535 (returned T (restOf c) p d (sureOf c) (ownAfter T c d σ)))
   unfolding countsFit
-  fits-step (done x) p d f σ at h = absurd h
-  fits-step (exprStmt s e y r) p d f σ at h = ap (λ (τ : Scope Status). countsFit 65535 (returned T r p d false τ)) (expr-after e σ)
-  fits-step (variable k s n t e r) p d f σ at h = ap (λ (τ : Scope Status). countsFit 65535 (returned T r p d false τ)) (variable-after d n t e σ)
-  fits-step (assign s e v t x r) p d f σ at h =
+  fits-step (done x) p d f σ l at h = absurd h
+  fits-step (exprStmt s e y r) p d f σ l at h = ap (λ (τ : Scope Status). countsFit 65535 (returned T r p d false τ)) (expr-after e σ)
+  fits-step (variable k s n t e r) p d f σ l at h = ap (λ (τ : Scope Status). countsFit 65535 (returned T r p d false τ)) (variable-after d n t e σ)
+  fits-step (assign s e v t x r) p d f σ l at h =
       ap (λ (υ : Scope Status). countsFit 65535 (inserts (assignDrops states T s e υ) (assign s e v t tt (returned T r p d false (afterAssign states T e v υ))))) (sym (after-two T σ e v))
       ∙ inserts-fit 65535 (assignDrops states T s e (valued T (assign s e v t x r) σ)) _
-  fits-step (return s e t x r) p d f σ at h =
+  fits-step (return s e t x r) p d f σ l at h =
       ap (λ (υ : Scope Status). countsFit 65535 (inserts (returnDrops states T (nameIn (view e)) υ) (return s e t tt (returned T r p d true υ)))) (sym (after-one T σ e))
       ∙ inserts-fit 65535 (returnDrops states T (nameIn (view e)) (valued T (return s e t x r) σ)) _
-  fits-step (bareReturn s t r) p d f σ at h = ap (λ (τ : Scope Status). countsFit 65535 (returned T r p d true τ)) (sym (after-none σ))
-  fits-step (block s c r) p d f σ at h =
+  fits-step (bareReturn s t r) p d f σ l at h = ap (λ (τ : Scope Status). countsFit 65535 (returned T r p d true τ)) (sym (after-none σ))
+  fits-step (block s c r) p d f σ l at h =
       let τ = valued T (block s c r) σ in
       let x = returned T c s (suc d) false τ in
       ap (λ (τ : Scope Status). countsFit 65535 (flatten (block s (decide states T c s (suc d) false τ) (decide states T r p d (sureFrom c false) (exit states T c (suc d) τ))))) (sym (after-none σ))
-  fits-step (ifElse s e ts t us u r) p d f σ at h =
+  fits-step (ifElse s e ts t us u r) p d f σ l at h =
       let τ = valued T (ifElse s e ts t us u r) σ in
       let x = returned T t ts (suc d) false τ in
       let y = returned T u us (suc d) false τ in
@@ -290,17 +290,17 @@ module _ (T : Tables) where
       (decide states T r p d (sureFrom t false && sureFrom u false) (merge states (sureFrom t false) (sureFrom u false) τ (exit states T t (suc d) τ) (exit states T u (suc d) τ)))))) (sym (after-one T σ e))
       ∙ two-fit (leb (size x) 65535) (leb (size y) 65535) (countsFit 65535 x) (countsFit 65535 y)
       (countsFit 65535 (returned T r p d (sureFrom t false && sureFrom u false) (merge states (sureFrom t false) (sureFrom u false) τ (exit states T t (suc d) τ) (exit states T u (suc d) τ))))
-  fits-step (ifThen s e ts t r) p d f σ at h =
+  fits-step (ifThen s e ts t r) p d f σ l at h =
       let τ = valued T (ifThen s e ts t r) σ in
       let x = returned T t ts (suc d) false τ in
       ap (λ (τ : Scope Status). countsFit 65535 (flatten (ifThen s e ts (decide states T t ts (suc d) false τ)
       (decide states T r p d false (merge states (sureFrom t false) false τ (exit states T t (suc d) τ) τ))))) (sym (after-one T σ e))
       ∙ and-true (leb (size x) 65535 && countsFit 65535 x) (countsFit 65535 (returned T r p d false (merge states (sureFrom t false) false τ (exit states T t (suc d) τ) τ)))
-  fits-step (while s e ts t r) p d f σ at h =
+  fits-step (while s e ts t r) p d f σ l at h =
       let τ = valued T (while s e ts t r) σ in
       let x = returned T t ts (suc d) false τ in
       ap (λ (τ : Scope Status). countsFit 65535 (flatten (while s e ts (decide states T t ts (suc d) false τ) (decide states T r p d false (joins states (exit states T t (suc d) τ) τ))))) (sym (after-one T σ e))
-  fits-step (jump k s r) p d f σ at h = ap (λ (τ : Scope Status). countsFit 65535 (returned T r p d false τ)) (sym (after-none σ))
+  fits-step (jump k s r) p d f σ l at h = ap (λ (τ : Scope Status). countsFit 65535 (returned T r p d false τ)) (sym (after-none σ))
 
   -- what is reported
   told-expr : (e : Expr) (σ : Scope Status) → reportAll (exprStmtEffects T (shape σ) e) σ ≡ toldAll T (more e none) σ
@@ -311,83 +311,83 @@ module _ (T : Tables) where
       ∙ append-nil (reportAll (effects T (shape σ) e) σ)
       ∙ sym (told-one T σ e)
 
-  pub report-step : (c : Tree) (d at : ℕ) (σ : Scope Status)
-      → report T c d at σ ≡ own T c d at σ .reports ++ report T (restOf c) d (at + frontSize c + blocksSize c) (ownAfter T c d σ)
-  report-step (done x) d at σ = simp (told-none σ)
-  report-step (exprStmt s e y r) d at σ =
+  pub report-step : (c : Tree) (d : ℕ) (l : Option ℕ) (at : ℕ) (σ : Scope Status)
+      → report T c d l at σ ≡ own T c d l at σ .reports ++ report T (restOf c) d l (at + frontSize c + blocksSize c) (ownAfter T c d σ)
+  report-step (done x) d l at σ = simp (told-none σ)
+  report-step (exprStmt s e y r) d l at σ =
       let g : at + 5 + exprBytes e ≡ at + (5 + exprBytes e) + 0 = omega arith in
-      ap (λ (x : List Report). x ++ (unused (wrapped T (exprStmt s e y r)) s e at ++ report T r d (at + 5 + exprBytes e) (afterExpr states T e σ))) (told-expr e σ)
-      ∙ ap (λ (τ : Scope Status). toldAll T (more e none) σ ++ (unused (wrapped T (exprStmt s e y r)) s e at ++ report T r d (at + 5 + exprBytes e) τ)) (expr-after e σ)
-      ∙ ap (λ (k : ℕ). toldAll T (more e none) σ ++ (unused (wrapped T (exprStmt s e y r)) s e at ++ report T r d k (ownAfter T (exprStmt s e y r) d σ))) g
+      ap (λ (x : List Report). x ++ (unused (wrapped T (exprStmt s e y r)) s e at ++ report T r d l (at + 5 + exprBytes e) (afterExpr states T e σ))) (told-expr e σ)
+      ∙ ap (λ (τ : Scope Status). toldAll T (more e none) σ ++ (unused (wrapped T (exprStmt s e y r)) s e at ++ report T r d l (at + 5 + exprBytes e) τ)) (expr-after e σ)
+      ∙ ap (λ (k : ℕ). toldAll T (more e none) σ ++ (unused (wrapped T (exprStmt s e y r)) s e at ++ report T r d l k (ownAfter T (exprStmt s e y r) d σ))) g
       ∙ simp (append-assoc, append-nil)
-  report-step (variable k s n t e r) d at σ =
+  report-step (variable k s n t e r) d l at σ =
       let g : at + 9 + exprBytes e ≡ at + (9 + exprBytes e) + 0 = omega arith in
-      ap (λ (x : List Report). x ++ report T r d (at + 9 + exprBytes e) (afterVariable states T d n t e σ)) (sym (told-one T σ e))
-      ∙ ap (λ (τ : Scope Status). toldAll T (more e none) σ ++ report T r d (at + 9 + exprBytes e) τ) (variable-after d n t e σ)
-      ∙ ap (λ (i : ℕ). toldAll T (more e none) σ ++ report T r d i (ownAfter T (variable k s n t e r) d σ)) g
+      ap (λ (x : List Report). x ++ report T r d l (at + 9 + exprBytes e) (afterVariable states T d n t e σ)) (sym (told-one T σ e))
+      ∙ ap (λ (τ : Scope Status). toldAll T (more e none) σ ++ report T r d l (at + 9 + exprBytes e) τ) (variable-after d n t e σ)
+      ∙ ap (λ (i : ℕ). toldAll T (more e none) σ ++ report T r d l i (ownAfter T (variable k s n t e r) d σ)) g
       ∙ simp (append-assoc, append-nil)
-  report-step (assign s e v t x r) d at σ =
+  report-step (assign s e v t x r) d l at σ =
       let g : at + 7 + exprBytes e + exprBytes v ≡ at + (7 + exprBytes e + exprBytes v) + 0 = omega arith in
-      ap (λ (y : List Report). y ++ report T r d (at + 7 + exprBytes e + exprBytes v) (afterAssign states T e v (beforeAssign states T e v σ))) (sym (told-two T σ e v))
-      ∙ ap (λ (τ : Scope Status). toldAll T (more e (more v none)) σ ++ report T r d (at + 7 + exprBytes e + exprBytes v) (afterAssign states T e v τ)) (sym (after-two T σ e v))
-      ∙ ap (λ (i : ℕ). toldAll T (more e (more v none)) σ ++ report T r d i (ownAfter T (assign s e v t x r) d σ)) g
+      ap (λ (y : List Report). y ++ report T r d l (at + 7 + exprBytes e + exprBytes v) (afterAssign states T e v (beforeAssign states T e v σ))) (sym (told-two T σ e v))
+      ∙ ap (λ (τ : Scope Status). toldAll T (more e (more v none)) σ ++ report T r d l (at + 7 + exprBytes e + exprBytes v) (afterAssign states T e v τ)) (sym (after-two T σ e v))
+      ∙ ap (λ (i : ℕ). toldAll T (more e (more v none)) σ ++ report T r d l i (ownAfter T (assign s e v t x r) d σ)) g
       ∙ simp (append-assoc, append-nil)
-  report-step (return s e t x r) d at σ =
+  report-step (return s e t x r) d l at σ =
       let g : at + 8 + exprBytes e ≡ at + (8 + exprBytes e) + 0 = omega arith in
-      ap (λ (y : List Report). y ++ report T r d (at + 8 + exprBytes e) (evaluate states T e σ)) (sym (told-one T σ e))
-      ∙ ap (λ (τ : Scope Status). toldAll T (more e none) σ ++ report T r d (at + 8 + exprBytes e) τ) (sym (after-one T σ e))
-      ∙ ap (λ (i : ℕ). toldAll T (more e none) σ ++ report T r d i (ownAfter T (return s e t x r) d σ)) g
+      ap (λ (y : List Report). y ++ report T r d l (at + 8 + exprBytes e) (evaluate states T e σ)) (sym (told-one T σ e))
+      ∙ ap (λ (τ : Scope Status). toldAll T (more e none) σ ++ report T r d l (at + 8 + exprBytes e) τ) (sym (after-one T σ e))
+      ∙ ap (λ (i : ℕ). toldAll T (more e none) σ ++ report T r d l i (ownAfter T (return s e t x r) d σ)) g
       ∙ simp (append-assoc, append-nil)
-  report-step (bareReturn s t r) d at σ =
+  report-step (bareReturn s t r) d l at σ =
       let g : at + 8 ≡ at + 8 + 0 = omega arith in
-      ap (λ (τ : Scope Status). leftBehind s (returnDrops states T nobody τ) ++ report T r d (at + 8) τ) (sym (after-none σ))
-      ∙ ap (λ (i : ℕ). leftBehind s (returnDrops states T nobody (afterAll T none σ)) ++ report T r d i (afterAll T none σ)) g
+      ap (λ (τ : Scope Status). leftBehind s (returnDrops states T nobody τ) ++ report T r d l (at + 8) τ) (sym (after-none σ))
+      ∙ ap (λ (i : ℕ). leftBehind s (returnDrops states T nobody (afterAll T none σ)) ++ report T r d l i (afterAll T none σ)) g
       ∙ simp (append-assoc, append-nil, told-none σ)
-  report-step (block s c r) d at σ =
+  report-step (block s c r) d l at σ =
       let a : at + 7 ≡ at + 1 + 6 = omega arith in
       let g : at + 7 + codeBytes c ≡ at + 1 + (6 + codeBytes c) = omega arith in
-      ap (λ (τ : Scope Status). report T c (suc d) (at + 7) τ ++ report T r d (at + 7 + codeBytes c) (exit states T c (suc d) τ)) (sym (after-none σ))
-      ∙ ap (λ (i : ℕ). report T c (suc d) i (afterAll T none σ) ++ report T r d (at + 7 + codeBytes c) (exit states T c (suc d) (afterAll T none σ))) a
-      ∙ ap (λ (i : ℕ). report T c (suc d) (at + 1 + 6) (afterAll T none σ) ++ report T r d i (exit states T c (suc d) (afterAll T none σ))) g
+      ap (λ (τ : Scope Status). report T c (suc d) l (at + 7) τ ++ report T r d l (at + 7 + codeBytes c) (exit states T c (suc d) τ)) (sym (after-none σ))
+      ∙ ap (λ (i : ℕ). report T c (suc d) l i (afterAll T none σ) ++ report T r d l (at + 7 + codeBytes c) (exit states T c (suc d) (afterAll T none σ))) a
+      ∙ ap (λ (i : ℕ). report T c (suc d) l (at + 1 + 6) (afterAll T none σ) ++ report T r d l i (exit states T c (suc d) (afterAll T none σ))) g
       ∙ simp (append-assoc, append-nil, told-none σ)
-  report-step (ifElse s e ts t us u r) d at σ =
+  report-step (ifElse s e ts t us u r) d l at σ =
       let τ = afterAll T (more e none) σ in
       let w = at + (5 + exprBytes e) in
       let a : at + 11 + exprBytes e ≡ w + 6 = omega arith in
       let b : at + 18 + exprBytes e + codeBytes t ≡ w + (6 + codeBytes t) + 1 + 6 = omega arith in
       let g : at + 18 + exprBytes e + codeBytes t + codeBytes u ≡ w + (13 + codeBytes t + codeBytes u) = omega arith in
-      ap (λ (x : List Report). x ++ (report T t (suc d) (at + 11 + exprBytes e) (evaluate states T e σ) ++ (report T u (suc d) (at + 18 + exprBytes e + codeBytes t) (evaluate states T e σ)
-      ++ report T r d (at + 18 + exprBytes e + codeBytes t + codeBytes u)
+      ap (λ (x : List Report). x ++ (report T t (suc d) l (at + 11 + exprBytes e) (evaluate states T e σ) ++ (report T u (suc d) l (at + 18 + exprBytes e + codeBytes t) (evaluate states T e σ)
+      ++ report T r d l (at + 18 + exprBytes e + codeBytes t + codeBytes u)
       (merge states (sureFrom t false) (sureFrom u false) (evaluate states T e σ) (exit states T t (suc d) (evaluate states T e σ)) (exit states T u (suc d) (evaluate states T e σ)))))) (sym (told-one T σ e))
-      ∙ ap (λ (υ : Scope Status). toldAll T (more e none) σ ++ (report T t (suc d) (at + 11 + exprBytes e) υ ++ (report T u (suc d) (at + 18 + exprBytes e + codeBytes t) υ
-      ++ report T r d (at + 18 + exprBytes e + codeBytes t + codeBytes u) (merge states (sureFrom t false) (sureFrom u false) υ (exit states T t (suc d) υ) (exit states T u (suc d) υ))))) (sym (after-one T σ e))
-      ∙ three (λ (i : ℕ). report T t (suc d) i τ) (λ (i : ℕ). report T u (suc d) i τ)
-      (λ (i : ℕ). report T r d i (merge states (sureFrom t false) (sureFrom u false) τ (exit states T t (suc d) τ) (exit states T u (suc d) τ))) (toldAll T (more e none) σ) a b g
+      ∙ ap (λ (υ : Scope Status). toldAll T (more e none) σ ++ (report T t (suc d) l (at + 11 + exprBytes e) υ ++ (report T u (suc d) l (at + 18 + exprBytes e + codeBytes t) υ
+      ++ report T r d l (at + 18 + exprBytes e + codeBytes t + codeBytes u) (merge states (sureFrom t false) (sureFrom u false) υ (exit states T t (suc d) υ) (exit states T u (suc d) υ))))) (sym (after-one T σ e))
+      ∙ three (λ (i : ℕ). report T t (suc d) l i τ) (λ (i : ℕ). report T u (suc d) l i τ)
+      (λ (i : ℕ). report T r d l i (merge states (sureFrom t false) (sureFrom u false) τ (exit states T t (suc d) τ) (exit states T u (suc d) τ))) (toldAll T (more e none) σ) a b g
       ∙ simp (append-assoc, append-nil)
-  report-step (ifThen s e ts t r) d at σ =
+  report-step (ifThen s e ts t r) d l at σ =
       let τ = afterAll T (more e none) σ in
       let w = at + (5 + exprBytes e) in
       let a : at + 11 + exprBytes e ≡ w + 6 = omega arith in
       let g : at + 12 + exprBytes e + codeBytes t ≡ w + (7 + codeBytes t) = omega arith in
-      ap (λ (x : List Report). x ++ (report T t (suc d) (at + 11 + exprBytes e) (evaluate states T e σ)
-      ++ report T r d (at + 12 + exprBytes e + codeBytes t) (merge states (sureFrom t false) false (evaluate states T e σ) (exit states T t (suc d) (evaluate states T e σ)) (evaluate states T e σ)))) (sym (told-one T σ e))
-      ∙ ap (λ (υ : Scope Status). toldAll T (more e none) σ ++ (report T t (suc d) (at + 11 + exprBytes e) υ
-      ++ report T r d (at + 12 + exprBytes e + codeBytes t) (merge states (sureFrom t false) false υ (exit states T t (suc d) υ) υ))) (sym (after-one T σ e))
-      ∙ two (λ (i : ℕ). report T t (suc d) i τ) (λ (i : ℕ). report T r d i (merge states (sureFrom t false) false τ (exit states T t (suc d) τ) τ)) (toldAll T (more e none) σ) a g
+      ap (λ (x : List Report). x ++ (report T t (suc d) l (at + 11 + exprBytes e) (evaluate states T e σ)
+      ++ report T r d l (at + 12 + exprBytes e + codeBytes t) (merge states (sureFrom t false) false (evaluate states T e σ) (exit states T t (suc d) (evaluate states T e σ)) (evaluate states T e σ)))) (sym (told-one T σ e))
+      ∙ ap (λ (υ : Scope Status). toldAll T (more e none) σ ++ (report T t (suc d) l (at + 11 + exprBytes e) υ
+      ++ report T r d l (at + 12 + exprBytes e + codeBytes t) (merge states (sureFrom t false) false υ (exit states T t (suc d) υ) υ))) (sym (after-one T σ e))
+      ∙ two (λ (i : ℕ). report T t (suc d) l i τ) (λ (i : ℕ). report T r d l i (merge states (sureFrom t false) false τ (exit states T t (suc d) τ) τ)) (toldAll T (more e none) σ) a g
       ∙ simp (append-assoc, append-nil)
-  report-step (while s e ts t r) d at σ =
+  report-step (while s e ts t r) d l at σ =
       let τ = afterAll T (more e none) σ in
       let w = at + (5 + exprBytes e) in
       let a : at + 11 + exprBytes e ≡ w + 6 = omega arith in
       let g : at + 11 + exprBytes e + codeBytes t ≡ w + (6 + codeBytes t) = omega arith in
-      ap (λ (x : List Report). x ++ (report T t (suc d) (at + 11 + exprBytes e) (evaluate states T e σ)
-      ++ report T r d (at + 11 + exprBytes e + codeBytes t) (joins states (exit states T t (suc d) (evaluate states T e σ)) (evaluate states T e σ)))) (sym (told-one T σ e))
-      ∙ ap (λ (υ : Scope Status). toldAll T (more e none) σ ++ (report T t (suc d) (at + 11 + exprBytes e) υ
-      ++ report T r d (at + 11 + exprBytes e + codeBytes t) (joins states (exit states T t (suc d) υ) υ))) (sym (after-one T σ e))
-      ∙ two (λ (i : ℕ). report T t (suc d) i τ) (λ (i : ℕ). report T r d i (joins states (exit states T t (suc d) τ) τ)) (toldAll T (more e none) σ) a g
+      ap (λ (x : List Report). x ++ (report T t (suc d) (some (suc d)) (at + 11 + exprBytes e) (evaluate states T e σ)
+      ++ report T r d l (at + 11 + exprBytes e + codeBytes t) (joins states (exit states T t (suc d) (evaluate states T e σ)) (evaluate states T e σ)))) (sym (told-one T σ e))
+      ∙ ap (λ (υ : Scope Status). toldAll T (more e none) σ ++ (report T t (suc d) (some (suc d)) (at + 11 + exprBytes e) υ
+      ++ report T r d l (at + 11 + exprBytes e + codeBytes t) (joins states (exit states T t (suc d) υ) υ))) (sym (after-one T σ e))
+      ∙ two (λ (i : ℕ). report T t (suc d) (some (suc d)) i τ) (λ (i : ℕ). report T r d l i (joins states (exit states T t (suc d) τ) τ)) (toldAll T (more e none) σ) a g
       ∙ simp (append-assoc, append-nil)
-  report-step (jump k s r) d at σ =
+  report-step (jump k s r) d l at σ =
       let g : at + 5 ≡ at + 5 + 0 = omega arith in
-      ap (λ (τ : Scope Status). report T r d (at + 5) τ) (sym (after-none σ))
-      ∙ ap (λ (i : ℕ). report T r d i (afterAll T none σ)) g
+      ap (λ (τ : Scope Status). leftBehind s (loopDrops states T l τ) ++ report T r d l (at + 5) τ) (sym (after-none σ))
+      ∙ ap (λ (i : ℕ). leftBehind s (loopDrops states T l (afterAll T none σ)) ++ report T r d l i (afterAll T none σ)) g
       ∙ simp (append-assoc, append-nil, told-none σ)

@@ -90,11 +90,11 @@ module _ (T : Tables) where
   abbrev pub valued : Tree → Scope Status → Scope Status
   valued c σ = afterAll T (valuesOf c) σ
 
-  abbrev pub frontOwn : Tree → ℕ → Scope Status → Own
-  frontOwn c at σ = record { bytes = frontBytes T c (valued c σ); reports = toldAll T (valuesOf c) σ ++ frontReports T c at (valued c σ); fits = true }
+  abbrev pub frontOwn : Tree → Option ℕ → ℕ → Scope Status → Own
+  frontOwn c l at σ = record { bytes = frontBytes T c (valued c σ); reports = toldAll T (valuesOf c) σ ++ frontReports T c l at (valued c σ); fits = true }
 
-  abbrev pub own : Tree → ℕ → ℕ → Scope Status → Own
-  own c d at σ = both (frontOwn c at σ) (blocksOwn T c d (at + frontSize c) (valued c σ))
+  abbrev pub own : Tree → ℕ → Option ℕ → ℕ → Scope Status → Own
+  own c d l at σ = both (frontOwn c l at σ) (blocksOwn T c d l (at + frontSize c) (valued c σ))
 
   abbrev pub ownFault : Tree → ℕ → Scope Status → Option ℕ
   ownFault c d σ = blocksFault T c d (valued c σ)

@@ -44,28 +44,28 @@ module _ (T : Tables) where
   abbrev pub returned : Tree → ℕ → ℕ → Bool → Scope Status → Tree
   returned c p d f σ = flatten (decide states T c p d f σ)
 
-  -- a block of depth d at a position
-  abbrev pub blockOwn : ℕ → Tree → ℕ → ℕ → Scope Status → Own
-  blockOwn p c d at σ = record {
+  -- a block of depth d at a position, l being the depth of the nearest loop's body, if any
+  abbrev pub blockOwn : ℕ → Tree → ℕ → Option ℕ → ℕ → Scope Status → Own
+  blockOwn p c d l at σ = record {
     bytes = withCount p (size (returned c p d false σ)) (encodeCode (returned c p d false σ));
-    reports = report T c d (at + 6) σ;
+    reports = report T c d l (at + 6) σ;
     fits = leb (size (returned c p d false σ)) 65535 && countsFit 65535 (returned c p d false σ);
   }
 
   -- a statement's blocks, in a block of depth d, the first at a position
-  abbrev pub blocksOwn : Tree → ℕ → ℕ → Scope Status → Own
-  blocksOwn (done x) d at σ = nothing
-  blocksOwn (exprStmt s e y r) d at σ = nothing
-  blocksOwn (variable k s n t e r) d at σ = nothing
-  blocksOwn (assign s e v t x r) d at σ = nothing
-  blocksOwn (return s e t x r) d at σ = nothing
-  blocksOwn (bareReturn s t r) d at σ = nothing
-  blocksOwn (block s c r) d at σ = blockOwn s c (suc d) at σ
-  blocksOwn (ifElse s e ts t us u r) d at σ =
-      both (blockOwn ts t (suc d) at σ) (both (byte 1) (blockOwn us u (suc d) (at + (6 + codeBytes t) + 1) σ))
-  blocksOwn (ifThen s e ts t r) d at σ = both (blockOwn ts t (suc d) at σ) (byte 0)
-  blocksOwn (while s e ts t r) d at σ = blockOwn ts t (suc d) at σ
-  blocksOwn (jump k s r) d at σ = nothing
+  abbrev pub blocksOwn : Tree → ℕ → Option ℕ → ℕ → Scope Status → Own
+  blocksOwn (done x) d l at σ = nothing
+  blocksOwn (exprStmt s e y r) d l at σ = nothing
+  blocksOwn (variable k s n t e r) d l at σ = nothing
+  blocksOwn (assign s e v t x r) d l at σ = nothing
+  blocksOwn (return s e t x r) d l at σ = nothing
+  blocksOwn (bareReturn s t r) d l at σ = nothing
+  blocksOwn (block s c r) d l at σ = blockOwn s c (suc d) l at σ
+  blocksOwn (ifElse s e ts t us u r) d l at σ =
+      both (blockOwn ts t (suc d) l at σ) (both (byte 1) (blockOwn us u (suc d) l (at + (6 + codeBytes t) + 1) σ))
+  blocksOwn (ifThen s e ts t r) d l at σ = both (blockOwn ts t (suc d) l at σ) (byte 0)
+  blocksOwn (while s e ts t r) d l at σ = blockOwn ts t (suc d) (Option.some (suc d)) at σ
+  blocksOwn (jump k s r) d l at σ = nothing
 
   -- 12 or 13, once its values are evaluated
   abbrev pub blocksFault : Tree → ℕ → Scope Status → Option ℕ

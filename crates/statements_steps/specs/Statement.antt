@@ -3,6 +3,7 @@
 use Prim.Native.Nat.{ℕ, _+_}
 use mathlib.Core.Bool.{Bool, cond, _&&_}
 use mathlib.Core.List.{List, [], _∷_, _++_}
+use mathlib.Core.Option.{Option}
 use Rattle.image_fields.specs.Bytes.{twoBytes, fourBytes}
 use Rattle.tables.specs.Tables.{Tables}
 use Rattle.image_body.specs.Stmt.{Tree, done, exprStmt, variable, assign, return, bareReturn, block, ifElse, ifThen, while, jump}
@@ -12,7 +13,7 @@ use Rattle.rules.specs.Expr.{nobody, view, nameIn, isCall, tyOf}
 use Rattle.rules.specs.State.{State as Status}
 use Rattle.rules.specs.Stack.{shape, Stack as Scope}
 use Rattle.rules.specs.Effects.{deletedIn, takeOver}
-use Rattle.rules.specs.Rules.{Drop, states, applyAll, register, assignDrops, returnDrops, afterAssign}
+use Rattle.rules.specs.Rules.{Drop, states, applyAll, register, assignDrops, returnDrops, loopDrops, afterAssign}
 use Rattle.rules.specs.Report.{Report, deleteNode, unused, leftBehind, exprBytes}
 use Rattle.statements_steps.specs.Drops.{deleteBytes}
 
@@ -76,19 +77,20 @@ module _ (T : Tables) where
   abbrev pub frontBytes : Tree → Scope Status → List ℕ
   frontBytes c σ = deleteBytes (frontDrops c σ) ++ ownBytes c
 
-  -- the warning of an unused result, and what a return without a value leaves behind
-  abbrev pub frontReports : Tree → ℕ → Scope Status → List Report
-  frontReports (done x) at σ = []
-  frontReports (exprStmt s e y r) at σ = unused (wrapped (exprStmt s e y r)) s e at
-  frontReports (variable k s n t e r) at σ = []
-  frontReports (assign s e v t x r) at σ = []
-  frontReports (return s e t x r) at σ = []
-  frontReports (bareReturn s t r) at σ = leftBehind s (returnDrops states T nobody σ)
-  frontReports (block s c r) at σ = []
-  frontReports (ifElse s e ts t us u r) at σ = []
-  frontReports (ifThen s e ts t r) at σ = []
-  frontReports (while s e ts t r) at σ = []
-  frontReports (jump k s r) at σ = []
+  -- the warning of an unused result, and what a return without a value, a Break or a Continue leaves behind, l being the depth of the nearest
+  -- loop's body, if any
+  abbrev pub frontReports : Tree → Option ℕ → ℕ → Scope Status → List Report
+  frontReports (done x) l at σ = []
+  frontReports (exprStmt s e y r) l at σ = unused (wrapped (exprStmt s e y r)) s e at
+  frontReports (variable k s n t e r) l at σ = []
+  frontReports (assign s e v t x r) l at σ = []
+  frontReports (return s e t x r) l at σ = []
+  frontReports (bareReturn s t r) l at σ = leftBehind s (returnDrops states T nobody σ)
+  frontReports (block s c r) l at σ = []
+  frontReports (ifElse s e ts t us u r) l at σ = []
+  frontReports (ifThen s e ts t r) l at σ = []
+  frontReports (while s e ts t r) l at σ = []
+  frontReports (jump k s r) l at σ = leftBehind s (loopDrops states T l σ)
 
   -- the locals behind it, in a block of depth d, if it has no blocks
   abbrev pub settle : Tree → ℕ → Scope Status → Scope Status

@@ -1,5 +1,6 @@
 use Prim.Native.Nat.{ℕ, suc, _+_, _-_, _*_, _≤_, _<_}
 use mathlib.Core.List.{[]}
+use mathlib.Core.Option.{Option}
 use lib.ListN.{length, set}
 use mathlib.Core.Path.{_≡_, refl, sym, ap, _∙_, subst}
 use mathlib.Core.Logic.{⊎-elim}
@@ -24,12 +25,12 @@ use Rattle.blocks_ends.specs.declared.Env.{Env}
 use Rattle.blocks_ends.specs.Ends.{placeIn, faultIn, walkedIn}
 use Rattle.blocks_laws.specs.Walks.{BlockWalks}
 use Rattle.blocks_laws.proofs.Branches.{ElseThere}
-use Rattle.blocks.specs.Blocks.{Enters, Comes, blockRows}
+use Rattle.blocks.specs.Blocks.{InLoop, Enters, Comes, blockRows}
 use Rattle.blocks_ends.proofs.Numbers.{fault-told, no-fault, reaches}
 use Rattle.statements_acts.proofs.Laws.{auto-is}
-use Rattle.blocks.proofs.Standing.{Standing, Turned, standing-start, ask-next, turned, standing-mark, standing-revived, standing-fresh, full, enters-blocks, there-blocks, less-behind, standing-behind, mark-goes, register-goes, blocks-go}
-use Rattle.blocks.proofs.Ending.{enters-inner, done-as, fault-done, blocks-done, end-there, end-frame, end-done}
-use Rattle.blocks.proofs.Branching.{moved-once, moved-twice, copied-at, copies-at, comes-at, walks-at, branches-at, merges-at, block-asked, left-same, behind-asked, to-branch, branch-below, branch-enters, branch-short, below-less, comes-faulty, else-low, else-short, else-branches, merged-comes, else-merged}
+use Rattle.blocks.proofs.Standing.{loop-few, Standing, Turned, standing-start, ask-next, turned, standing-mark, standing-revived, standing-fresh, full, enters-blocks, there-blocks, less-behind, standing-behind, mark-goes, register-goes, blocks-go}
+use Rattle.blocks.proofs.Ending.{loop-inner, enters-inner, done-as, fault-done, blocks-done, end-there, end-frame, end-done}
+use Rattle.blocks.proofs.Branching.{ownLoop, loop-of, moved-once, moved-twice, copied-at, copies-at, comes-at, walks-at, branches-at, merges-at, block-asked, left-same, behind-asked, to-branch, branch-below, branch-enters, branch-short, below-less, comes-faulty, else-low, else-short, else-branches, merged-comes, else-merged}
 use Rattle.blocks.proofs.Thens.{tag-of, seven-of, not-eight, told-either, flag-seven, flag-none, block-of, then-low, then-short, plain-comes, then-below, then-least, then-fault, flag-there, else-enters, else-block-there, else-first, else-comes-to, else-walks-to, without-branches, without-comes, without-if, without-loop, flag-further, loop-further}
 use borrow.Fn.Kinds.{In}
 use borrow.Fn.PlainCycle.{Measures, is, falls, and}
@@ -53,6 +54,7 @@ use Rattle.blocks_ends.proofs.scanning.Reads as scanning-reads
 use Rattle.blocks_ends.proofs.then_over.Reads as then-over-reads
 use Rattle.blocks_merge.proofs.behind.Reads as behind-reads
 use Rattle.blocks_merge.proofs.branch_rows.Reads as branch-rows-reads
+use Rattle.blocks_merge.proofs.in_loop.Reads as in-loop-reads
 use Rattle.blocks_merge.proofs.merge_first.Reads as merge-first-reads
 use Rattle.blocks_merge.proofs.merge_else.Reads as merge-else-reads
 use Rattle.tables_lookup.proofs.auto_deleted.Reads as auto-deleted-reads
@@ -134,7 +136,7 @@ abbrev transform-block-claims : ℕ → transform-block-lts.Claims
 transform-block-claims t = (place-in-reads.Asked, place-in-reads.Learnt, inner-reads.Asked, inner-reads.Learnt, head-reads.Asked, head-reads.Learnt, mark-of-reads.Asked, mark-of-reads.Learnt, scanning-reads.Asked, scanning-reads.Learnt, next-change-reads.Asked, next-change-reads.Learnt, end-block-reads.Asked, end-block-reads.Learnt, leave-reads.Asked, leave-reads.Learnt, mark-reads.Asked, mark-reads.Learnt, full-reads.Asked, full-reads.Learnt, auto-deleted-reads.Asked, auto-deleted-reads.Learnt, register-local-reads.Asked, register-local-reads.Learnt, needs-revival-reads.Asked, needs-revival-reads.Learnt, put-place-reads.Asked, put-place-reads.Learnt, transform-blocks-below t, transform-blocks.Post, resumed-reads.Asked, resumed-reads.Learnt)
 
 abbrev transform-blocks-claims : ℕ → transform-blocks-lts.Claims
-transform-blocks-claims t = (transform-block-below t, transform-block.Post, behind-reads.Asked, behind-reads.Learnt, branch-rows-reads.Asked, branch-rows-reads.Learnt, then-over-reads.Asked, then-over-reads.Learnt, transform-else-below t, transform-else.Post, merge-first-reads.Asked, merge-first-reads.Learnt)
+transform-blocks-claims t = (transform-block-below t, transform-block.Post, behind-reads.Asked, behind-reads.Learnt, in-loop-reads.Asked, in-loop-reads.Learnt, branch-rows-reads.Asked, branch-rows-reads.Learnt, then-over-reads.Asked, then-over-reads.Learnt, transform-else-below t, transform-else.Post, merge-first-reads.Asked, merge-first-reads.Learnt)
 
 abbrev transform-else-claims : ℕ → transform-else-lts.Claims
 transform-else-claims t = (behind-reads.Asked, behind-reads.Learnt, branch-rows-reads.Asked, branch-rows-reads.Learnt, transform-block-below t, transform-block.Post, merge-else-reads.Asked, merge-else-reads.Learnt)
@@ -150,44 +152,48 @@ blocks-bytes t c k = omega (arith, c .shared-slice-known .given k)
 abbrev First : ℕ → Type 0
 First t = transform-blocks-lts.After-transform-block2 (transform-blocks-claims t) (transform-blocks-at t) transform-blocks.Post
 
-first-copies : (t : ℕ) (c : First t) → Copies (c .before .before .before .before .before .before .before .before .before .before .before .before .before .before .before .before .before .before .before .before .before .before .before .before .args .l .count) (c .before .before .before .before .before .before .before .before .before .before .before .before .before .before .before .before .before .before .before .before .before .before .before .before .args .env .width) (c .before .before .before .before .before .before .before .before .before .before .before .before .before .before .before .before .before .before .before .before .before .before .before .before .args .t6 .kinds) (c .before .before .before .before .before .before .before .before .before .before .before .before .before .before .before .before .before .before .before .before .before .before .before .before .args .rows .now) (c .before .before .before .before .before .before .before .before .before .before .before .before .before .before .before .before .before .before .before .before .before .before .before .before .args .env .cur) (rowOf (c .before .before .before .before .before .before .before .before .before .before .before .before .before .before .before .before .before .before .before .before .before .before .before .before .args .env .cur) (c .before .before .before .before .before .before .before .before .before .before .before .before .before .before .before .before .before .before .before .before .before .before .before .before .args .env .width) (c .before .before .before .before .before .before .before .before .before .before .before .before .before .before .before .before .before .before .before .before .before .before .before .before .args .l .count)) (c .before .before .before .before .before .before .before .before .before .before .before .branch-rows .result) (c .before .before .before .before .before .before .before .before .before .before .before .branch-rows .last .1 .1 .0)
+first-copies : (t : ℕ) (c : First t) → Copies (c .before .before .before .before .before .before .before .before .before .before .before .before .before .before .before .before .before .before .before .before .before .before .before .before .before .args .l .count) (c .before .before .before .before .before .before .before .before .before .before .before .before .before .before .before .before .before .before .before .before .before .before .before .before .before .args .env .width) (c .before .before .before .before .before .before .before .before .before .before .before .before .before .before .before .before .before .before .before .before .before .before .before .before .before .args .t6 .kinds) (c .before .before .before .before .before .before .before .before .before .before .before .before .before .before .before .before .before .before .before .before .before .before .before .before .before .args .rows .now) (c .before .before .before .before .before .before .before .before .before .before .before .before .before .before .before .before .before .before .before .before .before .before .before .before .before .args .env .cur) (rowOf (c .before .before .before .before .before .before .before .before .before .before .before .before .before .before .before .before .before .before .before .before .before .before .before .before .before .args .env .cur) (c .before .before .before .before .before .before .before .before .before .before .before .before .before .before .before .before .before .before .before .before .before .before .before .before .before .args .env .width) (c .before .before .before .before .before .before .before .before .before .before .before .before .before .before .before .before .before .before .before .before .before .before .before .before .before .args .l .count)) (c .before .before .before .before .before .before .before .before .before .before .before .branch-rows .result) (c .before .before .before .before .before .before .before .before .before .before .before .branch-rows .last .1 .1 .0)
 first-copies t c =
     let at-branch-rows = c .before .before .before .before .before .before .before .before .before .before .before in
-    let at-behind = at-branch-rows .before .before .before .before in
+    let at-in-loop = at-branch-rows .before .before .before .before in
+    let at-behind = at-in-loop .before in
     let start = at-behind .before .before .before .before .before .before .before .before .before in
-    copies-at (start .args .env) (at-behind .behind .result) _ (moved-once (start .args .env) (at-behind .behind .result) (start .args .l .count) (at-behind .behind .ensures)) (at-branch-rows .branch-rows .ensures)
+    copies-at (start .args .env) (at-in-loop .in-loop .result) _ (moved-once (start .args .env) (at-behind .behind .result) (at-in-loop .in-loop .result) (start .args .tag) (start .args .l .count) (at-behind .behind .ensures) (at-in-loop .in-loop .ensures)) (at-branch-rows .branch-rows .ensures)
 
-first-comes : (t : ℕ) (c : First t) → Comes (c .before .before .before .before .before .before .before .before .before .before .before .before .before .before .before .before .before .before .before .before .before .before .before .before .args .s .now) (c .before .before .before .before .before .before .before .before .before .before .before .before .before .before .before .before .before .before .before .before .before .before .before .before .args .tb .now) (rowOf (c .before .before .before .before .before .before .before .before .before .before .before .before .before .before .before .before .before .before .before .before .before .before .before .before .args .env .cur) (c .before .before .before .before .before .before .before .before .before .before .before .before .before .before .before .before .before .before .before .before .before .before .before .before .args .env .width) (c .before .before .before .before .before .before .before .before .before .before .before .before .before .before .before .before .before .before .before .before .before .before .before .before .args .l .count)) (c .before .before .before .before .before .before .before .before .before .before .before .before .before .before .before .before .before .before .before .before .before .before .before .before .args .env .width) (blockRows (rowOf (c .before .before .before .before .before .before .before .before .before .before .before .before .before .before .before .before .before .before .before .before .before .before .before .before .args .env .cur) (c .before .before .before .before .before .before .before .before .before .before .before .before .before .before .before .before .before .before .before .before .before .before .before .before .args .env .width) (c .before .before .before .before .before .before .before .before .before .before .before .before .before .before .before .before .before .before .before .before .before .before .before .before .args .l .count)) (c .before .before .before .before .before .before .before .before .before .before .before .before .before .before .before .before .before .before .before .before .before .before .before .before .args .env .left)) (c .before .before .before .before .before .before .before .before .before .before .before .before .before .before .before .before .before .before .before .before .before .before .before .before .args .l) (c .before .before .before .before .before .before .before .before .before .before .before .branch-rows .last .1 .1 .0) (placeIn (c .before .before .before .before .before .before .before .before .before .before .before .before .before .before .before .before .before .before .before .before .before .before .before .before .args .pl .now)) (c .transform-block2 .result) (c .transform-block2 .last .1 .1 .1 .1 .1 .0) (c .transform-block2 .last .1 .1 .1 .1 .1 .1 .1 .1 .1 .1 .1 .0)
+first-comes : (t : ℕ) (c : First t) → Comes (c .before .before .before .before .before .before .before .before .before .before .before .before .before .before .before .before .before .before .before .before .before .before .before .before .before .args .s .now) (c .before .before .before .before .before .before .before .before .before .before .before .before .before .before .before .before .before .before .before .before .before .before .before .before .before .args .tb .now) (rowOf (c .before .before .before .before .before .before .before .before .before .before .before .before .before .before .before .before .before .before .before .before .before .before .before .before .before .args .env .cur) (c .before .before .before .before .before .before .before .before .before .before .before .before .before .before .before .before .before .before .before .before .before .before .before .before .before .args .env .width) (c .before .before .before .before .before .before .before .before .before .before .before .before .before .before .before .before .before .before .before .before .before .before .before .before .before .args .l .count)) (c .before .before .before .before .before .before .before .before .before .before .before .before .before .before .before .before .before .before .before .before .before .before .before .before .before .args .env .width) (blockRows (rowOf (c .before .before .before .before .before .before .before .before .before .before .before .before .before .before .before .before .before .before .before .before .before .before .before .before .before .args .env .cur) (c .before .before .before .before .before .before .before .before .before .before .before .before .before .before .before .before .before .before .before .before .before .before .before .before .before .args .env .width) (c .before .before .before .before .before .before .before .before .before .before .before .before .before .before .before .before .before .before .before .before .before .before .before .before .before .args .l .count)) (c .before .before .before .before .before .before .before .before .before .before .before .before .before .before .before .before .before .before .before .before .before .before .before .before .before .args .env .left)) (c .before .before .before .before .before .before .before .before .before .before .before .before .before .before .before .before .before .before .before .before .before .before .before .before .before .args .l) (c .before .before .before .before .before .before .before .before .before .before .before .branch-rows .last .1 .1 .0) (placeIn (c .before .before .before .before .before .before .before .before .before .before .before .before .before .before .before .before .before .before .before .before .before .before .before .before .before .args .pl .now)) (c .transform-block2 .result) (c .transform-block2 .last .1 .1 .1 .1 .1 .0) (c .transform-block2 .last .1 .1 .1 .1 .1 .1 .1 .1 .1 .1 .1 .0)
 first-comes t c =
-    let at-behind = c .before .before .before .before .before .before .before .before .before .before .before .before .before .before .before in
+    let at-in-loop = c .before .before .before .before .before .before .before .before .before .before .before .before .before .before .before in
+    let at-behind = at-in-loop .before in
     let start = at-behind .before .before .before .before .before .before .before .before .before in
-    comes-at (start .args .env) (at-behind .behind .result) _ (moved-once (start .args .env) (at-behind .behind .result) (start .args .l .count) (at-behind .behind .ensures)) (c .transform-block2 .ensures .0 .0)
+    comes-at (start .args .env) (at-in-loop .in-loop .result) _ (moved-once (start .args .env) (at-behind .behind .result) (at-in-loop .in-loop .result) (start .args .tag) (start .args .l .count) (at-behind .behind .ensures) (at-in-loop .in-loop .ensures)) (c .transform-block2 .ensures .0 .0)
 
-first-walks : (t : ℕ) (c : First t) → (T : Tables) → Says (c .before .before .before .before .before .before .before .before .before .before .before .before .before .before .before .before .before .before .before .before .before .before .before .before .args .s .now) (c .before .before .before .before .before .before .before .before .before .before .before .before .before .before .before .before .before .before .before .before .before .before .before .before .args .tb .now) T → (faultIn (c .transform-block2 .last .1 .1 .1 .1 .1 .1 .1 .1 .1 .1 .1 .0) ≡ 254 → ⊥)
-    → BlockWalks T (c .before .before .before .before .before .before .before .before .before .before .before .before .before .before .before .before .before .before .before .before .before .before .before .before .args .s .now) (c .before .before .before .before .before .before .before .before .before .before .before .before .before .before .before .before .before .before .before .before .before .before .before .before .args .env .left) (suc (12 - c .before .before .before .before .before .before .before .before .before .before .before .before .before .before .before .before .before .before .before .before .before .before .before .before .args .env .left)) (view (c .before .before .before .before .before .before .before .before .before .before .before .before .before .before .before .before .before .before .before .before .before .before .before .before .args .l) (c .before .before .before .before .before .before .before .before .before .before .before .before .before .before .before .before .before .before .before .before .before .before .before .before .args .t6) (c .before .before .before .before .before .before .before .before .before .before .before .branch-rows .last .1 .1 .0) (rowOf (c .before .before .before .before .before .before .before .before .before .before .before .before .before .before .before .before .before .before .before .before .before .before .before .before .args .env .cur) (c .before .before .before .before .before .before .before .before .before .before .before .before .before .before .before .before .before .before .before .before .before .before .before .before .args .env .width) (c .before .before .before .before .before .before .before .before .before .before .before .before .before .before .before .before .before .before .before .before .before .before .before .before .args .l .count)) (c .before .before .before .before .before .before .before .before .before .before .before .before .before .before .before .before .before .before .before .before .before .before .before .before .args .env .width)) (placeIn (c .before .before .before .before .before .before .before .before .before .before .before .before .before .before .before .before .before .before .before .before .before .before .before .before .args .pl .now))
-    (memory (c .before .before .before .before .before .before .before .before .before .before .before .before .before .before .before .before .before .before .before .before .before .before .before .before .args .out .now) (c .before .before .before .before .before .before .before .before .before .before .before .before .before .before .before .before .before .before .before .before .before .before .before .before .args .errs .now) (c .before .before .before .before .before .before .before .before .before .before .before .before .before .before .before .before .before .before .before .before .before .before .before .before .args .warns .now) (c .before .before .before .before .before .before .before .before .before .before .before .before .before .before .before .before .before .before .before .before .before .before .before .before .args .lefts .now)) (walkedIn (c .transform-block2 .last .1 .1 .1 .1 .1 .1 .1 .1 .1 .1 .1 .0) (view (c .before .before .before .before .before .before .before .before .before .before .before .before .before .before .before .before .before .before .before .before .before .before .before .before .args .l) (c .transform-block2 .result) (c .transform-block2 .last .1 .1 .1 .1 .1 .0) (rowOf (c .before .before .before .before .before .before .before .before .before .before .before .before .before .before .before .before .before .before .before .before .before .before .before .before .args .env .cur) (c .before .before .before .before .before .before .before .before .before .before .before .before .before .before .before .before .before .before .before .before .before .before .before .before .args .env .width) (c .before .before .before .before .before .before .before .before .before .before .before .before .before .before .before .before .before .before .before .before .before .before .before .before .args .l .count)) (c .before .before .before .before .before .before .before .before .before .before .before .before .before .before .before .before .before .before .before .before .before .before .before .before .args .env .width))) (memory (c .transform-block2 .last .1 .1 .1 .1 .1 .1 .1 .0) (c .transform-block2 .last .1 .1 .1 .1 .1 .1 .1 .1 .0) (c .transform-block2 .last .1 .1 .1 .1 .1 .1 .1 .1 .1 .0) (c .transform-block2 .last .1 .1 .1 .1 .1 .1 .1 .1 .1 .1 .0))
+first-walks : (t : ℕ) (c : First t) → (T : Tables) → Says (c .before .before .before .before .before .before .before .before .before .before .before .before .before .before .before .before .before .before .before .before .before .before .before .before .before .args .s .now) (c .before .before .before .before .before .before .before .before .before .before .before .before .before .before .before .before .before .before .before .before .before .before .before .before .before .args .tb .now) T → (loop : Option ℕ) → InLoop loop (c .before .before .before .before .before .before .before .before .before .before .before .before .before .before .before .before .before .before .before .before .before .before .before .before .before .args .env .base) (suc (12 - c .before .before .before .before .before .before .before .before .before .before .before .before .before .before .before .before .before .before .before .before .before .before .before .before .before .args .env .left)) (c .before .before .before .before .before .before .before .before .before .before .before .before .before .before .before .before .before .before .before .before .before .before .before .before .before .args .l) → (faultIn (c .transform-block2 .last .1 .1 .1 .1 .1 .1 .1 .1 .1 .1 .1 .0) ≡ 254 → ⊥)
+    → BlockWalks T (c .before .before .before .before .before .before .before .before .before .before .before .before .before .before .before .before .before .before .before .before .before .before .before .before .before .args .s .now) (c .before .before .before .before .before .before .before .before .before .before .before .before .before .before .before .before .before .before .before .before .before .before .before .before .before .args .env .left) (suc (12 - c .before .before .before .before .before .before .before .before .before .before .before .before .before .before .before .before .before .before .before .before .before .before .before .before .before .args .env .left)) (ownLoop (c .before .before .before .before .before .before .before .before .before .before .before .before .before .before .before .before .before .before .before .before .before .before .before .before .before .args .tag) (12 - c .before .before .before .before .before .before .before .before .before .before .before .before .before .before .before .before .before .before .before .before .before .before .before .before .before .args .env .left) loop) (view (c .before .before .before .before .before .before .before .before .before .before .before .before .before .before .before .before .before .before .before .before .before .before .before .before .before .args .l) (c .before .before .before .before .before .before .before .before .before .before .before .before .before .before .before .before .before .before .before .before .before .before .before .before .before .args .t6) (c .before .before .before .before .before .before .before .before .before .before .before .branch-rows .last .1 .1 .0) (rowOf (c .before .before .before .before .before .before .before .before .before .before .before .before .before .before .before .before .before .before .before .before .before .before .before .before .before .args .env .cur) (c .before .before .before .before .before .before .before .before .before .before .before .before .before .before .before .before .before .before .before .before .before .before .before .before .before .args .env .width) (c .before .before .before .before .before .before .before .before .before .before .before .before .before .before .before .before .before .before .before .before .before .before .before .before .before .args .l .count)) (c .before .before .before .before .before .before .before .before .before .before .before .before .before .before .before .before .before .before .before .before .before .before .before .before .before .args .env .width)) (placeIn (c .before .before .before .before .before .before .before .before .before .before .before .before .before .before .before .before .before .before .before .before .before .before .before .before .before .args .pl .now))
+    (memory (c .before .before .before .before .before .before .before .before .before .before .before .before .before .before .before .before .before .before .before .before .before .before .before .before .before .args .out .now) (c .before .before .before .before .before .before .before .before .before .before .before .before .before .before .before .before .before .before .before .before .before .before .before .before .before .args .errs .now) (c .before .before .before .before .before .before .before .before .before .before .before .before .before .before .before .before .before .before .before .before .before .before .before .before .before .args .warns .now) (c .before .before .before .before .before .before .before .before .before .before .before .before .before .before .before .before .before .before .before .before .before .before .before .before .before .args .lefts .now)) (walkedIn (c .transform-block2 .last .1 .1 .1 .1 .1 .1 .1 .1 .1 .1 .1 .0) (view (c .before .before .before .before .before .before .before .before .before .before .before .before .before .before .before .before .before .before .before .before .before .before .before .before .before .args .l) (c .transform-block2 .result) (c .transform-block2 .last .1 .1 .1 .1 .1 .0) (rowOf (c .before .before .before .before .before .before .before .before .before .before .before .before .before .before .before .before .before .before .before .before .before .before .before .before .before .args .env .cur) (c .before .before .before .before .before .before .before .before .before .before .before .before .before .before .before .before .before .before .before .before .before .before .before .before .before .args .env .width) (c .before .before .before .before .before .before .before .before .before .before .before .before .before .before .before .before .before .before .before .before .before .before .before .before .before .args .l .count)) (c .before .before .before .before .before .before .before .before .before .before .before .before .before .before .before .before .before .before .before .before .before .before .before .before .before .args .env .width))) (memory (c .transform-block2 .last .1 .1 .1 .1 .1 .1 .1 .0) (c .transform-block2 .last .1 .1 .1 .1 .1 .1 .1 .1 .0) (c .transform-block2 .last .1 .1 .1 .1 .1 .1 .1 .1 .1 .0) (c .transform-block2 .last .1 .1 .1 .1 .1 .1 .1 .1 .1 .1 .0))
 first-walks t c =
     let at-branch-rows = c .before .before .before .before .before .before .before .before .before .before .before in
-    let at-behind = at-branch-rows .before .before .before .before in
+    let at-in-loop = at-branch-rows .before .before .before .before in
+    let at-behind = at-in-loop .before in
     let start = at-behind .before .before .before .before .before .before .before .before .before in
-    walks-at (start .args .env) (at-behind .behind .result) _ (moved-once (start .args .env) (at-behind .behind .result) (start .args .l .count) (at-behind .behind .ensures))
+    λ T sy loop o. walks-at (start .args .env) (at-in-loop .in-loop .result) _ (moved-once (start .args .env) (at-behind .behind .result) (at-in-loop .in-loop .result) (start .args .tag) (start .args .l .count) (at-behind .behind .ensures) (at-in-loop .in-loop .ensures))
     (start .args .s .now) (start .args .tb .now) (start .args .l) (start .args .t6) (at-branch-rows .branch-rows .last .1 .1 .0) (placeIn (start .args .pl .now))
     (memory (start .args .out .now) (start .args .errs .now) (start .args .warns .now) (start .args .lefts .now)) (c .transform-block2 .result) (c .transform-block2 .last .1 .1 .1 .1 .1 .0) (c .transform-block2 .last .1 .1 .1 .1 .1 .1 .1 .1 .1 .1 .1 .0) (memory (c .transform-block2 .last .1 .1 .1 .1 .1 .1 .1 .0) (c .transform-block2 .last .1 .1 .1 .1 .1 .1 .1 .1 .0) (c .transform-block2 .last .1 .1 .1 .1 .1 .1 .1 .1 .1 .0) (c .transform-block2 .last .1 .1 .1 .1 .1 .1 .1 .1 .1 .1 .0))
-    (c .transform-block2 .ensures .1)
+    (c .transform-block2 .ensures .1) T sy (ownLoop (start .args .tag) (12 - start .args .env .left) loop)
+    (loop-of (start .args .s .now) (start .args .tb .now) (start .args .env) (start .args .tag) (start .args .l) (start .args .t6) _ _ (start .pre .1 .0) loop o)
 
-flag-at : (t : ℕ) (c : transform-blocks-lts.Else3 (transform-blocks-claims t) (transform-blocks-at t) transform-blocks.Post) → c .before .before .before .before .before .before .before .before .before .before .before .before .before .before .before .before .before .before .before .before .before .before .before .before .before .before .before .before .before .before .before .before .before .before .before .before .args .tag ≡ 7
-    → ElseThere (c .before .before .before .before .before .before .before .before .before .before .before .before .before .before .before .before .before .before .before .before .before .before .before .before .before .before .before .before .before .before .before .before .before .before .before .before .args .s .now) (c .before .before .before .before .before .before .before .before .before .before .before .before .before .before .before .before .before .before .before .before .before .before .before .before .before .before .before .before .before .before .before .before .before .before .before .before .args .env .left) (placeIn (c .before .before .before .before .before .before .before .before .before .before .before .before .transform-block2 .last .1 .1 .1 .1 .1 .1 .1 .1 .1 .1 .1 .0) .at)
+flag-at : (t : ℕ) (c : transform-blocks-lts.Else3 (transform-blocks-claims t) (transform-blocks-at t) transform-blocks.Post) → c .before .before .before .before .before .before .before .before .before .before .before .before .before .before .before .before .before .before .before .before .before .before .before .before .before .before .before .before .before .before .before .before .before .before .before .before .before .args .tag ≡ 7
+    → ElseThere (c .before .before .before .before .before .before .before .before .before .before .before .before .before .before .before .before .before .before .before .before .before .before .before .before .before .before .before .before .before .before .before .before .before .before .before .before .before .args .s .now) (c .before .before .before .before .before .before .before .before .before .before .before .before .before .before .before .before .before .before .before .before .before .before .before .before .before .before .before .before .before .before .before .before .before .before .before .before .before .args .env .left) (placeIn (c .before .before .before .before .before .before .before .before .before .before .before .before .transform-block2 .last .1 .1 .1 .1 .1 .1 .1 .1 .1 .1 .1 .0) .at)
 flag-at t c seven =
     let at-transform-block2 = c .before .before .before .before .before .before .before .before .before .before .before .before in
     let at-if2 = at-transform-block2 .before .before .before .before .before .before .before .before in
-    let at-shared-slice-known = at-if2 .before .before .before .before .before .before .before .before .before .before .before .before .before .before .before in
+    let at-shared-slice-known = at-if2 .before .before .before .before .before .before .before .before .before .before .before .before .before .before .before .before in
     let start = at-shared-slice-known .before in
     let zero = no-fault (c .if3 .left) in
     flag-there (start .args .s .now) (start .args .tb .now) (blocks-bytes t at-shared-slice-known) (start .args .env) (start .args .tag) (start .args .l) (start .args .t6)
     (start .args .rows .now) (start .args .pl .now) (start .pre .1 .0) (start .pre .1 .1) (start .pre .1 .3) (first-copies t at-transform-block2) (not-false _ (at-if2 .if2 .left))
-    (first-comes t at-transform-block2) zero (tablesOf (start .args .s .now) (start .args .tb .now))
+    (first-comes t at-transform-block2) zero (tablesOf (start .args .s .now) (start .args .tb .now)) (start .pre .1 .0 .near)
     (memory (start .args .out .now) (start .args .errs .now) (start .args .warns .now) (start .args .lefts .now)) (memory (at-transform-block2 .transform-block2 .last .1 .1 .1 .1 .1 .1 .1 .0) (at-transform-block2 .transform-block2 .last .1 .1 .1 .1 .1 .1 .1 .1 .0) (at-transform-block2 .transform-block2 .last .1 .1 .1 .1 .1 .1 .1 .1 .1 .0) (at-transform-block2 .transform-block2 .last .1 .1 .1 .1 .1 .1 .1 .1 .1 .1 .0))
-    (first-walks t at-transform-block2 (tablesOf (start .args .s .now) (start .args .tb .now)) (said (start .args .s .now) (start .args .tb .now)) (reaches zero)) seven
+    (first-walks t at-transform-block2 (tablesOf (start .args .s .now) (start .args .tb .now)) (said (start .args .s .now) (start .args .tb .now)) (start .pre .1 .0 .near) (start .pre .1 .0 .looped) (reaches zero)) seven
 
 -- behind next_change: what is to be done
 turned-at : (t : ℕ) (c : transform-block-lts.After-next-change (transform-block-claims t) (transform-block-at t) transform-block.Post transform-block-Inv-loop transform-block-μ-loop)
@@ -211,17 +217,17 @@ turned-at t c came =
     (at-mark-of .mark-of .ensures (at-loop .loop .l) (at-loop .loop .st) refl refl) (at-scanning .scanning .result) (at-scanning .scanning .ensures) (c .next-change .ensures)
     came (c .next-change .kept .1 .1 .1 .1 .1 .1 .1 .1 .1 .1 .0) (c .next-change .kept .1 .1 .1 .1 .1 .1 .1 .1 .1 .1 .1 .0) (c .next-change .kept .1 .1 .1 .1 .1 .1 .1 .1 .1 .1 .1 .1 .0) (c .next-change .kept .1 .1 .1 .1 .1 .1 .1 .1 .1 .1 .1 .1 .1 .0)
 
--- src/lib.rt:136:9
+-- src/lib.rt:137:9
 transform-block-place-in-requires : (t : ℕ) → transform-block-lts.Need-place-in-requires (transform-block-claims t) (transform-block-at t) transform-block.Post transform-block-Inv-loop transform-block-μ-loop
 transform-block-place-in-requires t c κs = tt
 
--- src/lib.rt:137:9
+-- src/lib.rt:138:9
 transform-block-inner-requires : (t : ℕ) → transform-block-lts.Need-inner-requires (transform-block-claims t) (transform-block-at t) transform-block.Post transform-block-Inv-loop transform-block-μ-loop
 transform-block-inner-requires t c κs =
     let start = c .before .before .before .before .before .before .before .before .before in
     block-there _ _ _ (start .pre .1 .1) .0
 
--- src/lib.rt:138:18
+-- src/lib.rt:139:18
 transform-block-sub-depth : (t : ℕ) → transform-block-lts.Need-sub-depth (transform-block-claims t) (transform-block-at t) transform-block.Post transform-block-Inv-loop transform-block-μ-loop
 transform-block-sub-depth t c =
     let at-inner = c .before in
@@ -229,11 +235,11 @@ transform-block-sub-depth t c =
     let el = ap (λ (x : Env). x .left) (at-inner .inner .ensures) in
     omega (arith, el, start .pre .1 .0 .depth)
 
--- src/lib.rt:138:17
+-- src/lib.rt:139:17
 transform-block-cast-depth : (t : ℕ) → transform-block-lts.Need-cast-depth (transform-block-claims t) (transform-block-at t) transform-block.Post transform-block-Inv-loop transform-block-μ-loop
 transform-block-cast-depth t c = omega arith
 
--- src/lib.rt:141:9
+-- src/lib.rt:142:9
 transform-block-head-requires : (t : ℕ) → transform-block-lts.Need-head-requires (transform-block-claims t) (transform-block-at t) transform-block.Post transform-block-Inv-loop transform-block-μ-loop
 transform-block-head-requires t c κs =
     let at-place-in = c .before .before .before in
@@ -243,7 +249,7 @@ transform-block-head-requires t c κs =
           (sym (at-place-in .place-in .ensures)) (block-there _ _ _ (start .pre .1 .1) .1),
     )
 
--- src/lib.rt:142:5
+-- src/lib.rt:143:5
 transform-block-loop-holds : (t : ℕ) → transform-block-lts.Need-loop-holds (transform-block-claims t) (transform-block-at t) transform-block.Post transform-block-Inv-loop transform-block-μ-loop
 transform-block-loop-holds t c =
     let at-head = c .before .before in
@@ -261,15 +267,15 @@ transform-block-loop-holds t c =
     (start .args .env .left) el there (block-bytes t at-shared-slice-known) _ _ (start .pre .1 .3) (start .pre .1 .4) _
     (at-head .head .ensures .is)
 
--- src/lib.rt:143:13
+-- src/lib.rt:144:13
 transform-block-mark-of-requires : (t : ℕ) → transform-block-lts.Need-mark-of-requires (transform-block-claims t) (transform-block-at t) transform-block.Post transform-block-Inv-loop transform-block-μ-loop
 transform-block-mark-of-requires t c κs = search needs
 
--- src/lib.rt:147:13
+-- src/lib.rt:148:13
 transform-block-scanning-requires : (t : ℕ) → transform-block-lts.Need-scanning-requires (transform-block-claims t) (transform-block-at t) transform-block.Post transform-block-Inv-loop transform-block-μ-loop
 transform-block-scanning-requires t c κs = search needs
 
--- src/lib.rt:144:13
+-- src/lib.rt:145:13
 transform-block-next-change-requires : (t : ℕ) → transform-block-lts.Need-next-change-requires (transform-block-claims t) (transform-block-at t) transform-block.Post transform-block-Inv-loop transform-block-μ-loop
 transform-block-next-change-requires t c κs =
     let at-scanning = c .before .before .before .before .before .before .before .before .before .before .before .before in
@@ -284,29 +290,30 @@ transform-block-next-change-requires t c κs =
     let ec = ap (λ (x : Env). x .cur) (at-inner .inner .ensures) in
     ask-next (start .args .s .now) (start .args .tb .now) (at-inner .inner .result) (at-place-in .place-in .result)
     (start .args .outer) (start .args .states) (start .args .rows .now) _ (start .args .errs .now) (start .args .warns .now) (start .args .lefts .now) (en .lent)
-    (en .depth) (en .width) (omega (arith, ec, start .pre .1 .2)) (at-loop .loop .inv) (at-mark-of .mark-of .result) (at-scanning .scanning .result)
+    (en .depth) (en .width) (omega (arith, ec, start .pre .1 .2))
+    (loop-few (en .near) (at-inner .inner .result .base) _ (start .args .outer) (en .sound .kept .small) (en .looped)) (at-loop .loop .inv) (at-mark-of .mark-of .result) (at-scanning .scanning .result)
     (at-scanning .scanning .ensures)
 
 transform-block-enum-told : (t : ℕ) → transform-block-lts.Need-enum-told (transform-block-claims t) (transform-block-at t) transform-block.Post transform-block-Inv-loop transform-block-μ-loop
 transform-block-enum-told t c = search needs
 
--- src/lib.rt:142:5
+-- src/lib.rt:143:5
 transform-block-loop-less : (t : ℕ) → transform-block-lts.Need-loop-less (transform-block-claims t) (transform-block-at t) transform-block.Post transform-block-Inv-loop transform-block-μ-loop
 transform-block-loop-less t c =
     let at-next-change = c .before .before .before .before .before .before .before .before .before .before .before in
     absurd (at-next-change .next-change .ensures .1 .2 (c .enum-told .given .1))
 
--- src/lib.rt:142:5
+-- src/lib.rt:143:5
 transform-block-loop-again : (t : ℕ) → transform-block-lts.Need-loop-again (transform-block-claims t) (transform-block-at t) transform-block.Post transform-block-Inv-loop transform-block-μ-loop
 transform-block-loop-again t c =
     let at-next-change = c .before .before .before .before .before .before .before .before .before .before .before in
     absurd (at-next-change .next-change .ensures .1 .2 (c .enum-told .given .1))
 
--- src/lib.rt:170:21
+-- src/lib.rt:171:21
 transform-block-enum-told-2 : (t : ℕ) → transform-block-lts.Need-enum-told-2 (transform-block-claims t) (transform-block-at t) transform-block.Post transform-block-Inv-loop transform-block-μ-loop
 transform-block-enum-told-2 t c = search needs
 
--- src/lib.rt:165:17
+-- src/lib.rt:166:17
 transform-block-end-block-requires : (t : ℕ) → transform-block-lts.Need-end-block-requires (transform-block-claims t) (transform-block-at t) transform-block.Post transform-block-Inv-loop transform-block-μ-loop
 transform-block-end-block-requires t c κs =
     let at-enum-told2 = c .before .before .before .before .before in
@@ -325,12 +332,13 @@ transform-block-end-block-requires t c κs =
       end-there (start .args .s .now) (start .args .tb .now)
           (block-bytes t at-shared-slice-known) (at-inner .inner .result) (start .args .env .left) low (start .pre .1 .0 .depth) el
           (at-place-in .place-in .result) (start .args .outer) (start .args .states) (start .args .rows .now) _ (start .args .errs .now) (start .args .warns .now)
-          (start .args .lefts .now) within there (start .args .out .now) (at-head .head .ensures .stored) h,
+          (start .args .lefts .now) within there (start .args .out .now) (at-head .head .ensures .stored) h (start .pre .1 .0 .near)
+          (loop-inner (start .args .env) (at-inner .inner .result) (start .args .outer) (start .pre .1 .0 .near) (at-inner .inner .ensures) (block-there _ _ _ (start .pre .1 .1) .0) (start .pre .1 .0 .depth) (start .pre .1 .0 .looped)),
       start .pre .1 .0 .sound .kept .small,
       at-loop .loop .inv .long .pl,
     )
 
--- src/lib.rt:177:17
+-- src/lib.rt:178:17
 transform-block-leave-requires : (t : ℕ) → transform-block-lts.Need-leave-requires (transform-block-claims t) (transform-block-at t) transform-block.Post transform-block-Inv-loop transform-block-μ-loop
 transform-block-leave-requires t c κs =
     let at-loop = c .before .before .before .before .before .before .before .before .before .before .before .before .before .before .before .before .before .before .before .before .before .before .before .before .before .before .before .before .before .before .before .before .before .before in
@@ -338,13 +346,13 @@ transform-block-leave-requires t c κs =
     let small = at-loop .loop .inv .owned .sound .kept .small in
     (at-loop .loop .inv .owned .sound .held, omega (arith, most, small), omega (arith, most, small))
 
--- src/lib.rt:177:17
+-- src/lib.rt:178:17
 transform-block-same-length : (t : ℕ) → transform-block-lts.Need-same-length (transform-block-claims t) (transform-block-at t) transform-block.Post transform-block-Inv-loop transform-block-μ-loop
 transform-block-same-length t c =
     let at-loop = c .before .before .before .before .before .before .before .before .before .before .before .before .before .before .before .before .before .before .before .before .before .before .before .before .before .before .before .before .before .before .before .before .before .before .before in
     at-loop .loop .inv .owned .below .room
 
--- src/lib.rt:177:17
+-- src/lib.rt:178:17
 transform-block-same-length-2 : (t : ℕ) → transform-block-lts.Need-same-length-2 (transform-block-claims t) (transform-block-at t) transform-block.Post transform-block-Inv-loop transform-block-μ-loop
 transform-block-same-length-2 t c =
     let at-end-block = c .before .before .before in
@@ -353,28 +361,28 @@ transform-block-same-length-2 t c =
     let at-head = at-loop .before .before .before in
     omega (arith, at-end-block .end-block .kept .1 .1 .1 .1 .1 .1 .1 .1 .0, at-next-change .next-change .kept .1 .1 .1 .1 .1 .1 .1 .1 .1 .1 .0, at-loop .loop .inv .long .out, at-head .head .kept .1 .1 .0)
 
--- src/lib.rt:177:17
+-- src/lib.rt:178:17
 transform-block-same-length-3 : (t : ℕ) → transform-block-lts.Need-same-length-3 (transform-block-claims t) (transform-block-at t) transform-block.Post transform-block-Inv-loop transform-block-μ-loop
 transform-block-same-length-3 t c =
     let at-next-change = c .before .before .before .before .before .before .before .before .before .before .before .before .before .before .before .before .before .before .before .before in
     let at-loop = at-next-change .before .before .before .before .before .before .before .before .before .before .before .before .before .before .before in
     omega (arith, at-next-change .next-change .kept .1 .1 .1 .1 .1 .1 .1 .1 .1 .1 .1 .0, at-loop .loop .inv .long .errs)
 
--- src/lib.rt:177:17
+-- src/lib.rt:178:17
 transform-block-same-length-4 : (t : ℕ) → transform-block-lts.Need-same-length-4 (transform-block-claims t) (transform-block-at t) transform-block.Post transform-block-Inv-loop transform-block-μ-loop
 transform-block-same-length-4 t c =
     let at-next-change = c .before .before .before .before .before .before .before .before .before .before .before .before .before .before .before .before .before .before .before .before in
     let at-loop = at-next-change .before .before .before .before .before .before .before .before .before .before .before .before .before .before .before in
     omega (arith, at-next-change .next-change .kept .1 .1 .1 .1 .1 .1 .1 .1 .1 .1 .1 .1 .0, at-loop .loop .inv .long .warns)
 
--- src/lib.rt:177:17
+-- src/lib.rt:178:17
 transform-block-same-length-5 : (t : ℕ) → transform-block-lts.Need-same-length-5 (transform-block-claims t) (transform-block-at t) transform-block.Post transform-block-Inv-loop transform-block-μ-loop
 transform-block-same-length-5 t c =
     let at-next-change = c .before .before .before .before .before .before .before .before .before .before .before .before .before .before .before .before .before .before .before .before in
     let at-loop = at-next-change .before .before .before .before .before .before .before .before .before .before .before .before .before .before .before in
     omega (arith, at-next-change .next-change .kept .1 .1 .1 .1 .1 .1 .1 .1 .1 .1 .1 .1 .1 .0, at-loop .loop .inv .long .lefts)
 
--- src/lib.rt:177:17
+-- src/lib.rt:178:17
 transform-block-returns : (t : ℕ) → transform-block-lts.Need-returns (transform-block-claims t) (transform-block-at t) transform-block.Post transform-block-Inv-loop transform-block-μ-loop
 transform-block-returns t c =
     let at-end-block = c .before .before .before in
@@ -409,11 +417,11 @@ transform-block-returns t c =
     let q = done-as _ _ (start .args .env) (at-inner .inner .result) _ _ _ _ _ _ _ _ _ _ _ _ _ (at-inner .inner .ensures) (at-place-in .place-in .ensures) d in
     ((q .comes, q .nodes), q .walks)
 
--- src/lib.rt:179:24
+-- src/lib.rt:180:24
 transform-block-enum-known-turn : (t : ℕ) → transform-block-lts.Need-enum-known-turn (transform-block-claims t) (transform-block-at t) transform-block.Post transform-block-Inv-loop transform-block-μ-loop
 transform-block-enum-known-turn t c = search needs
 
--- src/lib.rt:180:22
+-- src/lib.rt:181:22
 transform-block-mark-requires : (t : ℕ) → transform-block-lts.Need-mark-requires (transform-block-claims t) (transform-block-at t) transform-block.Post transform-block-Inv-loop transform-block-μ-loop
 transform-block-mark-requires t c κs =
     let at-turn = c .before .before .before .before in
@@ -422,14 +430,14 @@ transform-block-mark-requires t c κs =
     let h = turned-at t at-next-change (at-turn .turn .given .1) in
     (at-loop .loop .inv .owned .sound .held, at-loop .loop .inv .owned .sound .kept .small, h .fit .1)
 
--- src/lib.rt:142:5
+-- src/lib.rt:143:5
 transform-block-loop-less-2 : (t : ℕ) → transform-block-lts.Need-loop-less-2 (transform-block-claims t) (transform-block-at t) transform-block.Post transform-block-Inv-loop transform-block-μ-loop
 transform-block-loop-less-2 t c =
     let at-turn = c .before .before .before .before .before in
     let at-next-change = at-turn .before .before .before .before .before .before .before .before .before .before .before in
     at-next-change .next-change .ensures .1 .3 (λ z. mark-goes _ _ _ _ (sym (at-turn .turn .given .1) ∙ z))
 
--- src/lib.rt:142:5
+-- src/lib.rt:143:5
 transform-block-loop-again-2 : (t : ℕ) → transform-block-lts.Need-loop-again-2 (transform-block-claims t) (transform-block-at t) transform-block.Post transform-block-Inv-loop transform-block-μ-loop
 transform-block-loop-again-2 t c =
     let at-turn = c .before .before .before .before .before in
@@ -443,25 +451,25 @@ transform-block-loop-again-2 t c =
     (start .args .outer) (start .args .states) (start .args .rows .now) _ (start .args .errs .now) (start .args .warns .now) (start .args .lefts .now) _ _ _ _ h
     (c .mark .result) (c .mark .ensures .0) (c .mark .ensures .1 (at-loop .loop .l) refl refl refl)
 
--- src/lib.rt:182:28
+-- src/lib.rt:183:28
 transform-block-enum-known-turn-2 : (t : ℕ) → transform-block-lts.Need-enum-known-turn-2 (transform-block-claims t) (transform-block-at t) transform-block.Post transform-block-Inv-loop transform-block-μ-loop
 transform-block-enum-known-turn-2 t c = search needs
 
--- src/lib.rt:183:20
+-- src/lib.rt:184:20
 transform-block-full-requires : (t : ℕ) → transform-block-lts.Need-full-requires (transform-block-claims t) (transform-block-at t) transform-block.Post transform-block-Inv-loop transform-block-μ-loop
 transform-block-full-requires t c κs = tt
 
--- src/lib.rt:184:21
+-- src/lib.rt:185:21
 transform-block-element-write-pl : (t : ℕ) → transform-block-lts.Need-element-write-pl (transform-block-claims t) (transform-block-at t) transform-block.Post transform-block-Inv-loop transform-block-μ-loop
 transform-block-element-write-pl t c = search needs
 
--- src/lib.rt:185:21
+-- src/lib.rt:186:21
 transform-block-same-length-6 : (t : ℕ) → transform-block-lts.Need-same-length-6 (transform-block-claims t) (transform-block-at t) transform-block.Post transform-block-Inv-loop transform-block-μ-loop
 transform-block-same-length-6 t c =
     let at-loop = c .before .before .before .before .before .before .before .before .before .before .before .before .before .before .before .before .before .before .before .before .before .before .before .before .before .before .before .before .before in
     at-loop .loop .inv .owned .below .room
 
--- src/lib.rt:185:21
+-- src/lib.rt:186:21
 transform-block-same-length-7 : (t : ℕ) → transform-block-lts.Need-same-length-7 (transform-block-claims t) (transform-block-at t) transform-block.Post transform-block-Inv-loop transform-block-μ-loop
 transform-block-same-length-7 t c =
     let at-next-change = c .before .before .before .before .before .before .before .before .before .before .before .before .before .before in
@@ -469,28 +477,28 @@ transform-block-same-length-7 t c =
     let at-head = at-loop .before .before .before in
     omega (arith, at-next-change .next-change .kept .1 .1 .1 .1 .1 .1 .1 .1 .1 .1 .0, at-loop .loop .inv .long .out, at-head .head .kept .1 .1 .0)
 
--- src/lib.rt:185:21
+-- src/lib.rt:186:21
 transform-block-same-length-8 : (t : ℕ) → transform-block-lts.Need-same-length-8 (transform-block-claims t) (transform-block-at t) transform-block.Post transform-block-Inv-loop transform-block-μ-loop
 transform-block-same-length-8 t c =
     let at-next-change = c .before .before .before .before .before .before .before .before .before .before .before .before .before .before in
     let at-loop = at-next-change .before .before .before .before .before .before .before .before .before .before .before .before .before .before .before in
     omega (arith, at-next-change .next-change .kept .1 .1 .1 .1 .1 .1 .1 .1 .1 .1 .1 .0, at-loop .loop .inv .long .errs)
 
--- src/lib.rt:185:21
+-- src/lib.rt:186:21
 transform-block-same-length-9 : (t : ℕ) → transform-block-lts.Need-same-length-9 (transform-block-claims t) (transform-block-at t) transform-block.Post transform-block-Inv-loop transform-block-μ-loop
 transform-block-same-length-9 t c =
     let at-next-change = c .before .before .before .before .before .before .before .before .before .before .before .before .before .before in
     let at-loop = at-next-change .before .before .before .before .before .before .before .before .before .before .before .before .before .before .before in
     omega (arith, at-next-change .next-change .kept .1 .1 .1 .1 .1 .1 .1 .1 .1 .1 .1 .1 .0, at-loop .loop .inv .long .warns)
 
--- src/lib.rt:185:21
+-- src/lib.rt:186:21
 transform-block-same-length-10 : (t : ℕ) → transform-block-lts.Need-same-length-10 (transform-block-claims t) (transform-block-at t) transform-block.Post transform-block-Inv-loop transform-block-μ-loop
 transform-block-same-length-10 t c =
     let at-next-change = c .before .before .before .before .before .before .before .before .before .before .before .before .before .before in
     let at-loop = at-next-change .before .before .before .before .before .before .before .before .before .before .before .before .before .before .before in
     omega (arith, at-next-change .next-change .kept .1 .1 .1 .1 .1 .1 .1 .1 .1 .1 .1 .1 .1 .0, at-loop .loop .inv .long .lefts)
 
--- src/lib.rt:185:21
+-- src/lib.rt:186:21
 transform-block-returns-2 : (t : ℕ) → transform-block-lts.Need-returns-2 (transform-block-claims t) (transform-block-at t) transform-block.Post transform-block-Inv-loop transform-block-μ-loop
 transform-block-returns-2 t c =
     let at-full = c .before in
@@ -515,23 +523,23 @@ transform-block-returns-2 t c =
     (start .args .lefts .now) within there (start .args .out .now) (at-head .head .ensures .stored) _ (at-loop .loop .st) _
     (at-next-change .next-change .last .1 .1 .1 .1 .1 .1 .1 .1 .0) (set (at-loop .loop .pl) 8 12) _ (omega arith) (h .long .nodes) (told .room)
     (at-loop .loop .inv .owned .below) (λ z. absurd (omega arith)) (walkedIn (set (at-loop .loop .pl) 8 12) []) refl
-    (λ T sy reach. full (start .args .s .now) (start .args .tb .now) (at-inner .inner .result)
+    (λ T sy loop o reach. full (start .args .s .now) (start .args .tb .now) (at-inner .inner .result)
     (at-place-in .place-in .result) (start .args .outer) (start .args .states) (start .args .rows .now) _ (start .args .errs .now) (start .args .warns .now)
-    (start .args .lefts .now) _ _ h (omega (arith, at-full .full .ensures .0 (c .if1 .taken), start .pre .1 .0 .limit)) (walkedIn (set (at-loop .loop .pl) 8 12) []) f T sy) in
+    (start .args .lefts .now) _ _ h (omega (arith, at-full .full .ensures .0 (c .if1 .taken), start .pre .1 .0 .limit)) (walkedIn (set (at-loop .loop .pl) 8 12) []) f T sy loop o) in
     let q = done-as _ _ (start .args .env) (at-inner .inner .result) _ _ _ _ _ _ _ _ _ _ _ _ _ (at-inner .inner .ensures) (at-place-in .place-in .ensures) d in
     ((q .comes, q .nodes), q .walks)
 
--- src/lib.rt:191:53
+-- src/lib.rt:192:53
 transform-block-cast-auto-deleted : (t : ℕ) → transform-block-lts.Need-cast-auto-deleted (transform-block-claims t) (transform-block-at t) transform-block.Post transform-block-Inv-loop transform-block-μ-loop
 transform-block-cast-auto-deleted t c = search needs
 
--- src/lib.rt:191:21
+-- src/lib.rt:192:21
 transform-block-auto-deleted-requires : (t : ℕ) → transform-block-lts.Need-auto-deleted-requires (transform-block-claims t) (transform-block-at t) transform-block.Post transform-block-Inv-loop transform-block-μ-loop
 transform-block-auto-deleted-requires t c κs =
     let start = c .before .before .before .before .before .before .before .before .before .before .before .before .before .before .before .before .before .before .before .before .before .before .before .before .before .before .before .before .before .before .before .before .before .before .before .before .before .before .before .before .before .before .before .before .before in
     (start .pre .1 .0 .lent .filled .size, start .pre .1 .0 .lent .filled .fewTypes)
 
--- src/lib.rt:187:21
+-- src/lib.rt:188:21
 transform-block-register-local-requires : (t : ℕ) → transform-block-lts.Need-register-local-requires (transform-block-claims t) (transform-block-at t) transform-block.Post transform-block-Inv-loop transform-block-μ-loop
 transform-block-register-local-requires t c κs =
     let at-if1 = c .before in
@@ -540,25 +548,25 @@ transform-block-register-local-requires t c κs =
     let start = at-loop .before .before .before .before .before .before .before .before .before .before .before .before .before .before .before .before in
     (at-loop .loop .inv .owned .sound .kept, omega (arith, at-full .full .ensures .1 (at-if1 .if1 .left), start .pre .1 .0 .limit))
 
--- src/lib.rt:193:20
+-- src/lib.rt:194:20
 transform-block-needs-revival-requires : (t : ℕ) → transform-block-lts.Need-needs-revival-requires (transform-block-claims t) (transform-block-at t) transform-block.Post transform-block-Inv-loop transform-block-μ-loop
 transform-block-needs-revival-requires t c κs = search needs
 
--- src/lib.rt:194:26
+-- src/lib.rt:195:26
 transform-block-mark-requires-2 : (t : ℕ) → transform-block-lts.Need-mark-requires-2 (transform-block-claims t) (transform-block-at t) transform-block.Post transform-block-Inv-loop transform-block-μ-loop
 transform-block-mark-requires-2 t c κs =
     let at-register-local = c .before .before .before .before .before .before .before .before in
     let at-loop = at-register-local .before .before .before .before .before .before .before .before .before .before .before .before .before .before .before .before .before .before .before .before .before .before .before .before .before .before .before .before .before .before .before in
     (at-loop .loop .inv .owned .sound .held, at-register-local .register-local .ensures .kept .small, omega arith)
 
--- src/lib.rt:142:5
+-- src/lib.rt:143:5
 transform-block-loop-less-3 : (t : ℕ) → transform-block-lts.Need-loop-less-3 (transform-block-claims t) (transform-block-at t) transform-block.Post transform-block-Inv-loop transform-block-μ-loop
 transform-block-loop-less-3 t c =
     let at-turn2 = c .before .before .before .before .before .before .before .before .before .before .before .before .before .before in
     let at-next-change = at-turn2 .before .before .before .before .before .before .before .before .before .before .before in
     at-next-change .next-change .ensures .1 .3 (λ z. register-goes _ _ (sym (at-turn2 .turn2 .given .1) ∙ z))
 
--- src/lib.rt:142:5
+-- src/lib.rt:143:5
 transform-block-loop-again-3 : (t : ℕ) → transform-block-lts.Need-loop-again-3 (transform-block-claims t) (transform-block-at t) transform-block.Post transform-block-Inv-loop transform-block-μ-loop
 transform-block-loop-again-3 t c =
     let at-register-local = c .before .before .before .before .before .before .before .before .before in
@@ -577,14 +585,14 @@ transform-block-loop-again-3 t c =
     (at-register-local .register-local .ensures) (omega (arith, at-full .full .ensures .1 (at-if1 .if1 .left), start .pre .1 .0 .limit)) 0 (c .mark2 .result) (c .mark2 .ensures .0)
     (c .mark2 .ensures .1 (at-register-local .register-local .result) refl refl refl)
 
--- src/lib.rt:142:5
+-- src/lib.rt:143:5
 transform-block-loop-less-4 : (t : ℕ) → transform-block-lts.Need-loop-less-4 (transform-block-claims t) (transform-block-at t) transform-block.Post transform-block-Inv-loop transform-block-μ-loop
 transform-block-loop-less-4 t c =
     let at-turn2 = c .before .before .before .before .before .before .before .before .before .before in
     let at-next-change = at-turn2 .before .before .before .before .before .before .before .before .before .before .before in
     at-next-change .next-change .ensures .1 .3 (λ z. register-goes _ _ (sym (at-turn2 .turn2 .given .1) ∙ z))
 
--- src/lib.rt:142:5
+-- src/lib.rt:143:5
 transform-block-loop-again-4 : (t : ℕ) → transform-block-lts.Need-loop-again-4 (transform-block-claims t) (transform-block-at t) transform-block.Post transform-block-Inv-loop transform-block-μ-loop
 transform-block-loop-again-4 t c =
     let at-needs-revival = c .before in
@@ -605,17 +613,17 @@ transform-block-loop-again-4 t c =
     (at-register-local .register-local .ensures) (omega (arith, at-full .full .ensures .1 (at-if1 .if1 .left), start .pre .1 .0 .limit))
     (at-needs-revival .needs-revival .ensures (aliveAt (at-loop .loop .st)) (at-loop .loop .inv .owned .sound .held .word) (c .if2 .left))
 
--- src/lib.rt:197:26
+-- src/lib.rt:198:26
 transform-block-enum-known-turn-3 : (t : ℕ) → transform-block-lts.Need-enum-known-turn-3 (transform-block-claims t) (transform-block-at t) transform-block.Post transform-block-Inv-loop transform-block-μ-loop
 transform-block-enum-known-turn-3 t c = search needs
 
--- src/lib.rt:198:17
+-- src/lib.rt:199:17
 transform-block-put-place-requires : (t : ℕ) → transform-block-lts.Need-put-place-requires (transform-block-claims t) (transform-block-at t) transform-block.Post transform-block-Inv-loop transform-block-μ-loop
 transform-block-put-place-requires t c κs =
     let at-loop = c .before .before .before .before .before .before .before .before .before .before .before .before .before .before .before .before .before .before .before .before .before .before .before .before .before .before .before .before in
     at-loop .loop .inv .long .pl
 
--- src/lib.rt:199:22
+-- src/lib.rt:200:22
 transform-block-transform-blocks-requires : (t : ℕ) → transform-block-lts.Need-transform-blocks-requires (transform-block-claims t) (transform-block-at t) transform-block.Post transform-block-Inv-loop transform-block-μ-loop
 transform-block-transform-blocks-requires t c κs =
     let at-put-place = c .before .before .before .before .before .before .before in
@@ -635,7 +643,8 @@ transform-block-transform-blocks-requires t c κs =
       omega (arith, start .pre .0, el, low),
       (
         enters-blocks (start .args .s .now) (start .args .tb .now) (at-inner .inner .result) (at-place-in .place-in .result)
-            (start .args .outer) (start .args .states) (start .args .rows .now) _ (start .args .errs .now) (start .args .warns .now) (start .args .lefts .now) _ h en _
+            (start .args .outer) (start .args .states) (start .args .rows .now) _ (start .args .errs .now) (start .args .warns .now) (start .args .lefts .now) _ h en (start .pre .1 .0 .near)
+            (loop-inner (start .args .env) (at-inner .inner .result) (start .args .outer) (start .pre .1 .0 .near) (at-inner .inner .ensures) (block-there _ _ _ (start .pre .1 .1) .0) (start .pre .1 .0 .depth) (start .pre .1 .0 .looped)) _
             is,
         there-blocks (start .args .s .now) (start .args .tb .now) (at-inner .inner .result)
             (at-place-in .place-in .result) (start .args .outer) (start .args .states) (start .args .rows .now) _ (start .args .errs .now) (start .args .warns .now)
@@ -647,18 +656,18 @@ transform-block-transform-blocks-requires t c κs =
       ),
     )
 
--- src/lib.rt:214:24
+-- src/lib.rt:215:24
 transform-block-element-copy-out-if3 : (t : ℕ) → transform-block-lts.Need-element-copy-out-if3 (transform-block-claims t) (transform-block-at t) transform-block.Post transform-block-Inv-loop transform-block-μ-loop
 transform-block-element-copy-out-if3 t c = search needs
 
--- src/lib.rt:215:21
+-- src/lib.rt:216:21
 transform-block-same-length-11 : (t : ℕ) → transform-block-lts.Need-same-length-11 (transform-block-claims t) (transform-block-at t) transform-block.Post transform-block-Inv-loop transform-block-μ-loop
 transform-block-same-length-11 t c =
     let at-transform-blocks = c .before .before .before .before .before .before .before .before .before .before .before .before in
     let at-loop = at-transform-blocks .before .before .before .before .before .before .before .before .before .before .before .before .before .before .before .before .before .before .before .before .before .before .before .before .before .before .before .before .before .before .before .before .before .before .before .before .before in
     omega (arith, at-transform-blocks .transform-blocks .kept .1 .1 .1 .1 .1 .1 .0, at-loop .loop .inv .owned .below .room)
 
--- src/lib.rt:215:21
+-- src/lib.rt:216:21
 transform-block-same-length-12 : (t : ℕ) → transform-block-lts.Need-same-length-12 (transform-block-claims t) (transform-block-at t) transform-block.Post transform-block-Inv-loop transform-block-μ-loop
 transform-block-same-length-12 t c =
     let at-transform-blocks = c .before .before .before .before .before .before .before .before .before .before .before .before in
@@ -667,7 +676,7 @@ transform-block-same-length-12 t c =
     let at-head = at-loop .before .before .before in
     omega (arith, at-transform-blocks .transform-blocks .kept .1 .1 .1 .1 .1 .1 .1 .1 .0, at-next-change .next-change .kept .1 .1 .1 .1 .1 .1 .1 .1 .1 .1 .0, at-loop .loop .inv .long .out, at-head .head .kept .1 .1 .0)
 
--- src/lib.rt:215:21
+-- src/lib.rt:216:21
 transform-block-same-length-13 : (t : ℕ) → transform-block-lts.Need-same-length-13 (transform-block-claims t) (transform-block-at t) transform-block.Post transform-block-Inv-loop transform-block-μ-loop
 transform-block-same-length-13 t c =
     let at-transform-blocks = c .before .before .before .before .before .before .before .before .before .before .before .before in
@@ -675,7 +684,7 @@ transform-block-same-length-13 t c =
     let at-loop = at-next-change .before .before .before .before .before .before .before .before .before .before .before .before .before .before .before in
     omega (arith, at-transform-blocks .transform-blocks .kept .1 .1 .1 .1 .1 .1 .1 .1 .1 .0, at-next-change .next-change .kept .1 .1 .1 .1 .1 .1 .1 .1 .1 .1 .1 .0, at-loop .loop .inv .long .errs)
 
--- src/lib.rt:215:21
+-- src/lib.rt:216:21
 transform-block-same-length-14 : (t : ℕ) → transform-block-lts.Need-same-length-14 (transform-block-claims t) (transform-block-at t) transform-block.Post transform-block-Inv-loop transform-block-μ-loop
 transform-block-same-length-14 t c =
     let at-transform-blocks = c .before .before .before .before .before .before .before .before .before .before .before .before in
@@ -683,7 +692,7 @@ transform-block-same-length-14 t c =
     let at-loop = at-next-change .before .before .before .before .before .before .before .before .before .before .before .before .before .before .before in
     omega (arith, at-transform-blocks .transform-blocks .kept .1 .1 .1 .1 .1 .1 .1 .1 .1 .1 .0, at-next-change .next-change .kept .1 .1 .1 .1 .1 .1 .1 .1 .1 .1 .1 .1 .0, at-loop .loop .inv .long .warns)
 
--- src/lib.rt:215:21
+-- src/lib.rt:216:21
 transform-block-same-length-15 : (t : ℕ) → transform-block-lts.Need-same-length-15 (transform-block-claims t) (transform-block-at t) transform-block.Post transform-block-Inv-loop transform-block-μ-loop
 transform-block-same-length-15 t c =
     let at-transform-blocks = c .before .before .before .before .before .before .before .before .before .before .before .before in
@@ -691,7 +700,7 @@ transform-block-same-length-15 t c =
     let at-loop = at-next-change .before .before .before .before .before .before .before .before .before .before .before .before .before .before .before in
     omega (arith, at-transform-blocks .transform-blocks .kept .1 .1 .1 .1 .1 .1 .1 .1 .1 .1 .1 .0, at-next-change .next-change .kept .1 .1 .1 .1 .1 .1 .1 .1 .1 .1 .1 .1 .1 .0, at-loop .loop .inv .long .lefts)
 
--- src/lib.rt:215:21
+-- src/lib.rt:216:21
 transform-block-returns-3 : (t : ℕ) → transform-block-lts.Need-returns-3 (transform-block-claims t) (transform-block-at t) transform-block.Post transform-block-Inv-loop transform-block-μ-loop
 transform-block-returns-3 t c =
     let at-transform-blocks = c .before .before .before .before .before .before .before .before .before .before .before .before in
@@ -722,11 +731,11 @@ transform-block-returns-3 t c =
     let q = done-as _ _ (start .args .env) (at-inner .inner .result) _ _ _ _ _ _ _ _ _ _ _ _ _ (at-inner .inner .ensures) (at-place-in .place-in .ensures) d in
     ((q .comes, q .nodes), q .walks)
 
--- src/lib.rt:217:17
+-- src/lib.rt:218:17
 transform-block-resumed-requires : (t : ℕ) → transform-block-lts.Need-resumed-requires (transform-block-claims t) (transform-block-at t) transform-block.Post transform-block-Inv-loop transform-block-μ-loop
 transform-block-resumed-requires t c κs = tt
 
--- src/lib.rt:142:5
+-- src/lib.rt:143:5
 transform-block-loop-less-5 : (t : ℕ) → transform-block-lts.Need-loop-less-5 (transform-block-claims t) (transform-block-at t) transform-block.Post transform-block-Inv-loop transform-block-μ-loop
 transform-block-loop-less-5 t c =
     let at-if3 = c .before .before in
@@ -746,11 +755,12 @@ transform-block-loop-less-5 t c =
     let zero = no-fault (at-if3 .if3 .left) in
     less-behind (start .args .s .now) (start .args .tb .now) (at-inner .inner .result) (at-place-in .place-in .result)
     (start .args .outer) (start .args .states) (start .args .rows .now) _ (start .args .errs .now) (start .args .warns .now) (start .args .lefts .now) _ h _ is _
-    (b .0 .0) (b .1) (block-bytes t at-shared-slice-known) (start .args .env .left) el there _ (said _ _) zero
+    (b .0 .0) (b .1) (block-bytes t at-shared-slice-known) (start .args .env .left) el there _ (said _ _) (start .pre .1 .0 .near)
+    (loop-inner (start .args .env) (at-inner .inner .result) (start .args .outer) (start .pre .1 .0 .near) (at-inner .inner .ensures) (block-there _ _ _ (start .pre .1 .1) .0) (start .pre .1 .0 .depth) (start .pre .1 .0 .looped)) zero
     (at-transform-blocks .transform-blocks .last .1 .1 .1 .1 .1 .1 .1 .0) (b .0 .1) _
     (at-next-change .next-change .ensures .1 .3 (λ z. blocks-go _ (sym (at-turn3 .turn3 .given .1) ∙ z))) _ _ (c .resumed .ensures)
 
--- src/lib.rt:142:5
+-- src/lib.rt:143:5
 transform-block-loop-again-5 : (t : ℕ) → transform-block-lts.Need-loop-again-5 (transform-block-claims t) (transform-block-at t) transform-block.Post transform-block-Inv-loop transform-block-μ-loop
 transform-block-loop-again-5 t c =
     let at-if3 = c .before .before in
@@ -770,14 +780,15 @@ transform-block-loop-again-5 t c =
     let zero = no-fault (at-if3 .if3 .left) in
     standing-behind (start .args .s .now) (start .args .tb .now) (at-inner .inner .result) (at-place-in .place-in .result)
     (start .args .outer) (start .args .states) (start .args .rows .now) _ (start .args .errs .now) (start .args .warns .now) (start .args .lefts .now) _ h _ is _
-    (b .0 .0) (b .1) (block-bytes t at-shared-slice-known) (start .args .env .left) el there _ (said _ _) zero
+    (b .0 .0) (b .1) (block-bytes t at-shared-slice-known) (start .args .env .left) el there _ (said _ _) (start .pre .1 .0 .near)
+    (loop-inner (start .args .env) (at-inner .inner .result) (start .args .outer) (start .pre .1 .0 .near) (at-inner .inner .ensures) (block-there _ _ _ (start .pre .1 .1) .0) (start .pre .1 .0 .depth) (start .pre .1 .0 .looped)) zero
     (at-transform-blocks .transform-blocks .last .1 .1 .1 .1 .1 .1 .1 .0) (b .0 .1)
     (at-transform-blocks .transform-blocks .kept .1 .1 .1 .1 .1 .1 .1 .1 .0)
     (at-transform-blocks .transform-blocks .kept .1 .1 .1 .1 .1 .1 .1 .1 .1 .0)
     (at-transform-blocks .transform-blocks .kept .1 .1 .1 .1 .1 .1 .1 .1 .1 .1 .0)
     (at-transform-blocks .transform-blocks .kept .1 .1 .1 .1 .1 .1 .1 .1 .1 .1 .1 .0) _ refl _ (c .resumed .ensures)
 
--- src/lib.rt:82:9
+-- src/lib.rt:83:9
 transform-blocks-transform-block-requires : (t : ℕ) → transform-blocks-lts.Need-transform-block-requires (transform-blocks-claims t) (transform-blocks-at t) transform-blocks.Post
 transform-blocks-transform-block-requires t c κs =
     let at-shared-slice-known = c .before .before .before .before .before .before .before .before .before .before .before .before .before .before in
@@ -795,27 +806,27 @@ transform-blocks-transform-block-requires t c κs =
       ),
     )
 
--- src/lib.rt:82:9
+-- src/lib.rt:83:9
 transform-blocks-same-length : (t : ℕ) → transform-blocks-lts.Need-same-length (transform-blocks-claims t) (transform-blocks-at t) transform-blocks.Post
 transform-blocks-same-length t c = omega arith
 
--- src/lib.rt:82:9
+-- src/lib.rt:83:9
 transform-blocks-same-length-2 : (t : ℕ) → transform-blocks-lts.Need-same-length-2 (transform-blocks-claims t) (transform-blocks-at t) transform-blocks.Post
 transform-blocks-same-length-2 t c = omega arith
 
--- src/lib.rt:82:9
+-- src/lib.rt:83:9
 transform-blocks-same-length-3 : (t : ℕ) → transform-blocks-lts.Need-same-length-3 (transform-blocks-claims t) (transform-blocks-at t) transform-blocks.Post
 transform-blocks-same-length-3 t c = omega arith
 
--- src/lib.rt:82:9
+-- src/lib.rt:83:9
 transform-blocks-same-length-4 : (t : ℕ) → transform-blocks-lts.Need-same-length-4 (transform-blocks-claims t) (transform-blocks-at t) transform-blocks.Post
 transform-blocks-same-length-4 t c = omega arith
 
--- src/lib.rt:82:9
+-- src/lib.rt:83:9
 transform-blocks-same-length-5 : (t : ℕ) → transform-blocks-lts.Need-same-length-5 (transform-blocks-claims t) (transform-blocks-at t) transform-blocks.Post
 transform-blocks-same-length-5 t c = omega arith
 
--- src/lib.rt:82:9
+-- src/lib.rt:83:9
 transform-blocks-returns : (t : ℕ) → transform-blocks-lts.Need-returns (transform-blocks-claims t) (transform-blocks-at t) transform-blocks.Post
 transform-blocks-returns t c =
     let at-transform-block = c .before .before .before .before .before .before .before .before .before .before in
@@ -829,15 +840,14 @@ transform-blocks-returns t c =
             (start .args .rows .now) (start .args .pl .now) (start .pre .1 .0) (start .pre .1 .1) (start .pre .1 .3) (b .0 .0),
         b .0 .1,
       ),
-      λ T sy reach. record {
+      λ T sy loop o reach. record {
         ifs = λ e. absurd (omega (arith, at-if1 .if1 .taken));
         loops = λ e. absurd (omega (arith, at-if1 .if1 .taken));
-        others = λ x y. b .1 T sy
-            reach;
+        others = λ x y. b .1 T sy loop o reach;
       },
     )
 
--- src/lib.rt:85:9
+-- src/lib.rt:86:35
 transform-blocks-behind-requires : (t : ℕ) → transform-blocks-lts.Need-behind-requires (transform-blocks-claims t) (transform-blocks-at t) transform-blocks.Post
 transform-blocks-behind-requires t c κs =
     let at-shared-slice-known = c .before .before .before .before .before .before .before in
@@ -850,35 +860,41 @@ transform-blocks-behind-requires t c κs =
     )
 
 -- src/lib.rt:86:9
+transform-blocks-in-loop-requires : (t : ℕ) → transform-blocks-lts.Need-in-loop-requires (transform-blocks-claims t) (transform-blocks-at t) transform-blocks.Post
+transform-blocks-in-loop-requires t c κs = search needs
+
+-- src/lib.rt:87:9
 transform-blocks-branch-rows-requires : (t : ℕ) → transform-blocks-lts.Need-branch-rows-requires (transform-blocks-claims t) (transform-blocks-at t) transform-blocks.Post
 transform-blocks-branch-rows-requires t c κs =
-    let at-behind = c .before .before .before in
+    let at-in-loop = c .before .before .before in
+    let at-behind = at-in-loop .before in
     let at-shared-slice-known = at-behind .before .before .before .before .before .before .before .before in
     let start = at-shared-slice-known .before in
-    let is = moved-once (start .args .env) (at-behind .behind .result) (start .args .l .count) (at-behind .behind .ensures) in
-    copied-at (start .args .env) (at-behind .behind .result) _ is
+    let is = moved-once (start .args .env) (at-behind .behind .result) (at-in-loop .in-loop .result) (start .args .tag) (start .args .l .count) (at-behind .behind .ensures) (at-in-loop .in-loop .ensures) in
+    copied-at (start .args .env) (at-in-loop .in-loop .result) _ is
     (to-branch (start .args .s .now) (start .args .tb .now) (start .args .env) (start .args .l) (start .args .t6) _
     _ (start .pre .1 .0) _ (omega arith) (then-low (start .args .s .now) (start .args .tb .now)
     (blocks-bytes t at-shared-slice-known) (start .args .env) (start .args .tag) (start .args .l) (start .args .t6)
     (start .args .rows .now) (start .args .pl .now) (start .pre .1 .0) (start .pre .1 .1) (start .pre .1 .3) .0))
 
--- src/lib.rt:87:9
+-- src/lib.rt:88:9
 transform-blocks-element-write-pl : (t : ℕ) → transform-blocks-lts.Need-element-write-pl (transform-blocks-claims t) (transform-blocks-at t) transform-blocks.Post
 transform-blocks-element-write-pl t c = search needs
 
--- src/lib.rt:88:9
+-- src/lib.rt:89:9
 transform-blocks-same-length-6 : (t : ℕ) → transform-blocks-lts.Need-same-length-6 (transform-blocks-claims t) (transform-blocks-at t) transform-blocks.Post
 transform-blocks-same-length-6 t c = omega arith
 
--- src/lib.rt:88:9
+-- src/lib.rt:89:9
 transform-blocks-returns-2 : (t : ℕ) → transform-blocks-lts.Need-returns-2 (transform-blocks-claims t) (transform-blocks-at t) transform-blocks.Post
 transform-blocks-returns-2 t c =
     let at-branch-rows = c .before .before .before in
-    let at-behind = at-branch-rows .before .before .before .before in
+    let at-in-loop = at-branch-rows .before .before .before .before in
+    let at-behind = at-in-loop .before in
     let at-shared-slice-known = at-behind .before .before .before .before .before .before .before .before in
     let start = at-shared-slice-known .before in
-    let is = moved-once (start .args .env) (at-behind .behind .result) (start .args .l .count) (at-behind .behind .ensures) in
-    let c′ = copies-at (start .args .env) (at-behind .behind .result) _ is (at-branch-rows .branch-rows .ensures) in
+    let is = moved-once (start .args .env) (at-behind .behind .result) (at-in-loop .in-loop .result) (start .args .tag) (start .args .l .count) (at-behind .behind .ensures) (at-in-loop .in-loop .ensures) in
+    let c′ = copies-at (start .args .env) (at-in-loop .in-loop .result) _ is (at-branch-rows .branch-rows .ensures) in
     let told = fault-told (start .args .pl .now) (start .pre .1 .5) 254 in
     let f = told .fault in (
       (
@@ -892,23 +908,26 @@ transform-blocks-returns-2 t c =
             (start .args .t6) _ _ (start .pre .1 .0) _ c′ (not-true _ (c .if2 .taken)))),
         start .pre .1 .4,
       ),
-      λ T sy reach. absurd (reach f),
+      λ T sy loop o reach. absurd (reach f),
     )
 
--- src/lib.rt:90:9
+-- src/lib.rt:91:9
 transform-blocks-transform-block-requires-2 : (t : ℕ) → transform-blocks-lts.Need-transform-block-requires-2 (transform-blocks-claims t) (transform-blocks-at t) transform-blocks.Post
 transform-blocks-transform-block-requires-2 t c κs =
     let at-if2 = c .before .before .before .before .before .before .before in
     let at-branch-rows = at-if2 .before .before .before in
-    let at-behind = at-branch-rows .before .before .before .before in
+    let at-in-loop = at-branch-rows .before .before .before .before in
+    let at-behind = at-in-loop .before in
     let at-shared-slice-known = at-behind .before .before .before .before .before .before .before .before in
     let start = at-shared-slice-known .before in
-    let is = moved-once (start .args .env) (at-behind .behind .result) (start .args .l .count) (at-behind .behind .ensures) in
-    let c′ = copies-at (start .args .env) (at-behind .behind .result) _ is (at-branch-rows .branch-rows .ensures) in (
-      omega (arith, start .pre .0, left-same (start .args .env) (at-behind .behind .result) _ is),
-      block-asked (start .args .env) (at-behind .behind .result) _ is (start .args .nodes .now) (start .args .pl .now)
+    let is = moved-once (start .args .env) (at-behind .behind .result) (at-in-loop .in-loop .result) (start .args .tag) (start .args .l .count) (at-behind .behind .ensures) (at-in-loop .in-loop .ensures) in
+    let c′ = copies-at (start .args .env) (at-in-loop .in-loop .result) _ is (at-branch-rows .branch-rows .ensures) in (
+      omega (arith, start .pre .0, left-same (start .args .env) (at-in-loop .in-loop .result) _ is),
+      block-asked (start .args .env) (at-in-loop .in-loop .result) _ is (start .args .nodes .now) (start .args .pl .now)
           (branch-enters (start .args .s .now) (start .args .tb .now) (start .args .env) (start .args .l)
-          (start .args .t6) _ _ (start .pre .1 .0) _ c′ (not-false _ (at-if2 .if2 .left)) (at-behind .behind .result) is)
+          (start .args .t6) _ _ (start .pre .1 .0) _ c′ (not-false _ (at-if2 .if2 .left)) (at-in-loop .in-loop .result) is
+          (ownLoop (start .args .tag) (12 - start .args .env .left) (start .pre .1 .0 .near))
+          (loop-of (start .args .s .now) (start .args .tb .now) (start .args .env) (start .args .tag) (start .args .l) (start .args .t6) _ _ (start .pre .1 .0) (start .pre .1 .0 .near) (start .pre .1 .0 .looped)))
           (block-of (start .args .s .now) (start .args .tb .now)
           (blocks-bytes t at-shared-slice-known) (start .args .env) (start .args .tag) (start .args .l) (start .args .t6)
           (start .args .rows .now) (start .args .pl .now) (start .pre .1 .0) (start .pre .1 .1) (start .pre .1 .3))
@@ -917,36 +936,36 @@ transform-blocks-transform-block-requires-2 t c κs =
           (start .args .rows .now) (start .args .pl .now) (start .pre .1 .0) (start .pre .1 .1) (start .pre .1 .3) .1) (start .pre .1 .4) (start .pre .1 .5),
     )
 
--- src/lib.rt:91:12
+-- src/lib.rt:92:12
 transform-blocks-element-copy-out-if3 : (t : ℕ) → transform-blocks-lts.Need-element-copy-out-if3 (transform-blocks-claims t) (transform-blocks-at t) transform-blocks.Post
 transform-blocks-element-copy-out-if3 t c = search needs
 
--- src/lib.rt:92:9
+-- src/lib.rt:93:9
 transform-blocks-same-length-7 : (t : ℕ) → transform-blocks-lts.Need-same-length-7 (transform-blocks-claims t) (transform-blocks-at t) transform-blocks.Post
 transform-blocks-same-length-7 t c = omega arith
 
--- src/lib.rt:92:9
+-- src/lib.rt:93:9
 transform-blocks-same-length-8 : (t : ℕ) → transform-blocks-lts.Need-same-length-8 (transform-blocks-claims t) (transform-blocks-at t) transform-blocks.Post
 transform-blocks-same-length-8 t c = omega arith
 
--- src/lib.rt:92:9
+-- src/lib.rt:93:9
 transform-blocks-same-length-9 : (t : ℕ) → transform-blocks-lts.Need-same-length-9 (transform-blocks-claims t) (transform-blocks-at t) transform-blocks.Post
 transform-blocks-same-length-9 t c = omega arith
 
--- src/lib.rt:92:9
+-- src/lib.rt:93:9
 transform-blocks-same-length-10 : (t : ℕ) → transform-blocks-lts.Need-same-length-10 (transform-blocks-claims t) (transform-blocks-at t) transform-blocks.Post
 transform-blocks-same-length-10 t c = omega arith
 
--- src/lib.rt:92:9
+-- src/lib.rt:93:9
 transform-blocks-same-length-11 : (t : ℕ) → transform-blocks-lts.Need-same-length-11 (transform-blocks-claims t) (transform-blocks-at t) transform-blocks.Post
 transform-blocks-same-length-11 t c = omega arith
 
--- src/lib.rt:92:9
+-- src/lib.rt:93:9
 transform-blocks-returns-3 : (t : ℕ) → transform-blocks-lts.Need-returns-3 (transform-blocks-claims t) (transform-blocks-at t) transform-blocks.Post
 transform-blocks-returns-3 t c =
     let at-transform-block2 = c .before .before .before .before .before .before .before .before .before .before .before .before in
     let at-if2 = at-transform-block2 .before .before .before .before .before .before .before .before in
-    let at-if1 = at-if2 .before .before .before .before .before .before .before .before in
+    let at-if1 = at-if2 .before .before .before .before .before .before .before .before .before in
     let at-shared-slice-known = at-if1 .before .before .before .before .before .before .before in
     let start = at-shared-slice-known .before in
     let c′ = first-copies t at-transform-block2 in
@@ -965,18 +984,18 @@ transform-blocks-returns-3 t c =
             come),
         at-transform-block2 .transform-block2 .ensures .0 .1,
       ),
-      λ T sy reach. then-fault (start .args .s .now) (start .args .tb .now)
+      λ T sy loop o reach. then-fault (start .args .s .now) (start .args .tb .now)
           (blocks-bytes t at-shared-slice-known) (start .args .env) (start .args .tag) (start .args .l) (start .args .t6)
-          (start .args .rows .now) (start .args .pl .now) (start .pre .1 .0) (start .pre .1 .1) (start .pre .1 .3) c′ yes come T _ _ (walks T sy reach)
+          (start .args .rows .now) (start .args .pl .now) (start .pre .1 .0) (start .pre .1 .1) (start .pre .1 .3) c′ yes come T loop _ _ (walks T sy loop o reach)
           (c .if3 .taken) which,
     )
 
--- src/lib.rt:94:8
+-- src/lib.rt:95:8
 transform-blocks-then-over-requires : (t : ℕ) → transform-blocks-lts.Need-then-over-requires (transform-blocks-claims t) (transform-blocks-at t) transform-blocks.Post
 transform-blocks-then-over-requires t c κs =
     let at-if3 = c .before .before in
     let at-transform-block2 = at-if3 .before .before .before .before .before .before .before .before .before .before .before .before in
-    let at-if1 = at-transform-block2 .before .before .before .before .before .before .before .before .before .before .before .before .before .before .before .before in
+    let at-if1 = at-transform-block2 .before .before .before .before .before .before .before .before .before .before .before .before .before .before .before .before .before in
     let start = at-if1 .before .before .before .before .before .before .before .before in
     let come = first-comes t at-transform-block2 in
     let which = tag-of (start .args .tag) (start .pre .1 .2) (at-if1 .if1 .left) in
@@ -986,7 +1005,7 @@ transform-blocks-then-over-requires t c κs =
       come .room,
     )
 
--- src/lib.rt:95:9
+-- src/lib.rt:96:9
 transform-blocks-transform-else-requires : (t : ℕ) → transform-blocks-lts.Need-transform-else-requires (transform-blocks-claims t) (transform-blocks-at t) transform-blocks.Post
 transform-blocks-transform-else-requires t c κs =
     let at-if4 = c .before .before .before .before .before .before .before in
@@ -994,7 +1013,7 @@ transform-blocks-transform-else-requires t c κs =
     let at-if3 = at-then-over .before .before .before in
     let at-transform-block2 = at-if3 .before .before .before .before .before .before .before .before .before .before .before .before in
     let at-if2 = at-transform-block2 .before .before .before .before .before .before .before .before in
-    let at-if1 = at-if2 .before .before .before .before .before .before .before .before in
+    let at-if1 = at-if2 .before .before .before .before .before .before .before .before .before in
     let at-shared-slice-known = at-if1 .before .before .before .before .before .before .before in
     let start = at-shared-slice-known .before in
     let c′ = first-copies t at-transform-block2 in
@@ -1036,7 +1055,7 @@ transform-blocks-transform-else-requires t c κs =
       ),
     )
 
--- src/lib.rt:95:9
+-- src/lib.rt:96:9
 transform-blocks-same-length-12 : (t : ℕ) → transform-blocks-lts.Need-same-length-12 (transform-blocks-claims t) (transform-blocks-at t) transform-blocks.Post
 transform-blocks-same-length-12 t c =
     let at-transform-else = c .before .before .before .before .before .before .before .before .before .before in
@@ -1044,7 +1063,7 @@ transform-blocks-same-length-12 t c =
     let at-branch-rows = at-transform-block2 .before .before .before .before .before .before .before .before .before .before .before in
     omega (arith, at-transform-else .transform-else .kept .1 .1 .1 .1 .1 .1 .0, at-transform-block2 .transform-block2 .kept .1 .1 .1 .1 .1 .0, at-branch-rows .branch-rows .kept .1 .1 .0)
 
--- src/lib.rt:95:9
+-- src/lib.rt:96:9
 transform-blocks-same-length-13 : (t : ℕ) → transform-blocks-lts.Need-same-length-13 (transform-blocks-claims t) (transform-blocks-at t) transform-blocks.Post
 transform-blocks-same-length-13 t c =
     let at-transform-else = c .before .before .before .before .before .before .before .before .before .before in
@@ -1052,28 +1071,28 @@ transform-blocks-same-length-13 t c =
     let at-transform-block2 = at-then-over .before .before .before .before .before .before .before .before .before .before .before .before .before .before .before in
     omega (arith, at-transform-else .transform-else .kept .1 .1 .1 .1 .1 .1 .1 .1 .0, at-then-over .then-over .kept .1 .1 .0, at-transform-block2 .transform-block2 .kept .1 .1 .1 .1 .1 .1 .1 .0)
 
--- src/lib.rt:95:9
+-- src/lib.rt:96:9
 transform-blocks-same-length-14 : (t : ℕ) → transform-blocks-lts.Need-same-length-14 (transform-blocks-claims t) (transform-blocks-at t) transform-blocks.Post
 transform-blocks-same-length-14 t c =
     let at-transform-else = c .before .before .before .before .before .before .before .before .before .before in
     let at-transform-block2 = at-transform-else .before .before .before .before .before .before .before .before .before .before .before .before .before .before .before .before .before .before .before .before .before .before .before .before .before .before in
     omega (arith, at-transform-else .transform-else .kept .1 .1 .1 .1 .1 .1 .1 .1 .1 .0, at-transform-block2 .transform-block2 .kept .1 .1 .1 .1 .1 .1 .1 .1 .0)
 
--- src/lib.rt:95:9
+-- src/lib.rt:96:9
 transform-blocks-same-length-15 : (t : ℕ) → transform-blocks-lts.Need-same-length-15 (transform-blocks-claims t) (transform-blocks-at t) transform-blocks.Post
 transform-blocks-same-length-15 t c =
     let at-transform-else = c .before .before .before .before .before .before .before .before .before .before in
     let at-transform-block2 = at-transform-else .before .before .before .before .before .before .before .before .before .before .before .before .before .before .before .before .before .before .before .before .before .before .before .before .before .before in
     omega (arith, at-transform-else .transform-else .kept .1 .1 .1 .1 .1 .1 .1 .1 .1 .1 .0, at-transform-block2 .transform-block2 .kept .1 .1 .1 .1 .1 .1 .1 .1 .1 .0)
 
--- src/lib.rt:95:9
+-- src/lib.rt:96:9
 transform-blocks-same-length-16 : (t : ℕ) → transform-blocks-lts.Need-same-length-16 (transform-blocks-claims t) (transform-blocks-at t) transform-blocks.Post
 transform-blocks-same-length-16 t c =
     let at-transform-else = c .before .before .before .before .before .before .before .before .before .before in
     let at-transform-block2 = at-transform-else .before .before .before .before .before .before .before .before .before .before .before .before .before .before .before .before .before .before .before .before .before .before .before .before .before .before in
     omega (arith, at-transform-else .transform-else .kept .1 .1 .1 .1 .1 .1 .1 .1 .1 .1 .1 .0, at-transform-block2 .transform-block2 .kept .1 .1 .1 .1 .1 .1 .1 .1 .1 .1 .0)
 
--- src/lib.rt:95:9
+-- src/lib.rt:96:9
 transform-blocks-returns-4 : (t : ℕ) → transform-blocks-lts.Need-returns-4 (transform-blocks-claims t) (transform-blocks-at t) transform-blocks.Post
 transform-blocks-returns-4 t c =
     let at-transform-else = c .before .before .before .before .before .before .before .before .before .before in
@@ -1082,7 +1101,7 @@ transform-blocks-returns-4 t c =
     let at-if3 = at-then-over .before .before .before in
     let at-transform-block2 = at-if3 .before .before .before .before .before .before .before .before .before .before .before .before in
     let at-if2 = at-transform-block2 .before .before .before .before .before .before .before .before in
-    let at-if1 = at-if2 .before .before .before .before .before .before .before .before in
+    let at-if1 = at-if2 .before .before .before .before .before .before .before .before .before in
     let at-shared-slice-known = at-if1 .before .before .before .before .before .before .before in
     let start = at-shared-slice-known .before in
     let c′ = first-copies t at-transform-block2 in
@@ -1105,24 +1124,24 @@ transform-blocks-returns-4 t c =
             (at-transform-else .transform-else .ensures .0 .0),
         at-transform-else .transform-else .ensures .0 .1,
       ),
-      λ T sy reach. else-walks-to (start .args .s .now) (start .args .tb .now)
+      λ T sy loop o reach. else-walks-to (start .args .s .now) (start .args .tb .now)
           (blocks-bytes t at-shared-slice-known) (start .args .env) (start .args .tag) (start .args .l) (start .args .t6)
           (start .args .rows .now) (start .args .pl .now) (start .pre .1 .0) (start .pre .1 .1) (start .pre .1 .3) c′ yes come zero
           (at-transform-block2 .transform-block2 .last .1 .1 .1 .1 .1 .1 .1 .0) (at-then-over .then-over .last .1 .1 .0)
           (at-then-over .then-over .last .1 .1 .1 .0) (at-then-over .then-over .result) (at-transform-block2 .transform-block2 .last .1 .1 .1 .1 .1 .1 .1 .1 .0)
           (at-transform-block2 .transform-block2 .last .1 .1 .1 .1 .1 .1 .1 .1 .1 .0)
-          (at-transform-block2 .transform-block2 .last .1 .1 .1 .1 .1 .1 .1 .1 .1 .1 .0) f there (at-if4 .if4 .taken) T _ _ seven (walks T sy (reaches zero)) _
-          (at-transform-else .transform-else .ensures .1 T sy reach),
+          (at-transform-block2 .transform-block2 .last .1 .1 .1 .1 .1 .1 .1 .1 .1 .1 .0) f there (at-if4 .if4 .taken) T loop _ _ seven (walks T sy loop o (reaches zero)) _
+          (at-transform-else .transform-else .ensures .1 T sy loop o reach),
     )
 
--- src/lib.rt:111:5
+-- src/lib.rt:112:5
 transform-blocks-merge-first-requires : (t : ℕ) → transform-blocks-lts.Need-merge-first-requires (transform-blocks-claims t) (transform-blocks-at t) transform-blocks.Post
 transform-blocks-merge-first-requires t c κs =
     let at-then-over = c .before .before .before .before .before in
     let at-if3 = at-then-over .before .before .before in
     let at-transform-block2 = at-if3 .before .before .before .before .before .before .before .before .before .before .before .before in
     let at-if2 = at-transform-block2 .before .before .before .before .before .before .before .before in
-    let at-if1 = at-if2 .before .before .before .before .before .before .before .before in
+    let at-if1 = at-if2 .before .before .before .before .before .before .before .before .before in
     let at-shared-slice-known = at-if1 .before .before .before .before .before .before .before in
     let start = at-shared-slice-known .before in
     let c′ = first-copies t at-transform-block2 in
@@ -1145,7 +1164,7 @@ transform-blocks-merge-first-requires t c κs =
       told .1,
     )
 
--- src/lib.rt:59:1
+-- src/lib.rt:60:1
 transform-blocks-same-length-17 : (t : ℕ) → transform-blocks-lts.Need-same-length-17 (transform-blocks-claims t) (transform-blocks-at t) transform-blocks.Post
 transform-blocks-same-length-17 t c =
     let at-merge-first = c .before .before in
@@ -1153,23 +1172,23 @@ transform-blocks-same-length-17 t c =
     let at-branch-rows = at-transform-block2 .before .before .before .before .before .before .before .before .before .before .before in
     omega (arith, at-merge-first .merge-first .kept .1 .1 .1 .0, at-transform-block2 .transform-block2 .kept .1 .1 .1 .1 .1 .0, at-branch-rows .branch-rows .kept .1 .1 .0)
 
--- src/lib.rt:59:1
+-- src/lib.rt:60:1
 transform-blocks-same-length-18 : (t : ℕ) → transform-blocks-lts.Need-same-length-18 (transform-blocks-claims t) (transform-blocks-at t) transform-blocks.Post
 transform-blocks-same-length-18 t c = omega arith
 
--- src/lib.rt:59:1
+-- src/lib.rt:60:1
 transform-blocks-same-length-19 : (t : ℕ) → transform-blocks-lts.Need-same-length-19 (transform-blocks-claims t) (transform-blocks-at t) transform-blocks.Post
 transform-blocks-same-length-19 t c = omega arith
 
--- src/lib.rt:59:1
+-- src/lib.rt:60:1
 transform-blocks-same-length-20 : (t : ℕ) → transform-blocks-lts.Need-same-length-20 (transform-blocks-claims t) (transform-blocks-at t) transform-blocks.Post
 transform-blocks-same-length-20 t c = omega arith
 
--- src/lib.rt:59:1
+-- src/lib.rt:60:1
 transform-blocks-same-length-21 : (t : ℕ) → transform-blocks-lts.Need-same-length-21 (transform-blocks-claims t) (transform-blocks-at t) transform-blocks.Post
 transform-blocks-same-length-21 t c = omega arith
 
--- src/lib.rt:59:1
+-- src/lib.rt:60:1
 transform-blocks-returns-5 : (t : ℕ) → transform-blocks-lts.Need-returns-5 (transform-blocks-claims t) (transform-blocks-at t) transform-blocks.Post
 transform-blocks-returns-5 t c =
     let at-merge-first = c .before .before in
@@ -1178,7 +1197,7 @@ transform-blocks-returns-5 t c =
     let at-if3 = at-then-over .before .before .before in
     let at-transform-block2 = at-if3 .before .before .before .before .before .before .before .before .before .before .before .before in
     let at-if2 = at-transform-block2 .before .before .before .before .before .before .before .before in
-    let at-if1 = at-if2 .before .before .before .before .before .before .before .before in
+    let at-if1 = at-if2 .before .before .before .before .before .before .before .before .before in
     let at-shared-slice-known = at-if1 .before .before .before .before .before .before .before in
     let start = at-shared-slice-known .before in
     let c′ = first-copies t at-transform-block2 in
@@ -1213,14 +1232,14 @@ transform-blocks-returns-5 t c =
             (there .inside)),
         at-transform-block2 .transform-block2 .ensures .0 .1,
       ),
-      λ T sy reach. without-if (start .args .s .now) (start .args .tb .now)
+      λ T sy loop o reach. without-if (start .args .s .now) (start .args .tb .now)
           (blocks-bytes t at-shared-slice-known) (start .args .env) (start .args .tag) (start .args .l) (start .args .t6)
           (start .args .rows .now) (start .args .pl .now) (start .pre .1 .0) (start .pre .1 .1) (start .pre .1 .3) c′ yes come zero
           (at-transform-block2 .transform-block2 .last .1 .1 .1 .1 .1 .1 .1 .0) (at-then-over .then-over .last .1 .1 .0)
           (at-then-over .then-over .last .1 .1 .1 .0) (at-then-over .then-over .result)
           (at-transform-block2 .transform-block2 .last .1 .1 .1 .1 .1 .1 .1 .1 .0)
           (at-transform-block2 .transform-block2 .last .1 .1 .1 .1 .1 .1 .1 .1 .1 .0)
-          (at-transform-block2 .transform-block2 .last .1 .1 .1 .1 .1 .1 .1 .1 .1 .1 .0) g f refl off q T _ (walks T sy (reaches zero)) reach,
+          (at-transform-block2 .transform-block2 .last .1 .1 .1 .1 .1 .1 .1 .1 .1 .1 .0) g f refl off q T loop _ (walks T sy loop o (reaches zero)) reach,
     ))
     (λ (q : start .args .tag ≡ 8).
     let f = at-then-over .then-over .ensures .0 q in (
@@ -1243,35 +1262,35 @@ transform-blocks-returns-5 t c =
             (at-transform-block2 .transform-block2 .last .1 .1 .1 .1 .1 .1 .1 .1 .1 .1 .0) f),
         at-transform-block2 .transform-block2 .ensures .0 .1,
       ),
-      λ T sy reach. without-loop (start .args .s .now) (start .args .tb .now)
+      λ T sy loop o reach. without-loop (start .args .s .now) (start .args .tb .now)
           (blocks-bytes t at-shared-slice-known) (start .args .env) (start .args .tag) (start .args .l) (start .args .t6)
           (start .args .rows .now) (start .args .pl .now) (start .pre .1 .0) (start .pre .1 .1) (start .pre .1 .3) c′ yes come zero
           (at-transform-block2 .transform-block2 .last .1 .1 .1 .1 .1 .1 .1 .0) (at-then-over .then-over .last .1 .1 .0)
           (at-then-over .then-over .last .1 .1 .1 .0) (at-then-over .then-over .result)
           (at-transform-block2 .transform-block2 .last .1 .1 .1 .1 .1 .1 .1 .1 .0)
           (at-transform-block2 .transform-block2 .last .1 .1 .1 .1 .1 .1 .1 .1 .1 .0)
-          (at-transform-block2 .transform-block2 .last .1 .1 .1 .1 .1 .1 .1 .1 .1 .1 .0) g f refl q T _ (walks T sy (reaches zero)) reach,
+          (at-transform-block2 .transform-block2 .last .1 .1 .1 .1 .1 .1 .1 .1 .1 .1 .0) g f refl q T loop _ (walks T sy loop o (reaches zero)) reach,
     ))
     which
 
--- src/lib.rt:48:16
+-- src/lib.rt:49:16
 transform-else-element-copy-out-sure : (t : ℕ) → transform-else-lts.Need-element-copy-out-sure (transform-else-claims t) (transform-else-at t) transform-else.Post
 transform-else-element-copy-out-sure t c = search needs
 
--- src/lib.rt:49:34
+-- src/lib.rt:50:34
 transform-else-behind-requires : (t : ℕ) → transform-else-lts.Need-behind-requires (transform-else-claims t) (transform-else-at t) transform-else.Post
 transform-else-behind-requires t c κs =
     let start = c .before .before .before .before .before .before .before .before in
     (start .pre .1 .0 .sound .kept .small, start .pre .1 .0 .width, omega (arith, start .pre .1 .2))
 
--- src/lib.rt:49:9
+-- src/lib.rt:50:9
 transform-else-behind-requires-2 : (t : ℕ) → transform-else-lts.Need-behind-requires-2 (transform-else-claims t) (transform-else-at t) transform-else.Post
 transform-else-behind-requires-2 t c κs =
     let start = c .before .before .before .before .before .before .before .before .before in
     behind-asked (start .args .s .now) (start .args .tb .now) (start .args .env) (start .args .l) (start .args .t6) _ _
     (start .pre .1 .0) (start .pre .1 .2) _ (c .behind .ensures)
 
--- src/lib.rt:50:9
+-- src/lib.rt:51:9
 transform-else-branch-rows-requires : (t : ℕ) → transform-else-lts.Need-branch-rows-requires (transform-else-claims t) (transform-else-at t) transform-else.Post
 transform-else-branch-rows-requires t c κs =
     let at-behind2 = c .before .before .before in
@@ -1285,15 +1304,15 @@ transform-else-branch-rows-requires t c κs =
     (to-branch (start .args .s .now) (start .args .tb .now) (start .args .env) (start .args .l) (start .args .t6) _
     _ (start .pre .1 .0) _ (low .2) (low .0))
 
--- src/lib.rt:51:9
+-- src/lib.rt:52:9
 transform-else-element-write-pl : (t : ℕ) → transform-else-lts.Need-element-write-pl (transform-else-claims t) (transform-else-at t) transform-else.Post
 transform-else-element-write-pl t c = search needs
 
--- src/lib.rt:52:9
+-- src/lib.rt:53:9
 transform-else-same-length : (t : ℕ) → transform-else-lts.Need-same-length (transform-else-claims t) (transform-else-at t) transform-else.Post
 transform-else-same-length t c = omega arith
 
--- src/lib.rt:52:9
+-- src/lib.rt:53:9
 transform-else-returns : (t : ℕ) → transform-else-lts.Need-returns (transform-else-claims t) (transform-else-at t) transform-else.Post
 transform-else-returns t c =
     let at-branch-rows = c .before .before .before in
@@ -1318,10 +1337,10 @@ transform-else-returns t c =
             (start .args .l) (start .args .t6) _ _ (start .pre .1 .0) _ c′ (not-true _ (c .if1 .taken)))),
         start .pre .1 .4,
       ),
-      λ T sy reach. absurd (reach f),
+      λ T sy loop o reach. absurd (reach f),
     )
 
--- src/lib.rt:54:9
+-- src/lib.rt:55:9
 transform-else-transform-block-requires : (t : ℕ) → transform-else-lts.Need-transform-block-requires (transform-else-claims t) (transform-else-at t) transform-else.Post
 transform-else-transform-block-requires t c κs =
     let at-if1 = c .before .before .before .before .before .before .before in
@@ -1337,11 +1356,11 @@ transform-else-transform-block-requires t c κs =
       omega (arith, start .pre .0, left-same (start .args .env) (at-behind2 .behind2 .result) _ is),
       block-asked (start .args .env) (at-behind2 .behind2 .result) _ is (start .args .nodes .now) (start .args .pl .now)
           (branch-enters (start .args .s .now) (start .args .tb .now) (start .args .env) (start .args .l)
-          (start .args .t6) _ _ (start .pre .1 .0) _ c′ (not-false _ (at-if1 .if1 .left)) (at-behind2 .behind2 .result) is) (start .pre .1 .1) (low .1)
+          (start .args .t6) _ _ (start .pre .1 .0) _ c′ (not-false _ (at-if1 .if1 .left)) (at-behind2 .behind2 .result) is (start .pre .1 .0 .near) (start .pre .1 .0 .looped)) (start .pre .1 .1) (low .1)
           (start .pre .1 .4) (start .pre .1 .5),
     )
 
--- src/lib.rt:55:5
+-- src/lib.rt:56:5
 transform-else-merge-else-requires : (t : ℕ) → transform-else-lts.Need-merge-else-requires (transform-else-claims t) (transform-else-at t) transform-else.Post
 transform-else-merge-else-requires t c κs =
     let at-transform-block = c .before .before .before .before .before .before .before .before .before .before .before .before in
@@ -1361,7 +1380,7 @@ transform-else-merge-else-requires t c κs =
       come .room,
     )
 
--- src/lib.rt:25:1
+-- src/lib.rt:26:1
 transform-else-same-length-2 : (t : ℕ) → transform-else-lts.Need-same-length-2 (transform-else-claims t) (transform-else-at t) transform-else.Post
 transform-else-same-length-2 t c =
     let at-merge-else = c .before .before in
@@ -1369,23 +1388,23 @@ transform-else-same-length-2 t c =
     let at-branch-rows = at-transform-block .before .before .before .before .before .before .before .before .before .before .before in
     omega (arith, at-merge-else .merge-else .kept .1 .1 .1 .1 .1 .0, at-transform-block .transform-block .kept .1 .1 .1 .1 .1 .0, at-branch-rows .branch-rows .kept .1 .1 .0)
 
--- src/lib.rt:25:1
+-- src/lib.rt:26:1
 transform-else-same-length-3 : (t : ℕ) → transform-else-lts.Need-same-length-3 (transform-else-claims t) (transform-else-at t) transform-else.Post
 transform-else-same-length-3 t c = omega arith
 
--- src/lib.rt:25:1
+-- src/lib.rt:26:1
 transform-else-same-length-4 : (t : ℕ) → transform-else-lts.Need-same-length-4 (transform-else-claims t) (transform-else-at t) transform-else.Post
 transform-else-same-length-4 t c = omega arith
 
--- src/lib.rt:25:1
+-- src/lib.rt:26:1
 transform-else-same-length-5 : (t : ℕ) → transform-else-lts.Need-same-length-5 (transform-else-claims t) (transform-else-at t) transform-else.Post
 transform-else-same-length-5 t c = omega arith
 
--- src/lib.rt:25:1
+-- src/lib.rt:26:1
 transform-else-same-length-6 : (t : ℕ) → transform-else-lts.Need-same-length-6 (transform-else-claims t) (transform-else-at t) transform-else.Post
 transform-else-same-length-6 t c = omega arith
 
--- src/lib.rt:25:1
+-- src/lib.rt:26:1
 transform-else-returns-2 : (t : ℕ) → transform-else-lts.Need-returns-2 (transform-else-claims t) (transform-else-at t) transform-else.Post
 transform-else-returns-2 t c =
     let at-merge-else = c .before .before in
@@ -1410,8 +1429,8 @@ transform-else-returns-2 t c =
             (start .args .first) (start .args .rows .now) (start .args .pl .now) (start .pre .1 .0) (start .pre .1 .1) (start .pre .1 .2) (start .pre .1 .3) c′ yes come g,
         at-transform-block .transform-block .ensures .0 .1,
       ),
-      λ T sy reach. else-merged (start .args .s .now) (start .args .tb .now) (start .args .env) (start .args .l) (start .args .t6)
-          (start .args .first) (start .args .rows .now) (start .args .pl .now) (start .pre .1 .0) (start .pre .1 .1) (start .pre .1 .2) (start .pre .1 .3) c′ yes come T _ _ g (walks T sy) reach,
+      λ T sy loop o reach. else-merged (start .args .s .now) (start .args .tb .now) (start .args .env) (start .args .l) (start .args .t6)
+          (start .args .first) (start .args .rows .now) (start .args .pl .now) (start .pre .1 .0) (start .pre .1 .1) (start .pre .1 .2) (start .pre .1 .3) c′ yes come T loop _ _ g (walks T sy loop o) reach,
     )
 
 pub +transform-block+transform-blocks+transform-else-spec : {M : Type 1} → statement M
@@ -1484,6 +1503,7 @@ pub +transform-block+transform-blocks+transform-else-spec : {M : Type 1} → sta
     (transform-blocks-same-length-5 t)
     (transform-blocks-returns t)
     (transform-blocks-behind-requires t)
+    (transform-blocks-in-loop-requires t)
     (transform-blocks-branch-rows-requires t)
     (transform-blocks-element-write-pl t)
     (transform-blocks-same-length-6 t)

@@ -16,35 +16,35 @@ use Rattle.expressions_effects.proofs.span_at.Reads as span-at-reads
 use Rattle.image_fields.proofs.two_at.Reads as two-at-reads
 use Rattle.image_writing.proofs.put_two.Reads as put-two-reads
 
--- src/lib.rt:258:41
+-- src/lib.rt:262:41
 add-two-at : tie.Need-add-two-at
 add-two-at c = search needs
 
--- src/lib.rt:258:9
+-- src/lib.rt:262:9
 two-at-requires : tie.Need-two-at-requires
 two-at-requires c κs = search needs
 
--- src/lib.rt:259:34
+-- src/lib.rt:263:34
 sub-ends-in-return : tie.Need-sub-ends-in-return
 sub-ends-in-return c = search needs
 
--- src/lib.rt:259:9
+-- src/lib.rt:263:9
 ends-in-return-requires : tie.Need-ends-in-return-requires
 ends-in-return-requires c κs = (c .before .before .before .before .pre .0 .within .small, λ h. c .before .before .before .before .pre .0 .last (omega (arith, h, c .two-at .ensures .0)))
 
--- src/lib.rt:260:9
+-- src/lib.rt:264:9
 span-at-requires : tie.Need-span-at-requires
 span-at-requires c κs = search needs
 
--- src/lib.rt:261:9
+-- src/lib.rt:265:9
 put-tail-requires : tie.Need-put-tail-requires
 put-tail-requires c κs = search needs
 
--- src/lib.rt:262:17
+-- src/lib.rt:266:17
 add-count : tie.Need-add-count
 add-count c = search needs
 
--- src/lib.rt:262:17
+-- src/lib.rt:266:17
 add-count-2 : tie.Need-add-count-2
 add-count-2 c =
     let at-put-tail = c .before .before .before .before in
@@ -55,41 +55,41 @@ add-count-2 c =
     let few = at-put-tail .put-tail .ensures .1 in
     omega (arith, h .inserted, h .inside, h .small)
 
--- src/lib.rt:263:33
+-- src/lib.rt:267:33
 add-put-two : tie.Need-add-put-two
 add-put-two c =
     let start = c .before .before .before .before .before .before .before .before .before .before .before .before .before .before in
     omega (arith, start .pre .0 .gap)
 
--- src/lib.rt:263:52
+-- src/lib.rt:267:52
 cast-put-two : tie.Need-cast-put-two
 cast-put-two c = search needs
 
--- src/lib.rt:263:5
+-- src/lib.rt:267:5
 put-two-requires : tie.Need-put-two-requires
 put-two-requires c κs =
     let start = c .before .before .before .before .before .before .before .before .before .before .before .before .before .before in
     omega (arith, start .pre .0 .gap)
 
--- src/lib.rt:264:9
+-- src/lib.rt:268:9
 fitting-requires : tie.Need-fitting-requires
 fitting-requires c κs = search needs
 
--- src/lib.rt:265:19
+-- src/lib.rt:269:19
 ended-requires : tie.Need-ended-requires
 ended-requires c κs = search needs
 
--- src/lib.rt:265:5
+-- src/lib.rt:269:5
 put-place-requires : tie.Need-put-place-requires
 put-place-requires c κs =
     let start = c .before .before .before .before .before .before .before .before .before .before .before .before .before .before .before .before .before .before .before .before in
     start .pre .2
 
--- src/lib.rt:239:1
+-- src/lib.rt:243:1
 same-length : tie.Need-same-length
 same-length c = search needs
 
--- src/lib.rt:239:1
+-- src/lib.rt:243:1
 returns : tie.Need-returns
 returns c =
     let at-put-two = c .before .before .before .before .before .before in

@@ -12,29 +12,29 @@ use Rattle.blocks_merge.proofs.copy_back.Reads as copy-back-reads
 use Rattle.blocks_merge.proofs.join_fault.Reads as join-fault-reads
 use Rattle.scope_rows.proofs.join.Reads as join-reads
 
--- src/lib.rt:74:9
+-- src/lib.rt:91:9
 behind-requires : tie.Need-behind-requires
 behind-requires c κs = search needs
 
--- src/lib.rt:77:13
+-- src/lib.rt:94:13
 returns : tie.Need-returns
 returns c =
     let a = c .before .before .before .before .args in
     let h = c .before .before .before .before .pre in
     merges-base (a .n) (a .base) (a .t4) (a .t5) (a .rows .now) (a .env .cur) (a .env .width) (a .b) (a .pl .now) h (a .then-returns) (a .else-returns) (c .before .if1 .taken) (c .if2 .taken)
 
--- src/lib.rt:79:9
+-- src/lib.rt:96:9
 copy-back-requires : tie.Need-copy-back-requires
 copy-back-requires c κs =
     let a = c .before .before .before .before .before .before .before .args in
     let h = c .before .before .before .before .before .before .before .pre in
     copies-other (a .n) (a .base) (a .t4) (a .t5) (a .rows .now) (a .env .cur) (a .env .width) (a .b) (a .pl .now) h
 
--- src/lib.rt:80:9
+-- src/lib.rt:97:9
 same-length : tie.Need-same-length
 same-length c = search needs
 
--- src/lib.rt:80:9
+-- src/lib.rt:97:9
 returns-2 : tie.Need-returns-2
 returns-2 c =
     let at-if2 = c .before .before .before .before .before .before in
@@ -46,7 +46,7 @@ returns-2 c =
     merges-other (a .n) (a .base) (a .t4) (a .t5) (a .rows .now) (a .env .cur) (a .env .width) (a .b) (a .pl .now) h (a .then-returns) (a .else-returns)
     (at-if1 .if1 .taken) (at-if2 .if2 .left) _ g
 
--- src/lib.rt:83:9
+-- src/lib.rt:100:9
 copy-back-requires-2 : tie.Need-copy-back-requires-2
 copy-back-requires-2 c κs =
     let a = c .before .before .before .before .before .before .before .args in
@@ -54,11 +54,11 @@ copy-back-requires-2 c κs =
     let e = ap (λ (x : Env). x .cur) (c .before .before .before .before .before .behind .ensures) in
     copies-first (a .n) (a .base) (a .t4) (a .t5) (a .rows .now) (a .env .cur) (a .env .width) (a .b) (a .pl .now) h (a .t4) _ _ e (first-rowed (a .n) (a .base) (a .t4) (a .t5) (a .rows .now) (a .env .cur) (a .env .width) (a .b) (a .pl .now) h _ e)
 
--- src/lib.rt:84:9
+-- src/lib.rt:101:9
 same-length-2 : tie.Need-same-length-2
 same-length-2 c = search needs
 
--- src/lib.rt:84:9
+-- src/lib.rt:101:9
 returns-3 : tie.Need-returns-3
 returns-3 c =
     let at-if3 = c .before .before .before .before .before .before in
@@ -72,22 +72,22 @@ returns-3 c =
     merges-first (a .n) (a .base) (a .t4) (a .t5) (a .rows .now) (a .env .cur) (a .env .width) (a .b) (a .pl .now) h (a .then-returns) (a .else-returns)
     (at-if1 .if1 .left) (at-if3 .if3 .taken) _ _ e g
 
--- src/lib.rt:87:13
+-- src/lib.rt:104:13
 join-requires : tie.Need-join-requires
 join-requires c κs =
     let a = c .before .before .before .before .before .before .args in
     let h = c .before .before .before .before .before .before .pre in
     apart (a .n) (a .base) (a .t4) (a .t5) (a .rows .now) (a .env .cur) (a .env .width) (a .b) (a .pl .now) h _ (ap (λ (x : Env). x .cur) (c .before .before .before .before .behind .ensures))
 
--- src/lib.rt:88:13
+-- src/lib.rt:105:13
 join-fault-requires : tie.Need-join-fault-requires
 join-fault-requires c κs = search needs
 
--- src/lib.rt:88:5
+-- src/lib.rt:105:5
 element-write-pl : tie.Need-element-write-pl
 element-write-pl c = search needs
 
--- src/lib.rt:90:9
+-- src/lib.rt:107:9
 copy-back-requires-3 : tie.Need-copy-back-requires-3
 copy-back-requires-3 c κs =
     let at-join = c .before .before .before .before .before .before .before in
@@ -98,11 +98,11 @@ copy-back-requires-3 c κs =
     let e = ap (λ (x : Env). x .cur) (at-behind .behind .ensures) in
     copies-first (a .n) (a .base) (a .t4) (a .t5) (a .rows .now) (a .env .cur) (a .env .width) (a .b) (a .pl .now) h _ _ _ e (at-join .join .ensures .rowed (c .before .before .before .if4 .taken))
 
--- src/lib.rt:59:1
+-- src/lib.rt:76:1
 same-length-3 : tie.Need-same-length-3
 same-length-3 c = search needs
 
--- src/lib.rt:59:1
+-- src/lib.rt:76:1
 returns-4 : tie.Need-returns-4
 returns-4 c =
     let at-if4 = c .before .before .before .before .before .before in
@@ -121,11 +121,11 @@ returns-4 c =
     (at-if1 .if1 .left) (at-if3 .if3 .left)
     (at-if4 .if4 .taken) _ (c .before .before .copy-back3 .ensures)
 
--- src/lib.rt:59:1
+-- src/lib.rt:76:1
 same-length-4 : tie.Need-same-length-4
 same-length-4 c = search needs
 
--- src/lib.rt:59:1
+-- src/lib.rt:76:1
 returns-5 : tie.Need-returns-5
 returns-5 c =
     let at-join = c .before .before .before .before in

@@ -6,62 +6,62 @@ use Rattle.ownership_pass.proofs.ownership_pass.Reads as reads
 use Rattle.ownership_pass.proofs.ownership_pass.Lts as lts
 use Rattle.ownership_pass.proofs.pass.Reads as pass-reads
 
--- src/lib.rt:94:11
+-- src/lib.rt:95:11
 pass-requires : tie.Need-pass-requires
 pass-requires c κs = search needs
 
--- src/lib.rt:95:26
+-- src/lib.rt:96:26
 enum-known-fault : tie.Need-enum-known-fault
 enum-known-fault c = search needs
 
--- src/lib.rt:95:36
+-- src/lib.rt:96:36
 cast-result : tie.Need-cast-result
 cast-result c = search needs
 
--- src/lib.rt:96:27
+-- src/lib.rt:97:27
 enum-known-t : tie.Need-enum-known-t
 enum-known-t c = search needs
 
--- src/lib.rt:83:1
+-- src/lib.rt:84:1
 same-length : tie.Need-same-length
 same-length c = search needs
 
--- src/lib.rt:83:1
+-- src/lib.rt:84:1
 same-length-2 : tie.Need-same-length-2
 same-length-2 c = search needs
 
--- src/lib.rt:83:1
+-- src/lib.rt:84:1
 same-length-3 : tie.Need-same-length-3
 same-length-3 c = search needs
 
--- src/lib.rt:83:1
+-- src/lib.rt:84:1
 same-length-4 : tie.Need-same-length-4
 same-length-4 c = search needs
 
--- src/lib.rt:83:1
+-- src/lib.rt:84:1
 returns : tie.Need-returns
 returns c =
     let at-pass = c .before .before .before .before .before .before .before .before .before .before .before in
     let start = at-pass .before .before .before .before .before .before .before .before .before .before in
     leaves-refused (start .args .image .now) _ _ (at-pass .pass .result) (at-pass .pass .ensures) _ (start .args .totals .now) (c .before .fault .given .1)
 
--- src/lib.rt:83:1
+-- src/lib.rt:84:1
 same-length-5 : tie.Need-same-length-5
 same-length-5 c = search needs
 
--- src/lib.rt:83:1
+-- src/lib.rt:84:1
 same-length-6 : tie.Need-same-length-6
 same-length-6 c = search needs
 
--- src/lib.rt:83:1
+-- src/lib.rt:84:1
 same-length-7 : tie.Need-same-length-7
 same-length-7 c = search needs
 
--- src/lib.rt:83:1
+-- src/lib.rt:84:1
 same-length-8 : tie.Need-same-length-8
 same-length-8 c = search needs
 
--- src/lib.rt:83:1
+-- src/lib.rt:84:1
 returns-2 : tie.Need-returns-2
 returns-2 c =
     let at-pass = c .before .before .before .before .before .before .before .before .before .before .before .before in

@@ -9,35 +9,35 @@ use Rattle.entries_page.proofs.page_verdict.Reads as page-verdict-reads
 use Rattle.image.proofs.read_image.Reads as read-image-reads
 use Rattle.ownership_pass.proofs.first_env.Reads as first-env-reads
 
--- src/lib.rt:74:37
+-- src/lib.rt:75:37
 slice-aggregate-read-image : tie.Need-slice-aggregate-read-image
 slice-aggregate-read-image c = search needs
 
--- src/lib.rt:74:9
+-- src/lib.rt:75:9
 read-image-requires : tie.Need-read-image-requires
 read-image-requires c κs = search needs
 
--- src/lib.rt:77:9
+-- src/lib.rt:78:9
 returns : tie.Need-returns
 returns c = page-unread (c .before .before .before .before .before .before .args .s .now) _ (c .before .before .read-image .result .fault) (c .before .before .read-image .ensures .fault) (c .if1 .taken)
 
--- src/lib.rt:79:35
+-- src/lib.rt:80:35
 slice-aggregate-page-verdict : tie.Need-slice-aggregate-page-verdict
 slice-aggregate-page-verdict c = search needs
 
--- src/lib.rt:79:40
+-- src/lib.rt:80:40
 first-env-requires : tie.Need-first-env-requires
 first-env-requires c κs = search needs
 
--- src/lib.rt:79:5
+-- src/lib.rt:80:5
 page-verdict-requires : tie.Need-page-verdict-requires
 page-verdict-requires c κs = image-there (c .before .before .before .before .before .before .before .before .before .args .s .now) _ (c .before .before .before .before .before .read-image .result) (c .before .before .before .before .before .read-image .ensures) (λ z. omega (arith, z, c .before .before .before .if1 .left)) (c .before .first-env .result) (c .before .first-env .ensures)
 
--- src/lib.rt:70:1
+-- src/lib.rt:71:1
 same-length : tie.Need-same-length
 same-length c = search needs
 
--- src/lib.rt:70:1
+-- src/lib.rt:71:1
 returns-2 : tie.Need-returns-2
 returns-2 c = search needs
 

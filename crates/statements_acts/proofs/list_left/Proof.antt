@@ -31,44 +31,44 @@ Inv-loop names mark span paged out₀ lefts₀ n text m₀ at₀ out lefts m at 
 abbrev μ-loop : tie.MeasureT-loop
 μ-loop names mark span paged out₀ lefts₀ n text m₀ at₀ out lefts m at = ones 64 m
 
--- src/lib.rt:503:5
+-- src/lib.rt:504:5
 begin-lefts-requires : tie.Need-begin-lefts-requires Inv-loop μ-loop
 unfolding blanks
 begin-lefts-requires c κs = refl
 
--- src/lib.rt:506:5
+-- src/lib.rt:507:5
 loop-holds : tie.Need-loop-holds Inv-loop μ-loop
 loop-holds c = (refl, refl, paired-none _ _ (c .before .before .before .before .fits .mark .fits), λ T tys depths g k e. listing-all T _ tys depths g _ _ k _ _ _ _ e)
 
--- src/lib.rt:507:13
+-- src/lib.rt:508:13
 newest-requires : tie.Need-newest-requires Inv-loop μ-loop
 newest-requires c κs = search needs
 
--- src/lib.rt:508:66
+-- src/lib.rt:509:66
 mul-number : tie.Need-mul-number Inv-loop μ-loop
 mul-number c = omega (arith, c .before .before .before .newest .ensures .0 .small)
 
--- src/lib.rt:508:66
+-- src/lib.rt:509:66
 element-copy-out-number : tie.Need-element-copy-out-number Inv-loop μ-loop
 element-copy-out-number c = c .before .before .before .newest .ensures .0 .small
 
--- src/lib.rt:508:59
+-- src/lib.rt:509:59
 number-requires : tie.Need-number-requires Inv-loop μ-loop
 number-requires c κs = search needs
 
--- src/lib.rt:508:9
+-- src/lib.rt:509:9
 put-left-requires : tie.Need-put-left-requires Inv-loop μ-loop
 put-left-requires c κs = (omega (arith, paired-one _ _ _ _ (c .before .before .before .before .before .before .before .loop .inv .2) (c .before .before .before .before .before .newest .ensures .0), c .before .before .before .before .before .before .before .before .before .before .before .before .pre), λ e. c .before .before .before .before .before .before .before .before .begin-lefts .ensures e)
 
--- src/lib.rt:509:9
+-- src/lib.rt:510:9
 without-requires : tie.Need-without-requires Inv-loop μ-loop
 without-requires c κs = (c .before .before .before .before .before .before .before .before .before .before .newest .ensures .0 .small, c .before .before .before .before .before .before .before .before .before .before .newest .ensures .0 .low)
 
--- src/lib.rt:506:5
+-- src/lib.rt:507:5
 loop-less : tie.Need-loop-less Inv-loop μ-loop
 loop-less c = rw (c .without .ensures) (ones-less _ _ (c .before .before .before .before .before .before .before .before .before .before .before .newest .ensures .0))
 
--- src/lib.rt:506:5
+-- src/lib.rt:507:5
 loop-again : tie.Need-loop-again Inv-loop μ-loop
 loop-again c =
     let i = c .before .before .before .before .before .before .before .before .before .before .before .before .before .loop .inv in
@@ -80,15 +80,15 @@ loop-again c =
       λ T tys depths g k e. listing-put T _ tys depths g _ _ k _ _ _ _ _ _ _ (i .3 T tys depths g k e) _ (c .before .before .before .before .before .before .before .before .before .before .before .newest .ensures .1) (c .before .before .before .before .before .before .number .ensures) (put .ensures .0),
     )
 
--- src/lib.rt:489:1
+-- src/lib.rt:490:1
 same-length : tie.Need-same-length Inv-loop μ-loop
 same-length c = c .before .loop .inv .0
 
--- src/lib.rt:489:1
+-- src/lib.rt:490:1
 same-length-2 : tie.Need-same-length-2 Inv-loop μ-loop
 same-length-2 c = c .before .loop .inv .1
 
--- src/lib.rt:489:1
+-- src/lib.rt:490:1
 returns : tie.Need-returns Inv-loop μ-loop
 returns c = (omega (arith, c .before .loop .inv .2 .room), λ T tys depths g k e. listing-none T _ tys depths g _ _ k _ _ _ _ _ _ _ (c .before .loop .inv .3 T tys depths g k e) (c .loop-test .left))
 

@@ -12,35 +12,35 @@ use Rattle.statements_acts.proofs.behind.Reads as behind-reads
 use Rattle.statements_acts.proofs.consumed_compiler_temp_from_value.Reads as consumed-compiler-temp-from-value-reads
 use Rattle.statements_acts.proofs.nothing_put.Reads as nothing-put-reads
 
--- src/lib.rt:367:27
+-- src/lib.rt:368:27
 add-name-at : tie.Need-add-name-at
 add-name-at c = search needs
 
--- src/lib.rt:367:9
+-- src/lib.rt:368:9
 name-at-requires : tie.Need-name-at-requires
 name-at-requires c κs = search needs
 
--- src/lib.rt:368:25
+-- src/lib.rt:369:25
 add-name-at-2 : tie.Need-add-name-at-2
 add-name-at-2 c = search needs
 
--- src/lib.rt:368:9
+-- src/lib.rt:369:9
 name-at-requires-2 : tie.Need-name-at-requires-2
 name-at-requires-2 c κs = search needs
 
--- src/lib.rt:369:17
+-- src/lib.rt:370:17
 add-value : tie.Need-add-value
 add-value c = search needs
 
--- src/lib.rt:370:9
+-- src/lib.rt:371:9
 consumed-compiler-temp-from-value-requires : tie.Need-consumed-compiler-temp-from-value-requires
 consumed-compiler-temp-from-value-requires c κs = search needs
 
--- src/lib.rt:371:30
+-- src/lib.rt:372:30
 nothing-put-requires : tie.Need-nothing-put-requires
 nothing-put-requires c κs = search needs
 
--- src/lib.rt:371:9
+-- src/lib.rt:372:9
 behind-requires : tie.Need-behind-requires
 behind-requires c κs =
     let at-shared-slice-known = c .before .before .before .before .before .before .before .before .before .before in
@@ -52,11 +52,11 @@ behind-requires c κs =
     let r = variable-reach (a .s .now) b (a .p) (a .end) (start .pre .3) (start .pre .4) (start .pre .5) in
     (omega arith, r .1, w .0, omega arith, omega arith)
 
--- src/lib.rt:350:1
+-- src/lib.rt:351:1
 same-length : tie.Need-same-length
 same-length c = search needs
 
--- src/lib.rt:350:1
+-- src/lib.rt:351:1
 returns : tie.Need-returns
 returns c =
     let at-nothing-put = c .before .before .before .before in
