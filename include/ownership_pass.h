@@ -38,7 +38,8 @@ extern "C" {
 /* The numbers of one entry of each list, and of totals. Lists are lent as numbers: room for n errors is an errors_len of 12 * n. */
 #define OWNERSHIP_ERROR_NUMBERS 12  /* kind 1 to 8, place, hint, count of other places, 8 other places (unused ones 0) */
 #define OWNERSHIP_WARNING_NUMBERS 2 /* the statement's span, the byte offset of the callee's tag in the submitted image */
-#define OWNERSHIP_LEFT_NUMBERS 2    /* the span of the return, break or continue, the local's name */
+#define OWNERSHIP_LEFT_NUMBERS 3    /* the span of the return, break or continue, the local's name, the span of the Let or Const that
+                                     * registered it (0: a parameter or `this`) */
 #define OWNERSHIP_TOTALS 4          /* bytes written, errors, warnings, left-behind entries */
 
 /* Gives back the body with the deletes inserted, as a whole image, and what is reported, each list in order. On 0 the first bytes of

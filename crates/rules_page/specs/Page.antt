@@ -65,7 +65,7 @@ lines h (a ∷ b ∷ c ∷ d ∷ ps) = line h (a ∷ b ∷ c ∷ []) ∷ lines (
 unfoldable pub entry : Report → List (List ℕ)
 entry (error k p h ps) = lines (head (kindName k) p) ps
 entry (warning s o) = lines (head (bytes "unused result") s) (o ∷ [])
-entry (left s n) = lines (head (bytes "left behind") s) (n ∷ [])
+entry (left s n b) = lines (head (bytes "left behind") s) (n ∷ b ∷ [])
 
 -- errors, warnings and left-behind entries, each in walking order
 unfoldable pub pageLines : List Report → List (List ℕ)

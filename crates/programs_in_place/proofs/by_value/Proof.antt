@@ -78,7 +78,7 @@ done-requires-5 c κs = marked-whole _ _ _ _ (c .mark-by-value5 .ensures) (c .be
 
 -- src/main.rt:103:1
 returns : tie.Need-returns
-returns c = registered-whole _ _ _ _ _ _ _ (c .before .before .before .before .pre) (c .register-by-value .ensures)
+returns c = registered-whole _ _ _ _ _ _ _ _ (c .before .before .before .before .pre) (c .register-by-value .ensures)
 
 -- src/main.rt:103:1
 returns-2 : tie.Need-returns-2

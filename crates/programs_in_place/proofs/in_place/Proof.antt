@@ -78,7 +78,7 @@ done-requires-5 c κs = marked-whole _ _ _ _ (c .mark5 .ensures) (c .before .bef
 
 -- src/main.rt:117:1
 returns : tie.Need-returns
-returns c = registered-whole _ _ _ _ _ _ _ (c .before .before .before .before .pre) (c .register-local .ensures)
+returns c = registered-whole _ _ _ _ _ _ _ _ (c .before .before .before .before .pre) (c .register-local .ensures)
 
 -- src/main.rt:117:1
 returns-2 : tie.Need-returns-2

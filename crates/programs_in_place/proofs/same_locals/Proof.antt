@@ -76,6 +76,21 @@ returns-5 : tie.Need-returns-5 Inv-loop μ-loop
 returns-5 c = search needs
 
 -- src/main.rt:179:9
+mul-if6 : tie.Need-mul-if6 Inv-loop μ-loop
+mul-if6 c = search needs
+
+element-copy-out-if6 : tie.Need-element-copy-out-if6 Inv-loop μ-loop
+element-copy-out-if6 c = search needs
+
+mul-if6-2 : tie.Need-mul-if6-2 Inv-loop μ-loop
+mul-if6-2 c = search needs
+
+element-copy-out-if6-2 : tie.Need-element-copy-out-if6-2 Inv-loop μ-loop
+element-copy-out-if6-2 c = search needs
+
+returns-6 : tie.Need-returns-6 Inv-loop μ-loop
+returns-6 c = search needs
+
 add-i : tie.Need-add-i Inv-loop μ-loop
 add-i c = search needs
 
@@ -88,8 +103,8 @@ loop-again : tie.Need-loop-again Inv-loop μ-loop
 loop-again c = search needs
 
 -- src/main.rt:161:1
-returns-6 : tie.Need-returns-6 Inv-loop μ-loop
-returns-6 c = search needs
+returns-7 : tie.Need-returns-7 Inv-loop μ-loop
+returns-7 c = search needs
 
 pub same-locals-spec : {M : Type 1} → statement M
 same-locals-spec =
@@ -113,7 +128,12 @@ same-locals-spec =
     element-copy-out-if5
     element-copy-out-if5-2
     returns-5
+    mul-if6
+    element-copy-out-if6
+    mul-if6-2
+    element-copy-out-if6-2
+    returns-6
     add-i
     loop-less
     loop-again
-    returns-6)
+    returns-7)

@@ -86,8 +86,8 @@ returns c =
     let b : Bytes (a .s .now) = λ k. omega (arith, at-shared-slice-known .shared-slice-known .given k) in
     let put = at-pre-delete-before-assign .pre-delete-before-assign in
     let w = at-behind .behind in (
-      λ T h ld g m. assign-acts (a .s .now) b (a .p) (a .end) (start .pre .3) (start .pre .4) (put .result) (w .result) (c .before .revived .result) (c .taken-by .result) (w .ensures) T
-          (lent (a .ln .now) (a .lt .now) ld g (a .n)) (at-span-at .span-at .result) (at-span-at .span-at .ensures) (put .ensures .2 T ld g m) (c .before .revived .ensures) (c .taken-by .ensures T h ld g),
+      λ T h ld births g m. assign-acts (a .s .now) b (a .p) (a .end) (start .pre .3) (start .pre .4) (put .result) (w .result) (c .before .revived .result) (c .taken-by .result) (w .ensures) T
+          (lent (a .ln .now) (a .lt .now) ld births g (a .n)) (at-span-at .span-at .result) (at-span-at .span-at .ensures) (put .ensures .2 T ld births g m) (c .before .revived .ensures) (c .taken-by .ensures T h ld births g),
       (
         assign-grows (a .s .now) b (a .p) (a .end) (start .pre .3) (start .pre .4) (put .result) (put .ensures .0) (put .ensures .1) (w .result) (w .ensures),
         assign-ends (a .s .now) b (a .p) (a .end) (start .pre .3) (start .pre .4) (w .result) (w .ensures .at),

@@ -78,7 +78,7 @@ returns c =
     let none = at-nothing-put .nothing-put in
     let place = at-listed .listed in
     let left = at-list-left .list-left in (
-      λ T lt ld g n e. bare-acts (a .s .now) small (a .p) (q .1) (q .2) (q .3) (left .result) (place .result) (place .ensures) (none .result) (none .ensures) (wrote .result) (wrote .ensures) T (lent (a .ln .now) lt ld g n) (at-span-at .span-at .result) (at-span-at .span-at .ensures) (left .ensures .1 T lt ld g n e),
+      λ T lt ld g n e. bare-acts (a .s .now) small (a .p) (q .1) (q .2) (q .3) (left .result) (place .result) (place .ensures) (none .result) (none .ensures) (wrote .result) (wrote .ensures) T (lent (a .ln .now) lt ld (a .lb .now) g n) (at-span-at .span-at .result) (at-span-at .span-at .ensures) (left .ensures .1 T lt ld g n e),
       (
         bare-grows (a .s .now) small (a .p) (q .1) (q .2) (q .3) (left .result) (place .result) (place .ensures) (none .result) (none .ensures) (wrote .result) (wrote .ensures) (left .ensures .0),
         bare-ends (a .s .now) small (a .p) (q .2) (q .3) (wrote .result) (wrote .ensures .at),

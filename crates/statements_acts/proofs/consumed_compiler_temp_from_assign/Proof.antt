@@ -29,7 +29,7 @@ enum-told c = search needs
 returns : tie.Need-returns
 returns c =
     let a = c .before .before .before .before .before .args in
-    λ T h ld g e next st σ. from-none T (shape (lent (a .ln .now) (a .lt .now) ld g (a .n))) _ e σ (static-none (c .before .before .find-local .ensures) (a .lt .now) ld g (c .enum-told .given .1))
+    λ T h ld births g e next st σ. from-none T (shape (lent (a .ln .now) (a .lt .now) ld births g (a .n))) _ e σ (static-none (c .before .before .find-local .ensures) (a .lt .now) ld births g (c .enum-told .given .1))
 
 -- src/lib.rt:212:70
 mul-consumed-compiler-temp-from-value : tie.Need-mul-consumed-compiler-temp-from-value
@@ -52,7 +52,7 @@ consumed-compiler-temp-from-value-requires c κs = search needs
 returns-2 : tie.Need-returns-2
 returns-2 c =
     let a = c .before .before .before .before .before .before .before .before .args in
-    λ T h ld g e next st σ. from-some T (shape (lent (a .ln .now) (a .lt .now) ld g (a .n))) _ e σ (static-some (c .before .before .before .before .before .find-local .ensures) (a .lt .now) ld g (c .before .before .before .found .given .1)) refl (c .consumed-compiler-temp-from-value .ensures T h ld g e next st σ)
+    λ T h ld births g e next st σ. from-some T (shape (lent (a .ln .now) (a .lt .now) ld births g (a .n))) _ e σ (static-some (c .before .before .before .before .before .find-local .ensures) (a .lt .now) ld births g (c .before .before .before .found .given .1)) refl (c .consumed-compiler-temp-from-value .ensures T h ld births g e next st σ)
 
 pub consumed-compiler-temp-from-assign-spec : {M : Type 1} → statement M
 consumed-compiler-temp-from-assign-spec =

@@ -30,7 +30,7 @@ same-length c = search needs
 returns : tie.Need-returns
 returns c =
     let start = c .before .before .before .before .before .before .before .before .before .before in
-    (λ T ld g n e warns. c .before .before .return-statement .ensures .0 T ld g n e warns (now (start .args .lefts)), (c .before .before .return-statement .ensures .1 .0, c .before .before .return-statement .ensures .1 .1))
+    (λ T ld g n e warns. c .before .before .return-statement .ensures .0 T ld (start .args .lb .now) g n e warns (now (start .args .lefts)), (c .before .before .return-statement .ensures .1 .0, c .before .before .return-statement .ensures .1 .1))
 
 -- src/lib.rt:655:5
 bare-return-requires : tie.Need-bare-return-requires

@@ -29,7 +29,7 @@ enum-told c = search needs
 returns : tie.Need-returns
 returns c =
     let a = c .before .before .before .before .before .args in
-    (omega arith, omega arith, λ T ld g m e next z. none-put _ _ _ (drop-none T (lent (a .ln .now) (a .lt .now) ld g (a .n)) _ e (no-ident-at (a .s .now) (a .destination) _ (c .before .before .strip-noop-unary .ensures) (c .before .node-at .ensures) (c .match .keys2) e next z)))
+    (omega arith, omega arith, λ T ld births g m e next z. none-put _ _ _ (drop-none T (lent (a .ln .now) (a .lt .now) ld births g (a .n)) _ e (no-ident-at (a .s .now) (a .destination) _ (c .before .before .strip-noop-unary .ensures) (c .before .node-at .ensures) (c .match .keys2) e next z)))
 
 -- src/lib.rt:680:27
 add-name-at : tie.Need-add-name-at
@@ -57,7 +57,7 @@ returns-2 c =
     let start = at-strip-noop-unary .before .before .before in
     let a = start .args in
     let put = c .before .before .put-assign-drop in
-    (put .ensures .0, put .ensures .1, λ T ld g m e next z. drop-ident T (lent (a .ln .now) (a .lt .now) ld g (a .n)) _ e (ident-at (a .s .now) (a .destination) _ (at-strip-noop-unary .strip-noop-unary .ensures) (at-node-at .node-at .ensures) (at-enum-told .enum-told .given .1) e next z) (at-name-at .name-at .ensures) (put .ensures .2 T ld g m))
+    (put .ensures .0, put .ensures .1, λ T ld births g m e next z. drop-ident T (lent (a .ln .now) (a .lt .now) ld births g (a .n)) _ e (ident-at (a .s .now) (a .destination) _ (at-strip-noop-unary .strip-noop-unary .ensures) (at-node-at .node-at .ensures) (at-enum-told .enum-told .given .1) e next z) (at-name-at .name-at .ensures) (put .ensures .2 T ld births g m))
 
 pub pre-delete-before-assign-spec : {M : Type 1} → statement M
 pre-delete-before-assign-spec =

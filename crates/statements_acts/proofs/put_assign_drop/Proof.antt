@@ -32,7 +32,7 @@ enum-told c = search needs
 returns : tie.Need-returns
 returns c =
     let a = c .before .before .before .before .args in
-    (omega arith, omega arith, λ T depths g e. none-put _ _ _ (assign-none T (a .names .now) (a .tys .now) depths g (a .count) (a .span) (a .name) 0 _ (c .before .before .find-local .ensures) (c .enum-told .given .1)))
+    (omega arith, omega arith, λ T depths births g e. none-put _ _ _ (assign-none T (a .names .now) (a .tys .now) depths births g (a .count) (a .span) (a .name) 0 _ (c .before .before .find-local .ensures) (c .enum-told .given .1)))
 
 -- src/lib.rt:534:9
 has-bit-requires : tie.Need-has-bit-requires
@@ -48,7 +48,7 @@ returns-2 c =
     let lt = found-below (c .before .before .before .before .before .find-local .ensures) (c .before .before .before .i .given .1) in (
       omega arith,
       omega arith,
-      λ T depths g e. none-put _ _ _ (assign-kept T (a .names .now) (a .tys .now) depths g (a .count) (a .span) (a .name) 0 _ (c .before .before .before .before .before .find-local .ensures) (c .before .before .before .i .given .0 .0) (c .before .before .before .i .given .1)
+      λ T depths births g e. none-put _ _ _ (assign-kept T (a .names .now) (a .tys .now) depths births g (a .count) (a .span) (a .name) 0 _ (c .before .before .before .before .before .find-local .ensures) (c .before .before .before .i .given .0 .0) (c .before .before .before .i .given .1)
           (sym (c .before .has-bit .ensures 0 (a .count) (dropIn T (a .tys .now) g) lt e) ∙ not-true _ (c .if1 .taken))),
     )
 
@@ -87,7 +87,7 @@ returns-3 c =
     let lt = found-below (at-find-local .find-local .ensures) (at-i .i .given .1) in (
       omega (arith, l),
       omega arith,
-      λ T depths g e. one-put _ _ _ _ _ _ _ _ (assign-drop T (a .names .now) (a .tys .now) depths g (a .count) (a .span) (a .name) 0 _ (at-find-local .find-local .ensures) (at-i .i .given .0 .0) (at-i .i .given .1)
+      λ T depths births g e. one-put _ _ _ _ _ _ _ _ (assign-drop T (a .names .now) (a .tys .now) depths births g (a .count) (a .span) (a .name) 0 _ (at-find-local .find-local .ensures) (at-i .i .given .0 .0) (at-i .i .given .1)
           (sym (at-has-bit .has-bit .ensures 0 (a .count) (dropIn T (a .tys .now) g) lt e) ∙ not-false _ (at-if1 .if1 .left))) (c .before .before .put-delete .ensures),
     )
 

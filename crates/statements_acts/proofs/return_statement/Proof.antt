@@ -63,7 +63,7 @@ returns c =
     let q = start .pre in
     let put = at-put-drops .put-drops in
     let wrote = c .before .before .behind in (
-      λ T ld g n e. return-acts (a .s .now) small (a .p) (a .end) (q .1) (q .2) (q .3) (put .result) (wrote .result) (wrote .ensures) T (lent (a .ln .now) (a .lt .now) ld g n) (at-returned-identifier-name .returned-identifier-name .result) (at-returned-identifier-name .returned-identifier-name .ensures) (put .ensures .2 T ld g n e),
+      λ T ld births g n e. return-acts (a .s .now) small (a .p) (a .end) (q .1) (q .2) (q .3) (put .result) (wrote .result) (wrote .ensures) T (lent (a .ln .now) (a .lt .now) ld births g n) (at-returned-identifier-name .returned-identifier-name .result) (at-returned-identifier-name .returned-identifier-name .ensures) (put .ensures .2 T ld births g n e),
       (
         return-grows (a .s .now) small (a .p) (a .end) (q .1) (q .2) (q .3) (put .result) (put .ensures .0) (put .ensures .1) (wrote .result) (wrote .ensures),
         return-ends (a .s .now) small (a .p) (a .end) (q .1) (q .2) (q .3) (wrote .result) (wrote .ensures .at),

@@ -119,7 +119,7 @@ returns-4 : tie.Need-returns-4
 returns-4 c =
     let a = c .before .before .before .before .before .before .before .before .before .before .before .before .before .before .before .before .args in
     let e = c .before .before .assign-statement .ensures in
-    (λ T h ld g m loop lo. (e .0 T (names-said h) ld g m (a .warns .now) (a .lefts .now) loop), e .1)
+    (λ T h ld g m loop lo. (e .0 T (names-said h) ld (a .lb .now) g m (a .warns .now) (a .lefts .now) loop), e .1)
 
 -- src/lib.rt:761:8
 is-variable-requires : tie.Need-is-variable-requires
@@ -141,8 +141,8 @@ returns-5 : tie.Need-returns-5
 returns-5 c =
     let a = c .before .before .before .before .before .before .before .before .before .before .before .before .before .before .before .before .before .before .args in
     let e = c .before .before .variable-statement .ensures in (
-      λ T h ld g m loop lo. (e .0 T (names-said h) ld g (a .warns .now) (a .lefts .now) loop),
-      (e .1, acts-ends (e .0 (tablesOf (a .s .now) (a .tb .now)) (names-said (said (a .s .now) (a .tb .now))) [] (λ i. alive) [] [] none)),
+      λ T h ld g m loop lo. (e .0 T (names-said h) ld (a .lb .now) g (a .warns .now) (a .lefts .now) loop),
+      (e .1, acts-ends (e .0 (tablesOf (a .s .now) (a .tb .now)) (names-said (said (a .s .now) (a .tb .now))) [] [] (λ i. alive) [] [] none)),
     )
 
 -- src/lib.rt:764:5

@@ -29,7 +29,7 @@ enum-told c = search needs
 returns : tie.Need-returns
 returns c =
     let a = c .before .before .before .before .before .args in
-    λ T h ld g e v p q st1 st2 σ. assign-none T (shape (lent (a .ln .now) (a .lt .now) ld g (a .n))) e v (c .before .before .name-in .ensures e p st1) σ (c .enum-told .given .1)
+    λ T h ld births g e v p q st1 st2 σ. assign-none T (shape (lent (a .ln .now) (a .lt .now) ld births g (a .n))) e v (c .before .before .name-in .ensures e p st1) σ (c .enum-told .given .1)
 
 -- src/lib.rt:408:9
 skip-requires : tie.Need-skip-requires
@@ -43,7 +43,7 @@ consumed-compiler-temp-from-assign-requires c κs = search needs
 returns-2 : tie.Need-returns-2
 returns-2 c =
     let a = c .before .before .before .before .before .before .before .before .args in
-    λ T h ld g e v p q st1 st2 σ. assign-named T (shape (lent (a .ln .now) (a .lt .now) ld g (a .n))) e v (c .before .before .before .before .before .name-in .ensures e p st1) σ (c .before .before .before .named .given .1) (c .consumed-compiler-temp-from-assign .ensures T h ld g v q (subst (λ x. Stands v (now (c .before .before .before .before .before .before .before .before .args .s)) x q) (sym (c .before .skip .ensures e p st1)) st2) σ)
+    λ T h ld births g e v p q st1 st2 σ. assign-named T (shape (lent (a .ln .now) (a .lt .now) ld births g (a .n))) e v (c .before .before .before .before .before .name-in .ensures e p st1) σ (c .before .before .before .named .given .1) (c .consumed-compiler-temp-from-assign .ensures T h ld births g v q (subst (λ x. Stands v (now (c .before .before .before .before .before .before .before .before .args .s)) x q) (sym (c .before .skip .ensures e p st1)) st2) σ)
 
 pub taken-by-spec : {M : Type 1} → statement M
 taken-by-spec =

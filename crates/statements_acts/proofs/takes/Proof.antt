@@ -17,7 +17,7 @@ use Rattle.scope_state.proofs.find_local.Reads as find-local-reads
 returns : tie.Need-returns
 returns c =
     let a = c .before .before .before .args in
-    λ T e ld g. takes-same T (shape (lent (a .ln .now) (a .lt .now) ld g (a .n))) _ _ _ (c .if1 .taken)
+    λ T e ld births g. takes-same T (shape (lent (a .ln .now) (a .lt .now) ld births g (a .n))) _ _ _ (c .if1 .taken)
 
 -- src/lib.rt:154:9
 find-local-requires : tie.Need-find-local-requires
@@ -35,7 +35,7 @@ enum-told c = search needs
 returns-2 : tie.Need-returns-2
 returns-2 c =
     let a = c .before .before .before .before .before .before .args in
-    λ T e ld g. takes-none T (shape (lent (a .ln .now) (a .lt .now) ld g (a .n))) _ _ _ (static-none (c .before .before .find-local .ensures) (a .lt .now) ld g (c .enum-told .given .1))
+    λ T e ld births g. takes-none T (shape (lent (a .ln .now) (a .lt .now) ld births g (a .n))) _ _ _ (static-none (c .before .before .find-local .ensures) (a .lt .now) ld births g (c .enum-told .given .1))
 
 -- src/lib.rt:158:8
 mul-if2 : tie.Need-mul-if2
@@ -53,7 +53,7 @@ element-copy-out-if2 c =
 returns-3 : tie.Need-returns-3
 returns-3 c =
     let a = c .before .before .before .before .before .before .before .before .before .args in
-    λ T e ld g. takes-other T (shape (lent (a .ln .now) (a .lt .now) ld g (a .n))) _ _ _ (static-some (c .before .before .before .before .before .find-local .ensures) (a .lt .now) ld g (c .before .before .before .found .given .1)) (c .if2 .taken)
+    λ T e ld births g. takes-other T (shape (lent (a .ln .now) (a .lt .now) ld births g (a .n))) _ _ _ (static-some (c .before .before .before .before .before .find-local .ensures) (a .lt .now) ld births g (c .before .before .before .found .given .1)) (c .if2 .taken)
 
 -- src/lib.rt:161:8
 is-temp-requires : tie.Need-is-temp-requires
@@ -64,7 +64,7 @@ returns-4 : tie.Need-returns-4
 returns-4 c =
     let start = c .before .before .before .before .before .before .before .before .before .before .before in
     let a = start .args in
-    λ T e ld g. takes-temp T (shape (lent (a .ln .now) (a .lt .now) ld g (a .n))) _ _ _ (sym (c .before .is-temp .ensures T e) ∙ c .if3 .taken)
+    λ T e ld births g. takes-temp T (shape (lent (a .ln .now) (a .lt .now) ld births g (a .n))) _ _ _ (sym (c .before .is-temp .ensures T e) ∙ c .if3 .taken)
 
 -- src/lib.rt:164:5
 is-temp-requires-2 : tie.Need-is-temp-requires-2
@@ -78,7 +78,7 @@ returns-5 c =
     let at-if1 = at-find-local .before in
     let start = at-if1 .before .before .before in
     let a = start .args in
-    λ T e ld g. takes-last T (shape (lent (a .ln .now) (a .lt .now) ld g (a .n))) _ _ _ (at-if1 .if1 .left) (static-some (at-find-local .find-local .ensures) (a .lt .now) ld g (at-found .found .given .1)) (c .before .before .before .if2 .left) (sym (c .before .before .is-temp .ensures T e) ∙ c .before .if3 .left) (c .is-temp2 .ensures T e)
+    λ T e ld births g. takes-last T (shape (lent (a .ln .now) (a .lt .now) ld births g (a .n))) _ _ _ (at-if1 .if1 .left) (static-some (at-find-local .find-local .ensures) (a .lt .now) ld births g (at-found .found .given .1)) (c .before .before .before .if2 .left) (sym (c .before .before .is-temp .ensures T e) ∙ c .before .if3 .left) (c .is-temp2 .ensures T e)
 
 pub takes-spec : {M : Type 1} → statement M
 takes-spec =

@@ -19,16 +19,16 @@ use Rattle.statements_changes.proofs.is_nothing.Reads as is-nothing-rea
 use Rattle.statements_changes.proofs.scanned.Reads as scanned-reads
 
 abbrev Inv-loop : tie.InvT-loop
-Inv-loop s tb env ln lt lk lf rows nodes₀ out₀ errs₀ warns₀ lefts₀ c₀ nodes out errs warns lefts c =
-    Turning s tb (env .left) ln lt (stateIn lk lf rows (env .cur) (env .width)) (env .locals) (env .mark) (env .base) nodes₀ c₀ out₀ errs₀ warns₀ lefts₀ nodes c out errs warns lefts
+Inv-loop s tb env ln lt lb lk lf rows nodes₀ out₀ errs₀ warns₀ lefts₀ c₀ nodes out errs warns lefts c =
+    Turning s tb (env .left) ln lt lb (stateIn lk lf rows (env .cur) (env .width)) (env .locals) (env .mark) (env .base) nodes₀ c₀ out₀ errs₀ warns₀ lefts₀ nodes c out errs warns lefts
 
 abbrev μ-loop : tie.MeasureT-loop
-μ-loop s tb env ln lt lk lf rows nodes₀ out₀ errs₀ warns₀ lefts₀ c₀ nodes out errs warns lefts c =
+μ-loop s tb env ln lt lb lk lf rows nodes₀ out₀ errs₀ warns₀ lefts₀ c₀ nodes out errs warns lefts c =
     c .left
 
 -- src/lib.rt:329:5
 loop-holds : tie.Need-loop-holds Inv-loop μ-loop
-loop-holds c = let r = c .before .before .before .before .before .before .before .pre in turning-start _ _ _ _ _ _ _ _ _ _ _ _ _ _ _ (r .4) (r .5)
+loop-holds c = let r = c .before .before .before .before .before .before .before .pre in turning-start _ _ _ _ _ _ _ _ _ _ _ _ _ _ _ _ (r .4) (r .5)
 
 -- src/lib.rt:330:13
 due-requires : tie.Need-due-requires Inv-loop μ-loop
@@ -125,7 +125,7 @@ returns-2 c =
     let b = at-begun .begun .ensures in
     let v = at-scanned .scanned .ensures in
     let n = c .before .is-nothing2 .ensures .1 (not-true _ (c .if2 .taken)) in (
-      λ T sy ld σ loop h all σ₀ p₀ m₀ g. v .0 T sy (r .lt .now) ld σ (h .held) loop all σ₀ p₀ m₀ _ _ (b .0 T _ all σ₀ p₀ m₀ σ _ _ _ _ (i .stood T sy ld σ loop h all σ₀ p₀ m₀ g)),
+      λ T sy ld σ loop h all σ₀ p₀ m₀ g. v .0 T sy (r .lt .now) ld (r .lb .now) σ (h .held) loop all σ₀ p₀ m₀ _ _ (b .0 T _ all σ₀ p₀ m₀ σ _ _ _ _ (i .stood T sy ld σ loop h all σ₀ p₀ m₀ g)),
       (v .1 .0, v .1 .1, n, λ z. (let x = v .1 .3 n in let y = b .5 in let l = i .less in omega arith), grows-as (i .grown) (v .1 .4 ∙ ap (λ (x : Place). retold x 0) (b .6))),
     )
 
@@ -153,7 +153,7 @@ same-length-9 c =
     let at-loop = at-scanned .before .before .before .before .before .before .before .before .before in
     let v = at-scanned .scanned in
     let i = at-loop .loop .inv in
-    omega (arith, at-acted .acted .kept .1 .1 .1 .1 .1 .1 .0, v .kept .1 .1 .1 .1 .1 .1 .1 .1 .1 .0, i .lent .0)
+    omega (arith, at-acted .acted .kept .1 .1 .1 .1 .1 .1 .1 .0, v .kept .1 .1 .1 .1 .1 .1 .1 .1 .1 .0, i .lent .0)
 
 -- src/lib.rt:341:13
 same-length-10 : tie.Need-same-length-10 Inv-loop μ-loop
@@ -171,7 +171,7 @@ same-length-11 c =
     let at-loop = at-acted .before .before .before .before .before .before .before .before .before .before .before .before .before .before .before .before .before .before .before in
     let a = at-acted .acted in
     let i = at-loop .loop .inv in
-    omega (arith, a .kept .1 .1 .1 .1 .1 .1 .1 .0, i .lent .2)
+    omega (arith, a .kept .1 .1 .1 .1 .1 .1 .1 .1 .0, i .lent .2)
 
 -- src/lib.rt:341:13
 same-length-12 : tie.Need-same-length-12 Inv-loop μ-loop
@@ -180,7 +180,7 @@ same-length-12 c =
     let at-loop = at-acted .before .before .before .before .before .before .before .before .before .before .before .before .before .before .before .before .before .before .before in
     let a = at-acted .acted in
     let i = at-loop .loop .inv in
-    omega (arith, a .kept .1 .1 .1 .1 .1 .1 .1 .1 .0, i .lent .3)
+    omega (arith, a .kept .1 .1 .1 .1 .1 .1 .1 .1 .1 .0, i .lent .3)
 
 -- src/lib.rt:341:13
 returns-3 : tie.Need-returns-3 Inv-loop μ-loop
@@ -203,7 +203,7 @@ returns-3 c =
     let n = c .before .is-nothing3 .ensures .1 (not-true _ (c .if3 .taken)) in (
       λ T sy ld σ loop h all σ₀ p₀ m₀ g. a .ensures .0 T sy ld _ σ loop h all σ₀ p₀ m₀ _ _
           (nothing-stood T _ _ _ _ all σ₀ p₀ m₀ _ _ σ _ _ e
-          (v .ensures .0 T sy (r .lt .now) ld σ (h .held) loop all σ₀ p₀ m₀ _ _ (b .0 T _ all σ₀ p₀ m₀ σ _ _ _ _ (k .inv .stood T sy ld σ loop h all σ₀ p₀ m₀ g)))),
+          (v .ensures .0 T sy (r .lt .now) ld (r .lb .now) σ (h .held) loop all σ₀ p₀ m₀ _ _ (b .0 T _ all σ₀ p₀ m₀ σ _ _ _ _ (k .inv .stood T sy ld σ loop h all σ₀ p₀ m₀ g)))),
       (a .ensures .1 .0 _, v .ensures .1 .1, n, λ z. (let y = k .inv .less in omega arith), grows-both (k .inv .grown) (grows-told (v .ensures .1 .4 ∙ ap (λ (x : Place). retold x 0) (b .6)) (a .ensures .1 .3))),
     )
 
@@ -248,10 +248,10 @@ loop-again c =
       room = v .ensures .1 .1;
       less = let y = k .inv .less in omega arith;
       grown = grows-both (k .inv .grown) (grows-told (v .ensures .1 .4 ∙ ap (λ (x : Place). retold x 0) (b .6)) (a .ensures .1 .3));
-      lent = (a .kept .1 .1 .1 .1 .1 .1 .0 ∙ v .kept .1 .1 .1 .1 .1 .1 .1 .1 .1 .0 ∙ l .0, v .kept .1 .1 .1 .1 .1 .1 .1 .1 .1 .1 .0 ∙ l .1, a .kept .1 .1 .1 .1 .1 .1 .1 .0 ∙ l .2, a .kept .1 .1 .1 .1 .1 .1 .1 .1 .0 ∙ l .3);
+      lent = (a .kept .1 .1 .1 .1 .1 .1 .1 .0 ∙ v .kept .1 .1 .1 .1 .1 .1 .1 .1 .1 .0 ∙ l .0, v .kept .1 .1 .1 .1 .1 .1 .1 .1 .1 .1 .0 ∙ l .1, a .kept .1 .1 .1 .1 .1 .1 .1 .1 .0 ∙ l .2, a .kept .1 .1 .1 .1 .1 .1 .1 .1 .1 .0 ∙ l .3);
       stood = λ T sy ld σ loop h all σ₀ p₀ m₀ g. nothing-stood T _ _ _ _ all σ₀ p₀ m₀ _ _ σ _ _ n (a .ensures .0 T sy ld _ σ loop h all σ₀ p₀ m₀ _ _
           (nothing-stood T _ _ _ _ all σ₀ p₀ m₀ _ _ σ _ _ e
-          (v .ensures .0 T sy (r .lt .now) ld σ (h .held) loop all σ₀ p₀ m₀ _ _ (b .0 T _ all σ₀ p₀ m₀ σ _ _ _ _ (k .inv .stood T sy ld σ loop h all σ₀ p₀ m₀ g)))));
+          (v .ensures .0 T sy (r .lt .now) ld (r .lb .now) σ (h .held) loop all σ₀ p₀ m₀ _ _ (b .0 T _ all σ₀ p₀ m₀ σ _ _ _ _ (k .inv .stood T sy ld σ loop h all σ₀ p₀ m₀ g)))));
     }
 
 pub next-change-spec : {M : Type 1} → statement M

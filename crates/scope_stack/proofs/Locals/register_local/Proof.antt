@@ -28,6 +28,14 @@ element-write-self-2 c = search needs
 element-write-self-3 : tie.Need-element-write-self-3
 element-write-self-3 c = search needs
 
+-- src/lib.rt:160:9
+mul-self-3 : tie.Need-mul-self-3
+mul-self-3 c = search needs
+
+-- src/lib.rt:160:9
+element-write-self-4 : tie.Need-element-write-self-4
+element-write-self-4 c = search needs
+
 -- src/lib.rt:160:22
 add-self : tie.Need-add-self
 add-self c = search needs
@@ -42,11 +50,11 @@ add-self-2 c = record { fits = rw (c .bit .ensures) (bit-fits (c .before .before
 
 -- src/lib.rt:152:5
 returns : tie.Need-returns
-returns c = rw (c .bit .ensures, c .before .if1 .taken) (grows-on (c .before .before .args .t1) (c .before .before .args .name) (c .before .before .args .ty) (c .before .before .args .depth) (c .before .before .pre .0) (c .before .before .pre .1))
+returns c = rw (c .bit .ensures, c .before .if1 .taken) (grows-on (c .before .before .args .t1) (c .before .before .args .name) (c .before .before .args .ty) (c .before .before .args .depth) (c .before .before .args .born) (c .before .before .pre .0) (c .before .before .pre .1))
 
 -- src/lib.rt:152:5
 returns-2 : tie.Need-returns-2
-returns-2 c = rw (c .if1 .left) (grows-off (c .before .args .t1) (c .before .args .name) (c .before .args .ty) (c .before .args .depth) (c .before .pre .0) (c .before .pre .1))
+returns-2 c = rw (c .if1 .left) (grows-off (c .before .args .t1) (c .before .args .name) (c .before .args .ty) (c .before .args .depth) (c .before .args .born) (c .before .pre .0) (c .before .pre .1))
 
 pub register-local-spec : {M : Type 1} → statement M
 register-local-spec =
@@ -57,6 +65,8 @@ register-local-spec =
     mul-self-2
     element-write-self-2
     element-write-self-3
+    mul-self-3
+    element-write-self-4
     add-self
     bit-requires
     add-self-2

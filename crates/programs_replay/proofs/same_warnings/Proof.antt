@@ -1,18 +1,18 @@
 use native.Mathlib.Omega.{arith}
 use borrow.Author.Needs.{needs}
 use Prim.Native.Nat.{_+_, _*_, _-_, _≤_, _<_}
-use Rattle.programs_replay.proofs.same_pairs.Statement.{statement}
-use Rattle.programs_replay.proofs.same_pairs.Tie as tie
-use Rattle.programs_replay.proofs.same_pairs.Reads as reads
-use Rattle.programs_replay.proofs.same_pairs.Lts as lts
-use Rattle.programs_replay.proofs.same_pair.Reads as same-pair-reads
+use Rattle.programs_replay.proofs.same_warnings.Statement.{statement}
+use Rattle.programs_replay.proofs.same_warnings.Tie as tie
+use Rattle.programs_replay.proofs.same_warnings.Reads as reads
+use Rattle.programs_replay.proofs.same_warnings.Lts as lts
+use Rattle.programs_replay.proofs.same_warning.Reads as same-warning-reads
 use Rattle.programs_replay.proofs.two.Reads as two-reads
 
 abbrev Inv-loop : tie.InvT-loop
-Inv-loop s at width list many p₀ i₀ p i = (i ≤ many) × (many < 65536) × (p ≤ at + 2 + 8 * i)
+Inv-loop s at list many p₀ i₀ p i = (i ≤ many) × (many < 65536) × (p ≤ at + 2 + 8 * i)
 
 abbrev μ-loop : tie.MeasureT-loop
-μ-loop s at width list many p₀ i₀ p i = many - i
+μ-loop s at list many p₀ i₀ p i = many - i
 
 -- src/main.rt:235:8
 two-requires : tie.Need-two-requires Inv-loop μ-loop
@@ -31,12 +31,12 @@ loop-holds : tie.Need-loop-holds Inv-loop μ-loop
 loop-holds c = search needs
 
 -- src/main.rt:241:42
-mul-same-pair : tie.Need-mul-same-pair Inv-loop μ-loop
-mul-same-pair c = search needs
+mul-same-warning : tie.Need-mul-same-warning Inv-loop μ-loop
+mul-same-warning c = search needs
 
 -- src/main.rt:241:13
-same-pair-requires : tie.Need-same-pair-requires Inv-loop μ-loop
-same-pair-requires c κs = search needs
+same-warning-requires : tie.Need-same-warning-requires Inv-loop μ-loop
+same-warning-requires c κs = search needs
 
 -- src/main.rt:242:13
 returns-2 : tie.Need-returns-2 Inv-loop μ-loop
@@ -45,10 +45,6 @@ returns-2 c = tt
 -- src/main.rt:244:14
 add-p-2 : tie.Need-add-p-2 Inv-loop μ-loop
 add-p-2 c = search needs
-
--- src/main.rt:244:9
-add-p-3 : tie.Need-add-p-3 Inv-loop μ-loop
-add-p-3 c = search needs
 
 -- src/main.rt:245:9
 add-i : tie.Need-add-i Inv-loop μ-loop
@@ -66,8 +62,8 @@ loop-again c = search needs
 returns-3 : tie.Need-returns-3 Inv-loop μ-loop
 returns-3 c = tt
 
-pub same-pairs-spec : {M : Type 1} → statement M
-same-pairs-spec =
+pub same-warnings-spec : {M : Type 1} → statement M
+same-warnings-spec =
     tie.close
     (tie.spec
     Inv-loop
@@ -76,11 +72,10 @@ same-pairs-spec =
     returns
     add-p
     loop-holds
-    mul-same-pair
-    same-pair-requires
+    mul-same-warning
+    same-warning-requires
     returns-2
     add-p-2
-    add-p-3
     add-i
     loop-less
     loop-again

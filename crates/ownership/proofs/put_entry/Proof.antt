@@ -1,10 +1,10 @@
 use native.Mathlib.Omega.{arith}
 use Rattle.image_writing.proofs.Stores.{both-stored}
 use borrow.Author.Needs.{needs}
-use Rattle.ownership.proofs.put_pair.Statement.{statement}
-use Rattle.ownership.proofs.put_pair.Tie as tie
-use Rattle.ownership.proofs.put_pair.Reads as reads
-use Rattle.ownership.proofs.put_pair.Lts as lts
+use Rattle.ownership.proofs.put_entry.Statement.{statement}
+use Rattle.ownership.proofs.put_entry.Tie as tie
+use Rattle.ownership.proofs.put_entry.Reads as reads
+use Rattle.ownership.proofs.put_entry.Lts as lts
 use Rattle.ownership.proofs.put_numbers.Reads as put-numbers-reads
 use Rattle.programs_text.proofs.put_text.Reads as put-text-reads
 
@@ -36,8 +36,8 @@ same-length c = search needs
 returns : tie.Need-returns
 returns c = (both-stored (c .before .before .before .before .before .before .before .before .before .before .before .put-text .ensures .0) (both-stored (c .before .before .before .before .before .before .before .put-numbers .ensures .0) (c .before .before .put-text2 .ensures .0)), omega (arith, c .before .before .before .before .before .before .before .before .before .before .before .put-text .ensures .1, c .before .before .before .before .before .before .before .put-numbers .ensures .1, c .before .before .put-text2 .ensures .1))
 
-pub put-pair-spec : {M : Type 1} → statement M
-put-pair-spec =
+pub put-entry-spec : {M : Type 1} → statement M
+put-entry-spec =
     tie.close
     (tie.spec
     put-text-requires

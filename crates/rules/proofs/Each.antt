@@ -1,0 +1,74 @@
+-- A fact of each report of a list, whatever its kind.
+-- Assumes nothing.
+use Prim.Native.Nat.{ℕ}
+use mathlib.Core.Bool.{Bool, true, false, cond, _&&_}
+use mathlib.Core.List.{List, [], _∷_, _++_}
+use mathlib.Core.Option.{Option, none, some}
+use Rattle.tables.specs.Tables.{Tables}
+use Rattle.rules.specs.Questions.{auto}
+use Rattle.rules.specs.Stack.{Static, Local, local, Stack, Shape, shape, lookup}
+use Rattle.rules.specs.State.{State, alive, gone, isAlive, deleted, moved, consumed}
+use Rattle.rules.specs.Effects.{Effect, use′, kill, hand, badMove, globalMove}
+use Rattle.rules.specs.Rules.{states, apply, Place, concerns}
+use Rattle.rules.specs.Report.{Report, error, leftAt, badUse, useOf, reportOf, reportAll, leftBehind}
+
+unfoldable pub Each : (Report → Type 0) → List Report → Type 0
+Each Q [] = Unit {0}
+Each Q (r ∷ rs) = Q r × Each Q rs
+
+-- a fact of each local
+abbrev pub EachLocal : (Static → Type 0) → Shape → Type 0
+EachLocal P [] = Unit {0}
+EachLocal P (s ∷ Γ) = P s × EachLocal P Γ
+
+module _ (Q : Report → Type 0) where
+  pub each-none : Each Q []
+  unfolding Each
+  each-none = tt
+
+  pub each-more : (r : Report) (rs : List Report) → Q r → Each Q rs → Each Q (r ∷ rs)
+  unfolding Each
+  each-more r rs q e = (q, e)
+
+  pub each-both : (rs qs : List Report) → Each Q rs → Each Q qs → Each Q (rs ++ qs)
+  unfolding Each
+  each-both [] qs p q = q
+  each-both (r ∷ rs) qs p q = (p .0, each-both rs qs (p .1) q)
+
+  -- what a place leaves behind
+  pub each-left : (T : Tables) (p : ℕ) (w : Place) (σ : Stack State) → EachLocal (λ s. Q (leftAt p s)) (shape σ) → Each Q (leftBehind T p w σ)
+  each-left T p w [] f = each-none
+  each-left T p w (local s a ∷ σ) f = go (concerns w s && isAlive a && auto T (s .ty)) (each-left T p w σ (f .1))
+    where
+      go : (b : Bool) → Each Q (leftBehind T p w σ) → Each Q (cond b (leftAt p s ∷ leftBehind T p w σ) (leftBehind T p w σ))
+      go true e = each-more _ _ (f .0) e
+      go false e = e
+
+  -- effects report errors and nothing else
+  module _ (errs : (k p h : ℕ) (ps : List ℕ) → Q (error k p h ps)) where
+    one : (k p h : ℕ) (ps : List ℕ) → Each Q (error k p h ps ∷ [])
+    one k p h ps = each-more _ _ (errs k p h ps) each-none
+
+    of-state : (s : ℕ) (a : State) → Each Q (badUse s a)
+    of-state s alive = each-none
+    of-state s (gone false deleted ps) = one _ _ _ _
+    of-state s (gone false moved ps) = one _ _ _ _
+    of-state s (gone false consumed ps) = one _ _ _ _
+    of-state s (gone true deleted ps) = one _ _ _ _
+    of-state s (gone true moved ps) = one _ _ _ _
+    of-state s (gone true consumed ps) = one _ _ _ _
+
+    of-local : (s : ℕ) (x : Option (Local State)) → Each Q (useOf s x)
+    of-local s none = each-none
+    of-local s (some (local l a)) = of-state s a
+
+    of-effect : (e : Effect) (σ : Stack State) → Each Q (reportOf e σ)
+    of-effect (use′ n s) σ = of-local s (lookup n σ)
+    of-effect (kill k n s) σ = each-none
+    of-effect (hand n s) σ = each-none
+    of-effect (badMove s h) σ = one _ _ _ _
+    of-effect (globalMove s g) σ = one _ _ _ _
+
+    pub each-effects : (es : List Effect) (σ : Stack State) → Each Q (reportAll es σ)
+    each-effects [] σ = each-none
+    each-effects (e ∷ es) σ = each-both (reportOf e σ) (reportAll es (apply states e σ)) (of-effect e σ) (each-effects es (apply states e σ))
