@@ -234,6 +234,37 @@ pub fn rows() -> Vec<Row> {
             vec![],
         ),
         row(
+            "(d): nested blocks and this",
+            body(
+                &[0],
+                vec![
+                    let_v(21),
+                    Stmt::Block(block(22, vec![let_v(23), back(24)])),
+                    Stmt::Block(block(25, vec![let_v(26)])),
+                    let_w(27),
+                    back(28),
+                ],
+            ),
+            vec![
+                let_v(21),
+                Stmt::Block(block(22, vec![let_v(23), back(24)])),
+                Stmt::Block(block(25, vec![let_v(26), deletion(25, V)])),
+                let_w(27),
+                back(28),
+            ],
+            vec![],
+            vec![(24, V, 23), (24, V, 21), (24, 0, 0), (28, W, 27), (28, V, 21), (28, 0, 0)],
+            alive(),
+        ),
+        as_is(
+            "(d): moved and registered again",
+            &[],
+            vec![let_v(21), moving(22, v(23)), let_v(24), back(25)],
+            vec![],
+            vec![(25, V, 24), (25, V, 21)],
+            vec![],
+        ),
+        row(
             "(d): a const in a loop",
             body(&[], vec![repeat(20, block(21, vec![const_v(22), Stmt::Continue(23)]))]),
             vec![repeat(20, block(21, vec![const_v(22), Stmt::Continue(23), deletion(21, V)]))],

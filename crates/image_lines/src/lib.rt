@@ -142,7 +142,7 @@ pub fn put_warning_line(out: &mut [u8], at: usize, span: u32, offset: u32) -> us
     put_first(out, at, b"unused result", span, &others)
 }
 
-// What the line of a left-behind entry begins with, in blank text: the same for all that a return leaves behind.
+// What the line of a left-behind entry begins with, in blank text: the same for all that a return, a break or a continue leaves behind.
 pub fn begin_left(text: &mut [u8; 73], span: u32)
     requires { ⌜ now text ≡ blanks 73 ⌝ }
     ensures { λ r. ⌜ now (text .exit) ≡ leftBegin span ⌝ }

@@ -1,11 +1,12 @@
--- Where locals were born (02, d): no operation changes the birth of a local it keeps, and every left-behind entry has the birth of a
--- Let or Const of its name, or 0 and the name of a parameter or `this`.
+-- Where locals were born (02, d): no operation changes the birth of a local it keeps; the entries of a place are of locals of their own, each
+-- with its birth; and that is the span of a Let or Const of the name, or 0 and the name is a parameter's or `this`.
 -- Assumes nothing.
 use Prim.Native.Nat.{ℕ, suc, _+_}
-use mathlib.Core.Path.{_≡_, sym, _∙_, subst}
-use mathlib.Core.Bool.{Bool, true, false, _&&_}
+use mathlib.Core.Path.{_≡_, refl, sym, ap, _∙_, subst}
+use mathlib.Core.Bool.{Bool, true, false, cond, _&&_}
 use mathlib.Core.List.{List, [], _∷_}
 use mathlib.Core.Option.{Option, none, some}
+use mathlib.Core.Logic.{_⊎_, inl, inr}
 use Rattle.tables.specs.Signature.{Param}
 use Rattle.tables.specs.Tables.{Tables}
 use Rattle.image_body.specs.Expr.{Expr}
@@ -13,13 +14,13 @@ use Rattle.image_body.specs.Stmt.{Tree, done, exprStmt, variable, assign, retur
 use Rattle.image.specs.Image.{Image}
 use Rattle.rules.specs.Questions.{auto}
 use Rattle.rules.specs.Expr.{nobody, view, isCall, tyOf}
-use Rattle.rules.specs.Stack.{Stack, Shape, shape}
-use Rattle.rules.specs.State.{State, alive}
+use Rattle.rules.specs.Stack.{local, Stack, Shape, shape}
+use Rattle.rules.specs.State.{State, alive, isAlive}
 use Rattle.rules.specs.Effects.{Effect, effects, exprStmtEffects, assignEffects}
-use Rattle.rules.specs.Rules.{Alg, states, sureFrom, register, atReturn, atJump, given, evaluate, afterExpr, afterVariable, beforeAssign, afterAssign, exit, declared, behindIf, behindThen, behindLoop, entered, localsOf}
-use Rattle.rules.specs.Report.{Report, error, warning, left, reportAll, unused, exprBytes, codeBytes, report, bodyStart, reports}
+use Rattle.rules.specs.Rules.{Alg, states, Drop, dropOf, deleteAt, sureFrom, register, atReturn, atJump, concerns, returnDrops, given, evaluate, afterExpr, afterVariable, beforeAssign, afterAssign, exit, declared, behindIf, behindThen, behindLoop, entered, localsOf}
+use Rattle.rules.specs.Report.{Report, error, warning, left, leftAt, leftBehind, reportAll, unused, exprBytes, codeBytes, report, bodyStart, reports}
 use Rattle.rules.proofs.Bools.{leb-refl}
-use Rattle.rules.proofs.Each.{Each, EachLocal, each-none, each-more, each-both, each-left, each-effects}
+use Rattle.rules.proofs.Each.{Each, EachLocal, each-none, each-more, each-both, each-own, each-effects, left-own}
 use Rattle.rules.proofs.Shapes.{Within, within-suc, shape-frame, shape-doing, shape-joins, shape-merge, shape-assign, shape-variable, shape-inner}
 
 -- What the walk of a block of depth d does to the locals of a stack, each with its name, type, depth and birth: a Let or Const puts its own
@@ -52,6 +53,40 @@ births-kept 𝓐 T d σ w = record {
 
     branch : (e : Expr) (t : Tree) → shape (exit 𝓐 T t (suc d) (evaluate 𝓐 T e σ)) ≡ shape σ
     branch e t = shape-inner 𝓐 T t d (evaluate 𝓐 T e σ) (subst (λ (Γ : Shape). Within d Γ) (sym (condition e)) w) ∙ condition e
+
+-- the locals that a body is entered with are born at 0
+pub entered-born : {A : Type 0} (𝓐 : Alg A) (T : Tables) (xs : List Param) → EachLocal (λ s. s .born ≡ 0) (shape (entered 𝓐 T xs []))
+entered-born 𝓐 T xs = go xs [] tt
+  where
+    go : (ys : List Param) (σ : Stack _) → EachLocal (λ s. s .born ≡ 0) (shape σ) → EachLocal (λ s. s .born ≡ 0) (shape (entered 𝓐 T ys σ))
+    go [] σ z = z
+    go (y ∷ ys) σ z =
+        go ys (register 𝓐 (given y) σ) (refl, subst (EachLocal (λ s. s .born ≡ 0)) (sym (shape-frame (y .name) 0 (λ a. 𝓐 .new) σ)) z)
+
+-- a return without a value leaves behind what one with a value that excludes no name would delete (document 01, "What is reported")
+abbrev pub leftNames : List Report → List ℕ
+leftNames [] = []
+leftNames (error k p h ps ∷ rs) = leftNames rs
+leftNames (warning s o ∷ rs) = leftNames rs
+leftNames (left s n b ∷ rs) = n ∷ leftNames rs
+
+abbrev pub dropNames : List Drop → List ℕ
+dropNames [] = []
+dropNames (dropOf p n t ∷ ds) = n ∷ dropNames ds
+
+pub left-as-returned : (T : Tables) (p : ℕ) (σ : Stack State) → leftNames (leftBehind T p (atReturn nobody) σ) ≡ dropNames (returnDrops states T nobody σ)
+left-as-returned T p [] = refl
+left-as-returned T p (local s a ∷ σ) = go (concerns (atReturn nobody) s && isAlive a && auto T (s .ty)) (left-as-returned T p σ)
+  where
+    ls : List Report
+    ls = leftBehind T p (atReturn nobody) σ
+
+    ds : List Drop
+    ds = returnDrops states T nobody σ
+
+    go : (b : Bool) → leftNames ls ≡ dropNames ds → leftNames (cond b (leftAt p s ∷ ls) ls) ≡ dropNames (cond b (deleteAt 0 s ∷ ds) ds)
+    go true e = ap (λ (ns : List ℕ). s .name ∷ ns) e
+    go false e = e
 
 -- a fact about a name and a birth
 module _ (P : ℕ → ℕ → Type 0) where
@@ -112,7 +147,7 @@ module _ (P : ℕ → ℕ → Type 0) where
     of-report (return s e t x r) d l at σ h g =
         let k = births-kept states T d σ (h .0) in
         each-both LeftBorn _ _ (of-effects (effects T (shape σ) e) σ) (of-report r d l (at + 8 + exprBytes e) (evaluate states T e σ) (subst (Here d) (sym (k .evaluated e)) h) g)
-    of-report (bareReturn s t r) d l at σ h g = each-both LeftBorn _ _ (each-left LeftBorn T s (atReturn nobody) σ (h .1)) (of-report r d l (at + 8) σ h g)
+    of-report (bareReturn s t r) d l at σ h g = each-both LeftBorn _ _ (each-own LeftBorn s (left-own T s (atReturn nobody) σ) (h .1)) (of-report r d l (at + 8) σ h g)
     of-report (block s c r) d l at σ h g =
         let k = births-kept states T d σ (h .0) in
         each-both LeftBorn _ _ (of-report c (suc d) l (at + 7) σ (inner d (shape σ) h) (g .0)) (of-report r d l (at + 7 + codeBytes c) (exit states T c (suc d) σ) (subst (Here d) (sym (k .block c)) h) (g .1))
@@ -126,7 +161,7 @@ module _ (P : ℕ → ℕ → Type 0) where
     of-report (while s e ts t r) d l at σ h g =
         let k = births-kept states T d σ (h .0) in
         each-both LeftBorn _ _ (of-effects (effects T (shape σ) e) σ) (each-both LeftBorn _ _ (of-report t (suc d) (some (suc d)) (at + 11 + exprBytes e) (evaluate states T e σ) (inner d (shape (evaluate states T e σ)) (subst (Here d) (sym (k .evaluated e)) h)) (g .0)) (of-report r d l (at + 11 + exprBytes e + codeBytes t) (behindLoop states T e t d σ) (subst (Here d) (sym (k .loop e t)) h) (g .1)))
-    of-report (jump k s r) d l at σ h g = each-both LeftBorn _ _ (each-left LeftBorn T s (atJump l) σ (h .1)) (of-report r d l (at + 5) σ h g)
+    of-report (jump k s r) d l at σ h g = each-both LeftBorn _ _ (each-own LeftBorn s (left-own T s (atJump l) σ) (h .1)) (of-report r d l (at + 5) σ h g)
 
     of-entered : (xs : List Param) (σ : Stack State) → Here 0 (shape σ) → Given xs → Here 0 (shape (entered states T xs σ))
     of-entered [] σ h g = h
@@ -139,3 +174,51 @@ module _ (P : ℕ → ℕ → Type 0) where
   left-born i g b =
       of-report (i .tables) (i .body .code) 1 none (bodyStart i) (entered states (i .tables) (localsOf (i .entry)) [])
       (inner 0 (shape (entered states (i .tables) (localsOf (i .entry)) [])) (of-entered (i .tables) (localsOf (i .entry)) [] (tt, tt) g)) b
+
+-- is the name a parameter's or `this`
+abbrev pub Named : ℕ → List Param → Type 0
+Named n [] = ⊥
+Named n (x ∷ xs) = (n ≡ x .name) ⊎ Named n xs
+
+-- a Let or Const of the name and span stands among the statements
+abbrev pub Declared : ℕ → ℕ → Tree → Type 0
+Declared n b (done x) = ⊥
+Declared n b (exprStmt s e y r) = Declared n b r
+Declared n b (variable k s m t e r) = ((n ≡ m) × (b ≡ s)) ⊎ Declared n b r
+Declared n b (assign s e v t x r) = Declared n b r
+Declared n b (return s e t x r) = Declared n b r
+Declared n b (bareReturn s t r) = Declared n b r
+Declared n b (block s c r) = Declared n b c ⊎ Declared n b r
+Declared n b (ifElse s e ts t us u r) = Declared n b t ⊎ (Declared n b u ⊎ Declared n b r)
+Declared n b (ifThen s e ts t r) = Declared n b t ⊎ Declared n b r
+Declared n b (while s e ts t r) = Declared n b t ⊎ Declared n b r
+Declared n b (jump k s r) = Declared n b r
+
+module _ (P : ℕ → ℕ → Type 0) where
+  all-declared : (c : Tree) → ((n b : ℕ) → Declared n b c → P n b) → Declares P c
+  all-declared (done x) f = tt
+  all-declared (exprStmt s e y r) f = all-declared r f
+  all-declared (variable k s n t e r) f = (f n s (inl (refl, refl)), all-declared r (λ m b q. f m b (inr q)))
+  all-declared (assign s e v t x r) f = all-declared r f
+  all-declared (return s e t x r) f = all-declared r f
+  all-declared (bareReturn s t r) f = all-declared r f
+  all-declared (block s c r) f = (all-declared c (λ m b q. f m b (inl q)), all-declared r (λ m b q. f m b (inr q)))
+  all-declared (ifElse s e ts t us u r) f =
+      (all-declared t (λ m b q. f m b (inl q)), all-declared u (λ m b q. f m b (inr (inl q))), all-declared r (λ m b q. f m b (inr (inr q))))
+  all-declared (ifThen s e ts t r) f = (all-declared t (λ m b q. f m b (inl q)), all-declared r (λ m b q. f m b (inr q)))
+  all-declared (while s e ts t r) f = (all-declared t (λ m b q. f m b (inl q)), all-declared r (λ m b q. f m b (inr q)))
+  all-declared (jump k s r) f = all-declared r f
+
+  all-given : (xs : List Param) → ((n : ℕ) → Named n xs → P n 0) → Given P xs
+  all-given [] f = tt
+  all-given (x ∷ xs) f = (f (x .name) (inl refl), all-given xs (λ n q. f n (inr q)))
+
+-- a parameter or `this` of the name, born at 0, or a Let or Const of the name and span
+abbrev pub Registered : Image → ℕ → ℕ → Type 0
+Registered i n b = ((b ≡ 0) × Named n (localsOf (i .entry))) ⊎ Declared n b (i .body .code)
+
+-- so is each left-behind entry of an image
+pub left-registered : (i : Image) → Each (LeftBorn (Registered i)) (reports i)
+left-registered i =
+    left-born (Registered i) i (all-given (Registered i) (localsOf (i .entry)) (λ n q. inl (refl, q)))
+    (all-declared (Registered i) (i .body .code) (λ n b q. inr q))

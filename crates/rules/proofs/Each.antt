@@ -1,4 +1,4 @@
--- A fact of each report of a list, whatever its kind.
+-- A fact of each report of a list, whatever its kind; of what is left behind by way of the locals whose entries they are.
 -- Assumes nothing.
 use Prim.Native.Nat.{ℕ}
 use mathlib.Core.Bool.{Bool, true, false, cond, _&&_}
@@ -10,7 +10,7 @@ use Rattle.rules.specs.Stack.{Static, Local, local, Stack, Shape, shape,
 use Rattle.rules.specs.State.{State, alive, gone, isAlive, deleted, moved, consumed}
 use Rattle.rules.specs.Effects.{Effect, use′, kill, hand, badMove, globalMove}
 use Rattle.rules.specs.Rules.{states, apply, Place, concerns}
-use Rattle.rules.specs.Report.{Report, error, leftAt, badUse, useOf, reportOf, reportAll, leftBehind}
+use Rattle.rules.specs.Report.{Report, error, left, leftAt, badUse, useOf, reportOf, reportAll, leftBehind}
 
 unfoldable pub Each : (Report → Type 0) → List Report → Type 0
 Each Q [] = Unit {0}
@@ -20,6 +20,20 @@ Each Q (r ∷ rs) = Q r × Each Q rs
 abbrev pub EachLocal : (Static → Type 0) → Shape → Type 0
 EachLocal P [] = Unit {0}
 EachLocal P (s ∷ Γ) = P s × EachLocal P Γ
+
+-- entries with a span, each of a local of its own, in the order of the locals
+pub data Own (p : ℕ) : Shape → List Report → Type 0 where
+  none-left : Own p [] []
+  left-out : {s : Static} {Γ : Shape} {rs : List Report} → Own p Γ rs → Own p (s ∷ Γ) rs
+  listed : {s : Static} {Γ : Shape} {rs : List Report} → Own p Γ rs → Own p (s ∷ Γ) (left p (s .name) (s .born) ∷ rs)
+
+pub left-own : (T : Tables) (p : ℕ) (w : Place) (σ : Stack State) → Own p (shape σ) (leftBehind T p w σ)
+left-own T p w [] = none-left
+left-own T p w (local s a ∷ σ) = go (concerns w s && isAlive a && auto T (s .ty)) (left-own T p w σ)
+  where
+    go : (b : Bool) → Own p (shape σ) (leftBehind T p w σ) → Own p (s ∷ shape σ) (cond b (leftAt p s ∷ leftBehind T p w σ) (leftBehind T p w σ))
+    go true o = listed o
+    go false o = left-out o
 
 module _ (Q : Report → Type 0) where
   pub each-none : Each Q []
@@ -35,14 +49,10 @@ module _ (Q : Report → Type 0) where
   each-both [] qs p q = q
   each-both (r ∷ rs) qs p q = (p .0, each-both rs qs (p .1) q)
 
-  -- what a place leaves behind
-  pub each-left : (T : Tables) (p : ℕ) (w : Place) (σ : Stack State) → EachLocal (λ s. Q (leftAt p s)) (shape σ) → Each Q (leftBehind T p w σ)
-  each-left T p w [] f = each-none
-  each-left T p w (local s a ∷ σ) f = go (concerns w s && isAlive a && auto T (s .ty)) (each-left T p w σ (f .1))
-    where
-      go : (b : Bool) → Each Q (leftBehind T p w σ) → Each Q (cond b (leftAt p s ∷ leftBehind T p w σ) (leftBehind T p w σ))
-      go true e = each-more _ _ (f .0) e
-      go false e = e
+  pub each-own : (p : ℕ) {Γ : Shape} {rs : List Report} → Own p Γ rs → EachLocal (λ s. Q (left p (s .name) (s .born))) Γ → Each Q rs
+  each-own p none-left f = each-none
+  each-own p (left-out o) f = each-own p o (f .1)
+  each-own p (listed o) f = each-more _ _ (f .0) (each-own p o (f .1))
 
   -- effects report errors and nothing else
   module _ (errs : (k p h : ℕ) (ps : List ℕ) → Q (error k p h ps)) where

@@ -28,7 +28,7 @@ use Rattle.rules.specs.State.{State}
 use Rattle.rules.specs.Effects.{Effect, effects, exprStmtEffects, assignEffects}
 use Rattle.rules.specs.Rules.{states, evaluate, afterExpr, afterVariable, beforeAssign, afterAssign, exit, behindIf, behindThen, behindLoop, entered, localsOf, declared, Place, atReturn, atJump}
 use Rattle.rules.specs.Report.{Report, error, warning, left, reportAll, unused, leftBehind, exprBytes, codeBytes, report, bodyStart, reports}
-use Rattle.rules.proofs.Each.{Each, EachLocal, each-none, each-more, each-both, each-left, each-effects}
+use Rattle.rules.proofs.Each.{Each, EachLocal, each-none, each-more, each-both, each-own, each-effects, left-own}
 use Rattle.rules.specs.Expr.{nobody, tyOf, View, anIdent, aThis, aField, aDelete, aCall, other, viewOf, view, fieldView, deleteView, callView, calleeAt, calleeIn, isCall}
 
 -- an expression's encoding stands there
@@ -129,7 +129,7 @@ none-warned [] = tt
 none-warned (s ∷ Γ) = (tt, none-warned Γ)
 
 of-left : (T : Tables) (s : List ℕ) (p : ℕ) (w : Place) (σ : Stack State) → Warned s (leftBehind T p w σ)
-of-left T s p w σ = each-left (AtCallee s) T p w σ (none-warned (shape σ))
+of-left T s p w σ = each-own (AtCallee s) p (left-own T p w σ) (none-warned (shape σ))
 
 is-call : (v : View) → isCall v ≡ true → (f : Expr) × (v ≡ aCall f)
 is-call (anIdent n p) e = false-true e

@@ -229,6 +229,12 @@ births =
     (new 21 2 (ifElse 22 literal 23 (moving 24 (w 25) (assign 26 (w 27) literal 1 tt end)) 28 end
     (while 29 literal 30 (moving 31 (w 32) (assign 33 (w 34) literal 1 tt end)) (bareReturn 35 0 end))))
     (error 2 27 0 (25 ∷ []) ∷ error 2 34 0 (32 ∷ []) ∷ left 35 2 21 ∷ []) []
+    -- one name in nested blocks; behind the block the outer one alone; `this`
+    ∷ row (param 0 ∷ []) (new 21 1 (block 22 (new 23 1 (bareReturn 24 0 end)) (block 25 (new 26 1 end) (new 27 2 (bareReturn 28 0 end)))))
+    (new 21 1 (block 22 (new 23 1 (bareReturn 24 0 end)) (block 25 (new 26 1 (deletion 25 1 end)) (new 27 2 (bareReturn 28 0 end)))))
+    (left 24 1 23 ∷ left 24 1 21 ∷ left 24 0 0 ∷ left 28 2 27 ∷ left 28 1 21 ∷ left 28 0 0 ∷ []) (alive ∷ [])
+    -- moved and registered again, both locals of the name live
+    ∷ asIs [] (new 21 1 (moving 22 (v 23) (new 24 1 (bareReturn 25 0 end)))) (left 25 1 24 ∷ left 25 1 21 ∷ []) []
     -- a Const, in a loop
     ∷ row [] (while 20 literal 21 (variable true 22 1 1 literal (jump true 23 end)) end) (while 20 literal 21 (variable true 22 1 1 literal (jump true 23 (deletion 21 1 end))) end) (left 23 1 22 ∷ []) []
     ∷ []

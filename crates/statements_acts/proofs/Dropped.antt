@@ -49,22 +49,22 @@ bounded-more at m place put j place′ put′ b t lp lq =
 pub bounded-one : (at m place put j : ℕ) → Bounded at m place put → Top m j → (place + 21 ≤ at + 1344) × (put + 1 ≤ 64)
 bounded-one at m place put j b t = let l : j < b .n = top-below m j (b .n) t (b .word) in (omega (arith, b .room), omega (arith, b .many))
 
--- two numbers for each, or the 73 bytes of a line
-pub record Paired (at m place : ℕ) : Type 0 where
+-- three numbers for each, or the 73 bytes of a line
+pub record Placed (at m place : ℕ) : Type 0 where
   pub n : ℕ
   pub word : m < 2 ^ n
   pub room : place + 73 * n ≤ at + 4672
 
-pub paired-none : (at m : ℕ) → m < 2 ^ 64 → Paired at m at
-paired-none at m h = record { n = 64; word = h; room = omega arith }
+pub placed-none : (at m : ℕ) → m < 2 ^ 64 → Placed at m at
+placed-none at m h = record { n = 64; word = h; room = omega arith }
 
-pub paired-more : (at m place j place′ : ℕ) → Paired at m place → Top m j → place′ ≤ place + 73 → Paired at (m - 2 ^ j) place′
-paired-more at m place j place′ b t lp =
+pub placed-more : (at m place j place′ : ℕ) → Placed at m place → Top m j → place′ ≤ place + 73 → Placed at (m - 2 ^ j) place′
+placed-more at m place j place′ b t lp =
     let l : j < b .n = top-below m j (b .n) t (b .word) in
     record { n = j; word = top-rest m j t; room = omega (arith, b .room) }
 
-pub paired-one : (at m place j : ℕ) → Paired at m place → Top m j → place + 73 ≤ at + 4672
-paired-one at m place j b t = let l : j < b .n = top-below m j (b .n) t (b .word) in omega (arith, b .room)
+pub placed-one : (at m place j : ℕ) → Placed at m place → Top m j → place + 73 ≤ at + 4672
+placed-one at m place j b t = let l : j < b .n = top-below m j (b .n) t (b .word) in omega (arith, b .room)
 
 and-assoc : (a b c : Bool) → ((a && b) && c) ≡ (a && (b && c))
 and-assoc true b c = refl

@@ -309,11 +309,11 @@ transform-block-loop-again t c =
     let at-next-change = c .before .before .before .before .before .before .before .before .before .before .before in
     absurd (at-next-change .next-change .ensures .1 .2 (c .enum-told .given .1))
 
--- src/lib.rt:171:21
+-- src/lib.rt:172:21
 transform-block-enum-told-2 : (t : ℕ) → transform-block-lts.Need-enum-told-2 (transform-block-claims t) (transform-block-at t) transform-block.Post transform-block-Inv-loop transform-block-μ-loop
 transform-block-enum-told-2 t c = search needs
 
--- src/lib.rt:166:17
+-- src/lib.rt:167:17
 transform-block-end-block-requires : (t : ℕ) → transform-block-lts.Need-end-block-requires (transform-block-claims t) (transform-block-at t) transform-block.Post transform-block-Inv-loop transform-block-μ-loop
 transform-block-end-block-requires t c κs =
     let at-enum-told2 = c .before .before .before .before .before in
@@ -338,7 +338,7 @@ transform-block-end-block-requires t c κs =
       at-loop .loop .inv .long .pl,
     )
 
--- src/lib.rt:178:17
+-- src/lib.rt:179:17
 transform-block-leave-requires : (t : ℕ) → transform-block-lts.Need-leave-requires (transform-block-claims t) (transform-block-at t) transform-block.Post transform-block-Inv-loop transform-block-μ-loop
 transform-block-leave-requires t c κs =
     let at-loop = c .before .before .before .before .before .before .before .before .before .before .before .before .before .before .before .before .before .before .before .before .before .before .before .before .before .before .before .before .before .before .before .before .before .before .before in
@@ -346,13 +346,13 @@ transform-block-leave-requires t c κs =
     let small = at-loop .loop .inv .owned .sound .kept .small in
     (at-loop .loop .inv .owned .sound .held, omega (arith, most, small), omega (arith, most, small))
 
--- src/lib.rt:178:17
+-- src/lib.rt:179:17
 transform-block-same-length : (t : ℕ) → transform-block-lts.Need-same-length (transform-block-claims t) (transform-block-at t) transform-block.Post transform-block-Inv-loop transform-block-μ-loop
 transform-block-same-length t c =
     let at-loop = c .before .before .before .before .before .before .before .before .before .before .before .before .before .before .before .before .before .before .before .before .before .before .before .before .before .before .before .before .before .before .before .before .before .before .before .before in
     at-loop .loop .inv .owned .below .room
 
--- src/lib.rt:178:17
+-- src/lib.rt:179:17
 transform-block-same-length-2 : (t : ℕ) → transform-block-lts.Need-same-length-2 (transform-block-claims t) (transform-block-at t) transform-block.Post transform-block-Inv-loop transform-block-μ-loop
 transform-block-same-length-2 t c =
     let at-end-block = c .before .before .before in
@@ -361,28 +361,28 @@ transform-block-same-length-2 t c =
     let at-head = at-loop .before .before .before in
     omega (arith, at-end-block .end-block .kept .1 .1 .1 .1 .1 .1 .1 .1 .0, at-next-change .next-change .kept .1 .1 .1 .1 .1 .1 .1 .1 .1 .1 .1 .0, at-loop .loop .inv .long .out, at-head .head .kept .1 .1 .0)
 
--- src/lib.rt:178:17
+-- src/lib.rt:179:17
 transform-block-same-length-3 : (t : ℕ) → transform-block-lts.Need-same-length-3 (transform-block-claims t) (transform-block-at t) transform-block.Post transform-block-Inv-loop transform-block-μ-loop
 transform-block-same-length-3 t c =
     let at-next-change = c .before .before .before .before .before .before .before .before .before .before .before .before .before .before .before .before .before .before .before .before in
     let at-loop = at-next-change .before .before .before .before .before .before .before .before .before .before .before .before .before .before .before .before in
     omega (arith, at-next-change .next-change .kept .1 .1 .1 .1 .1 .1 .1 .1 .1 .1 .1 .1 .0, at-loop .loop .inv .long .errs)
 
--- src/lib.rt:178:17
+-- src/lib.rt:179:17
 transform-block-same-length-4 : (t : ℕ) → transform-block-lts.Need-same-length-4 (transform-block-claims t) (transform-block-at t) transform-block.Post transform-block-Inv-loop transform-block-μ-loop
 transform-block-same-length-4 t c =
     let at-next-change = c .before .before .before .before .before .before .before .before .before .before .before .before .before .before .before .before .before .before .before .before in
     let at-loop = at-next-change .before .before .before .before .before .before .before .before .before .before .before .before .before .before .before .before in
     omega (arith, at-next-change .next-change .kept .1 .1 .1 .1 .1 .1 .1 .1 .1 .1 .1 .1 .1 .0, at-loop .loop .inv .long .warns)
 
--- src/lib.rt:178:17
+-- src/lib.rt:179:17
 transform-block-same-length-5 : (t : ℕ) → transform-block-lts.Need-same-length-5 (transform-block-claims t) (transform-block-at t) transform-block.Post transform-block-Inv-loop transform-block-μ-loop
 transform-block-same-length-5 t c =
     let at-next-change = c .before .before .before .before .before .before .before .before .before .before .before .before .before .before .before .before .before .before .before .before in
     let at-loop = at-next-change .before .before .before .before .before .before .before .before .before .before .before .before .before .before .before .before in
     omega (arith, at-next-change .next-change .kept .1 .1 .1 .1 .1 .1 .1 .1 .1 .1 .1 .1 .1 .1 .0, at-loop .loop .inv .long .lefts)
 
--- src/lib.rt:178:17
+-- src/lib.rt:179:17
 transform-block-returns : (t : ℕ) → transform-block-lts.Need-returns (transform-block-claims t) (transform-block-at t) transform-block.Post transform-block-Inv-loop transform-block-μ-loop
 transform-block-returns t c =
     let at-end-block = c .before .before .before in
@@ -417,11 +417,11 @@ transform-block-returns t c =
     let q = done-as _ _ (start .args .env) (at-inner .inner .result) _ _ _ _ _ _ _ _ _ _ _ _ _ (at-inner .inner .ensures) (at-place-in .place-in .ensures) d in
     ((q .comes, q .nodes), q .walks)
 
--- src/lib.rt:180:24
+-- src/lib.rt:181:24
 transform-block-enum-known-turn : (t : ℕ) → transform-block-lts.Need-enum-known-turn (transform-block-claims t) (transform-block-at t) transform-block.Post transform-block-Inv-loop transform-block-μ-loop
 transform-block-enum-known-turn t c = search needs
 
--- src/lib.rt:181:22
+-- src/lib.rt:182:22
 transform-block-mark-requires : (t : ℕ) → transform-block-lts.Need-mark-requires (transform-block-claims t) (transform-block-at t) transform-block.Post transform-block-Inv-loop transform-block-μ-loop
 transform-block-mark-requires t c κs =
     let at-turn = c .before .before .before .before in
@@ -451,25 +451,25 @@ transform-block-loop-again-2 t c =
     (start .args .outer) (start .args .states) (start .args .rows .now) _ (start .args .errs .now) (start .args .warns .now) (start .args .lefts .now) _ _ _ _ h
     (c .mark .result) (c .mark .ensures .0) (c .mark .ensures .1 (at-loop .loop .l) refl refl refl)
 
--- src/lib.rt:183:28
+-- src/lib.rt:184:28
 transform-block-enum-known-turn-2 : (t : ℕ) → transform-block-lts.Need-enum-known-turn-2 (transform-block-claims t) (transform-block-at t) transform-block.Post transform-block-Inv-loop transform-block-μ-loop
 transform-block-enum-known-turn-2 t c = search needs
 
--- src/lib.rt:184:20
+-- src/lib.rt:185:20
 transform-block-full-requires : (t : ℕ) → transform-block-lts.Need-full-requires (transform-block-claims t) (transform-block-at t) transform-block.Post transform-block-Inv-loop transform-block-μ-loop
 transform-block-full-requires t c κs = tt
 
--- src/lib.rt:185:21
+-- src/lib.rt:186:21
 transform-block-element-write-pl : (t : ℕ) → transform-block-lts.Need-element-write-pl (transform-block-claims t) (transform-block-at t) transform-block.Post transform-block-Inv-loop transform-block-μ-loop
 transform-block-element-write-pl t c = search needs
 
--- src/lib.rt:186:21
+-- src/lib.rt:187:21
 transform-block-same-length-6 : (t : ℕ) → transform-block-lts.Need-same-length-6 (transform-block-claims t) (transform-block-at t) transform-block.Post transform-block-Inv-loop transform-block-μ-loop
 transform-block-same-length-6 t c =
     let at-loop = c .before .before .before .before .before .before .before .before .before .before .before .before .before .before .before .before .before .before .before .before .before .before .before .before .before .before .before .before .before .before in
     at-loop .loop .inv .owned .below .room
 
--- src/lib.rt:186:21
+-- src/lib.rt:187:21
 transform-block-same-length-7 : (t : ℕ) → transform-block-lts.Need-same-length-7 (transform-block-claims t) (transform-block-at t) transform-block.Post transform-block-Inv-loop transform-block-μ-loop
 transform-block-same-length-7 t c =
     let at-next-change = c .before .before .before .before .before .before .before .before .before .before .before .before .before .before in
@@ -477,28 +477,28 @@ transform-block-same-length-7 t c =
     let at-head = at-loop .before .before .before in
     omega (arith, at-next-change .next-change .kept .1 .1 .1 .1 .1 .1 .1 .1 .1 .1 .1 .0, at-loop .loop .inv .long .out, at-head .head .kept .1 .1 .0)
 
--- src/lib.rt:186:21
+-- src/lib.rt:187:21
 transform-block-same-length-8 : (t : ℕ) → transform-block-lts.Need-same-length-8 (transform-block-claims t) (transform-block-at t) transform-block.Post transform-block-Inv-loop transform-block-μ-loop
 transform-block-same-length-8 t c =
     let at-next-change = c .before .before .before .before .before .before .before .before .before .before .before .before .before .before in
     let at-loop = at-next-change .before .before .before .before .before .before .before .before .before .before .before .before .before .before .before .before in
     omega (arith, at-next-change .next-change .kept .1 .1 .1 .1 .1 .1 .1 .1 .1 .1 .1 .1 .0, at-loop .loop .inv .long .errs)
 
--- src/lib.rt:186:21
+-- src/lib.rt:187:21
 transform-block-same-length-9 : (t : ℕ) → transform-block-lts.Need-same-length-9 (transform-block-claims t) (transform-block-at t) transform-block.Post transform-block-Inv-loop transform-block-μ-loop
 transform-block-same-length-9 t c =
     let at-next-change = c .before .before .before .before .before .before .before .before .before .before .before .before .before .before in
     let at-loop = at-next-change .before .before .before .before .before .before .before .before .before .before .before .before .before .before .before .before in
     omega (arith, at-next-change .next-change .kept .1 .1 .1 .1 .1 .1 .1 .1 .1 .1 .1 .1 .1 .0, at-loop .loop .inv .long .warns)
 
--- src/lib.rt:186:21
+-- src/lib.rt:187:21
 transform-block-same-length-10 : (t : ℕ) → transform-block-lts.Need-same-length-10 (transform-block-claims t) (transform-block-at t) transform-block.Post transform-block-Inv-loop transform-block-μ-loop
 transform-block-same-length-10 t c =
     let at-next-change = c .before .before .before .before .before .before .before .before .before .before .before .before .before .before in
     let at-loop = at-next-change .before .before .before .before .before .before .before .before .before .before .before .before .before .before .before .before in
     omega (arith, at-next-change .next-change .kept .1 .1 .1 .1 .1 .1 .1 .1 .1 .1 .1 .1 .1 .1 .0, at-loop .loop .inv .long .lefts)
 
--- src/lib.rt:186:21
+-- src/lib.rt:187:21
 transform-block-returns-2 : (t : ℕ) → transform-block-lts.Need-returns-2 (transform-block-claims t) (transform-block-at t) transform-block.Post transform-block-Inv-loop transform-block-μ-loop
 transform-block-returns-2 t c =
     let at-full = c .before in
@@ -529,17 +529,17 @@ transform-block-returns-2 t c =
     let q = done-as _ _ (start .args .env) (at-inner .inner .result) _ _ _ _ _ _ _ _ _ _ _ _ _ (at-inner .inner .ensures) (at-place-in .place-in .ensures) d in
     ((q .comes, q .nodes), q .walks)
 
--- src/lib.rt:192:53
+-- src/lib.rt:194:53
 transform-block-cast-auto-deleted : (t : ℕ) → transform-block-lts.Need-cast-auto-deleted (transform-block-claims t) (transform-block-at t) transform-block.Post transform-block-Inv-loop transform-block-μ-loop
 transform-block-cast-auto-deleted t c = search needs
 
--- src/lib.rt:192:21
+-- src/lib.rt:194:21
 transform-block-auto-deleted-requires : (t : ℕ) → transform-block-lts.Need-auto-deleted-requires (transform-block-claims t) (transform-block-at t) transform-block.Post transform-block-Inv-loop transform-block-μ-loop
 transform-block-auto-deleted-requires t c κs =
     let start = c .before .before .before .before .before .before .before .before .before .before .before .before .before .before .before .before .before .before .before .before .before .before .before .before .before .before .before .before .before .before .before .before .before .before .before .before .before .before .before .before .before .before .before .before .before .before in
     (start .pre .1 .0 .lent .filled .size, start .pre .1 .0 .lent .filled .fewTypes)
 
--- src/lib.rt:188:21
+-- src/lib.rt:189:21
 transform-block-register-local-requires : (t : ℕ) → transform-block-lts.Need-register-local-requires (transform-block-claims t) (transform-block-at t) transform-block.Post transform-block-Inv-loop transform-block-μ-loop
 transform-block-register-local-requires t c κs =
     let at-if1 = c .before in
@@ -548,11 +548,11 @@ transform-block-register-local-requires t c κs =
     let start = at-loop .before .before .before .before .before .before .before .before .before .before .before .before .before .before .before .before in
     (at-loop .loop .inv .owned .sound .kept, omega (arith, at-full .full .ensures .1 (at-if1 .if1 .left), start .pre .1 .0 .limit))
 
--- src/lib.rt:194:20
+-- src/lib.rt:196:20
 transform-block-needs-revival-requires : (t : ℕ) → transform-block-lts.Need-needs-revival-requires (transform-block-claims t) (transform-block-at t) transform-block.Post transform-block-Inv-loop transform-block-μ-loop
 transform-block-needs-revival-requires t c κs = search needs
 
--- src/lib.rt:195:26
+-- src/lib.rt:197:26
 transform-block-mark-requires-2 : (t : ℕ) → transform-block-lts.Need-mark-requires-2 (transform-block-claims t) (transform-block-at t) transform-block.Post transform-block-Inv-loop transform-block-μ-loop
 transform-block-mark-requires-2 t c κs =
     let at-register-local = c .before .before .before .before .before .before .before .before in
@@ -613,17 +613,17 @@ transform-block-loop-again-4 t c =
     (at-register-local .register-local .ensures) (omega (arith, at-full .full .ensures .1 (at-if1 .if1 .left), start .pre .1 .0 .limit))
     (at-needs-revival .needs-revival .ensures (aliveAt (at-loop .loop .st)) (at-loop .loop .inv .owned .sound .held .word) (c .if2 .left))
 
--- src/lib.rt:198:26
+-- src/lib.rt:200:26
 transform-block-enum-known-turn-3 : (t : ℕ) → transform-block-lts.Need-enum-known-turn-3 (transform-block-claims t) (transform-block-at t) transform-block.Post transform-block-Inv-loop transform-block-μ-loop
 transform-block-enum-known-turn-3 t c = search needs
 
--- src/lib.rt:199:17
+-- src/lib.rt:201:17
 transform-block-put-place-requires : (t : ℕ) → transform-block-lts.Need-put-place-requires (transform-block-claims t) (transform-block-at t) transform-block.Post transform-block-Inv-loop transform-block-μ-loop
 transform-block-put-place-requires t c κs =
     let at-loop = c .before .before .before .before .before .before .before .before .before .before .before .before .before .before .before .before .before .before .before .before .before .before .before .before .before .before .before .before .before in
     at-loop .loop .inv .long .pl
 
--- src/lib.rt:200:22
+-- src/lib.rt:202:22
 transform-block-transform-blocks-requires : (t : ℕ) → transform-block-lts.Need-transform-blocks-requires (transform-block-claims t) (transform-block-at t) transform-block.Post transform-block-Inv-loop transform-block-μ-loop
 transform-block-transform-blocks-requires t c κs =
     let at-put-place = c .before .before .before .before .before .before .before in
@@ -656,18 +656,18 @@ transform-block-transform-blocks-requires t c κs =
       ),
     )
 
--- src/lib.rt:215:24
+-- src/lib.rt:217:24
 transform-block-element-copy-out-if3 : (t : ℕ) → transform-block-lts.Need-element-copy-out-if3 (transform-block-claims t) (transform-block-at t) transform-block.Post transform-block-Inv-loop transform-block-μ-loop
 transform-block-element-copy-out-if3 t c = search needs
 
--- src/lib.rt:216:21
+-- src/lib.rt:218:21
 transform-block-same-length-11 : (t : ℕ) → transform-block-lts.Need-same-length-11 (transform-block-claims t) (transform-block-at t) transform-block.Post transform-block-Inv-loop transform-block-μ-loop
 transform-block-same-length-11 t c =
     let at-transform-blocks = c .before .before .before .before .before .before .before .before .before .before .before .before in
     let at-loop = at-transform-blocks .before .before .before .before .before .before .before .before .before .before .before .before .before .before .before .before .before .before .before .before .before .before .before .before .before .before .before .before .before .before .before .before .before .before .before .before .before .before in
     omega (arith, at-transform-blocks .transform-blocks .kept .1 .1 .1 .1 .1 .1 .0, at-loop .loop .inv .owned .below .room)
 
--- src/lib.rt:216:21
+-- src/lib.rt:218:21
 transform-block-same-length-12 : (t : ℕ) → transform-block-lts.Need-same-length-12 (transform-block-claims t) (transform-block-at t) transform-block.Post transform-block-Inv-loop transform-block-μ-loop
 transform-block-same-length-12 t c =
     let at-transform-blocks = c .before .before .before .before .before .before .before .before .before .before .before .before in
@@ -676,7 +676,7 @@ transform-block-same-length-12 t c =
     let at-head = at-loop .before .before .before in
     omega (arith, at-transform-blocks .transform-blocks .kept .1 .1 .1 .1 .1 .1 .1 .1 .0, at-next-change .next-change .kept .1 .1 .1 .1 .1 .1 .1 .1 .1 .1 .1 .0, at-loop .loop .inv .long .out, at-head .head .kept .1 .1 .0)
 
--- src/lib.rt:216:21
+-- src/lib.rt:218:21
 transform-block-same-length-13 : (t : ℕ) → transform-block-lts.Need-same-length-13 (transform-block-claims t) (transform-block-at t) transform-block.Post transform-block-Inv-loop transform-block-μ-loop
 transform-block-same-length-13 t c =
     let at-transform-blocks = c .before .before .before .before .before .before .before .before .before .before .before .before in
@@ -684,7 +684,7 @@ transform-block-same-length-13 t c =
     let at-loop = at-next-change .before .before .before .before .before .before .before .before .before .before .before .before .before .before .before .before in
     omega (arith, at-transform-blocks .transform-blocks .kept .1 .1 .1 .1 .1 .1 .1 .1 .1 .0, at-next-change .next-change .kept .1 .1 .1 .1 .1 .1 .1 .1 .1 .1 .1 .1 .0, at-loop .loop .inv .long .errs)
 
--- src/lib.rt:216:21
+-- src/lib.rt:218:21
 transform-block-same-length-14 : (t : ℕ) → transform-block-lts.Need-same-length-14 (transform-block-claims t) (transform-block-at t) transform-block.Post transform-block-Inv-loop transform-block-μ-loop
 transform-block-same-length-14 t c =
     let at-transform-blocks = c .before .before .before .before .before .before .before .before .before .before .before .before in
@@ -692,7 +692,7 @@ transform-block-same-length-14 t c =
     let at-loop = at-next-change .before .before .before .before .before .before .before .before .before .before .before .before .before .before .before .before in
     omega (arith, at-transform-blocks .transform-blocks .kept .1 .1 .1 .1 .1 .1 .1 .1 .1 .1 .0, at-next-change .next-change .kept .1 .1 .1 .1 .1 .1 .1 .1 .1 .1 .1 .1 .1 .0, at-loop .loop .inv .long .warns)
 
--- src/lib.rt:216:21
+-- src/lib.rt:218:21
 transform-block-same-length-15 : (t : ℕ) → transform-block-lts.Need-same-length-15 (transform-block-claims t) (transform-block-at t) transform-block.Post transform-block-Inv-loop transform-block-μ-loop
 transform-block-same-length-15 t c =
     let at-transform-blocks = c .before .before .before .before .before .before .before .before .before .before .before .before in
@@ -700,7 +700,7 @@ transform-block-same-length-15 t c =
     let at-loop = at-next-change .before .before .before .before .before .before .before .before .before .before .before .before .before .before .before .before in
     omega (arith, at-transform-blocks .transform-blocks .kept .1 .1 .1 .1 .1 .1 .1 .1 .1 .1 .1 .0, at-next-change .next-change .kept .1 .1 .1 .1 .1 .1 .1 .1 .1 .1 .1 .1 .1 .1 .0, at-loop .loop .inv .long .lefts)
 
--- src/lib.rt:216:21
+-- src/lib.rt:218:21
 transform-block-returns-3 : (t : ℕ) → transform-block-lts.Need-returns-3 (transform-block-claims t) (transform-block-at t) transform-block.Post transform-block-Inv-loop transform-block-μ-loop
 transform-block-returns-3 t c =
     let at-transform-blocks = c .before .before .before .before .before .before .before .before .before .before .before .before in
@@ -731,7 +731,7 @@ transform-block-returns-3 t c =
     let q = done-as _ _ (start .args .env) (at-inner .inner .result) _ _ _ _ _ _ _ _ _ _ _ _ _ (at-inner .inner .ensures) (at-place-in .place-in .ensures) d in
     ((q .comes, q .nodes), q .walks)
 
--- src/lib.rt:218:17
+-- src/lib.rt:220:17
 transform-block-resumed-requires : (t : ℕ) → transform-block-lts.Need-resumed-requires (transform-block-claims t) (transform-block-at t) transform-block.Post transform-block-Inv-loop transform-block-μ-loop
 transform-block-resumed-requires t c κs = tt
 

@@ -22,11 +22,11 @@ Inv-loop out₀ at word list width many left₀ entry₀ p₀ out left entry p =
 abbrev μ-loop : tie.MeasureT-loop
 μ-loop out₀ at word list width many left₀ entry₀ p₀ out left entry p = left
 
--- src/main.rt:90:5
+-- src/main.rt:104:5
 loop-holds : tie.Need-loop-holds Inv-loop μ-loop
 loop-holds c = (omega arith, refl, omega arith, λ z q s. s)
 
--- src/main.rt:91:9
+-- src/main.rt:105:9
 put-entry-requires : tie.Need-put-entry-requires Inv-loop μ-loop
 put-entry-requires c κs =
     let start = c .before .before .before .before .before .before in
@@ -34,27 +34,27 @@ put-entry-requires c κs =
     let step = width-step (start .args .width) (c .before .before .loop .left) (c .before .loop-test .taken) in
     (omega (arith, c .before .before .loop .inv .2), pre .2, pre .3, omega (arith, c .before .before .loop .inv .0, step, pre .4))
 
--- src/main.rt:92:9
+-- src/main.rt:106:9
 add-entry : tie.Need-add-entry Inv-loop μ-loop
 add-entry c = search needs
 
--- src/main.rt:93:9
+-- src/main.rt:107:9
 sub-left : tie.Need-sub-left Inv-loop μ-loop
 sub-left c = search needs
 
--- src/main.rt:90:5
+-- src/main.rt:104:5
 loop-less : tie.Need-loop-less Inv-loop μ-loop
 loop-less c = search needs
 
--- src/main.rt:90:5
+-- src/main.rt:104:5
 loop-again : tie.Need-loop-again Inv-loop μ-loop
 loop-again c = (omega (arith, c .before .before .before .before .before .loop .inv .0, width-step (c .before .before .before .before .before .before .before .before .before .args .width) (c .before .before .before .before .before .loop .left) (c .before .before .before .before .loop-test .taken), c .before .before .before .before .loop-test .taken), stored-length (c .before .before .put-entry .ensures .0) ∙ c .before .before .before .before .before .loop .inv .1, omega (arith, c .before .before .before .before .before .loop .inv .2, c .before .before .before .before .loop-test .taken, c .before .before .put-entry .ensures .1), λ z q s. c .before .before .before .before .before .loop .inv .3 z q (next-line _ _ _ _ (c .before .before .before .before .loop-test .taken) (c .before .before .put-entry .ensures .0) s))
 
--- src/main.rt:83:1
+-- src/main.rt:90:1
 same-length : tie.Need-same-length Inv-loop μ-loop
 same-length c = search needs
 
--- src/main.rt:83:1
+-- src/main.rt:90:1
 returns : tie.Need-returns Inv-loop μ-loop
 returns c = let e : c .before .loop .left ≡ 0 = omega (arith, c .loop-test .left) in (c .before .loop .inv .3 _ _ (no-line _ _ _ _ _ _ e), omega (arith, e, c .before .loop .inv .2))
 

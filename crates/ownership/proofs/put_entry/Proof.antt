@@ -8,23 +8,23 @@ use Rattle.ownership.proofs.put_entry.Lts as lts
 use Rattle.ownership.proofs.put_numbers.Reads as put-numbers-reads
 use Rattle.programs_text.proofs.put_text.Reads as put-text-reads
 
--- src/main.rt:77:9
+-- src/main.rt:84:9
 put-text-requires : tie.Need-put-text-requires
 put-text-requires c κs = search needs
 
--- src/main.rt:78:53
+-- src/main.rt:85:53
 add-put-numbers : tie.Need-add-put-numbers
 add-put-numbers c = search needs
 
--- src/main.rt:78:9
+-- src/main.rt:85:9
 put-numbers-requires : tie.Need-put-numbers-requires
 put-numbers-requires c κs = search needs
 
--- src/main.rt:79:40
+-- src/main.rt:86:40
 slice-aggregate-put-text : tie.Need-slice-aggregate-put-text
 slice-aggregate-put-text c = search needs
 
--- src/main.rt:79:5
+-- src/main.rt:86:5
 put-text-requires-2 : tie.Need-put-text-requires-2
 put-text-requires-2 c κs = search needs
 

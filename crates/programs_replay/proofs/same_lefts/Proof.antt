@@ -14,51 +14,51 @@ Inv-loop s at list many p₀ i₀ p i = (i ≤ many) × (many < 65536) × (p ≤
 abbrev μ-loop : tie.MeasureT-loop
 μ-loop s at list many p₀ i₀ p i = many - i
 
--- src/main.rt:235:8
+-- src/main.rt:264:8
 two-requires : tie.Need-two-requires Inv-loop μ-loop
 two-requires c κs = search needs
 
--- src/main.rt:236:9
+-- src/main.rt:265:9
 returns : tie.Need-returns Inv-loop μ-loop
 returns c = tt
 
--- src/main.rt:238:17
+-- src/main.rt:267:17
 add-p : tie.Need-add-p Inv-loop μ-loop
 add-p c = search needs
 
--- src/main.rt:240:5
+-- src/main.rt:269:5
 loop-holds : tie.Need-loop-holds Inv-loop μ-loop
 loop-holds c = search needs
 
--- src/main.rt:241:42
+-- src/main.rt:270:35
 mul-same-left : tie.Need-mul-same-left Inv-loop μ-loop
 mul-same-left c = search needs
 
--- src/main.rt:241:13
+-- src/main.rt:270:13
 same-left-requires : tie.Need-same-left-requires Inv-loop μ-loop
 same-left-requires c κs = search needs
 
--- src/main.rt:242:13
+-- src/main.rt:271:13
 returns-2 : tie.Need-returns-2 Inv-loop μ-loop
 returns-2 c = tt
 
--- src/main.rt:244:14
+-- src/main.rt:273:9
 add-p-2 : tie.Need-add-p-2 Inv-loop μ-loop
 add-p-2 c = search needs
 
--- src/main.rt:245:9
+-- src/main.rt:274:9
 add-i : tie.Need-add-i Inv-loop μ-loop
 add-i c = search needs
 
--- src/main.rt:240:5
+-- src/main.rt:269:5
 loop-less : tie.Need-loop-less Inv-loop μ-loop
 loop-less c = search needs
 
--- src/main.rt:240:5
+-- src/main.rt:269:5
 loop-again : tie.Need-loop-again Inv-loop μ-loop
 loop-again c = search needs
 
--- src/main.rt:232:1
+-- src/main.rt:261:1
 returns-3 : tie.Need-returns-3 Inv-loop μ-loop
 returns-3 c = tt
 

@@ -14,51 +14,51 @@ Inv-loop s at list many p₀ i₀ p i = (i ≤ many) × (many < 65536) × (p ≤
 abbrev μ-loop : tie.MeasureT-loop
 μ-loop s at list many p₀ i₀ p i = many - i
 
--- src/main.rt:235:8
+-- src/main.rt:232:8
 two-requires : tie.Need-two-requires Inv-loop μ-loop
 two-requires c κs = search needs
 
--- src/main.rt:236:9
+-- src/main.rt:233:9
 returns : tie.Need-returns Inv-loop μ-loop
 returns c = tt
 
--- src/main.rt:238:17
+-- src/main.rt:235:17
 add-p : tie.Need-add-p Inv-loop μ-loop
 add-p c = search needs
 
--- src/main.rt:240:5
+-- src/main.rt:237:5
 loop-holds : tie.Need-loop-holds Inv-loop μ-loop
 loop-holds c = search needs
 
--- src/main.rt:241:42
+-- src/main.rt:238:38
 mul-same-warning : tie.Need-mul-same-warning Inv-loop μ-loop
 mul-same-warning c = search needs
 
--- src/main.rt:241:13
+-- src/main.rt:238:13
 same-warning-requires : tie.Need-same-warning-requires Inv-loop μ-loop
 same-warning-requires c κs = search needs
 
--- src/main.rt:242:13
+-- src/main.rt:239:13
 returns-2 : tie.Need-returns-2 Inv-loop μ-loop
 returns-2 c = tt
 
--- src/main.rt:244:14
+-- src/main.rt:241:9
 add-p-2 : tie.Need-add-p-2 Inv-loop μ-loop
 add-p-2 c = search needs
 
--- src/main.rt:245:9
+-- src/main.rt:242:9
 add-i : tie.Need-add-i Inv-loop μ-loop
 add-i c = search needs
 
--- src/main.rt:240:5
+-- src/main.rt:237:5
 loop-less : tie.Need-loop-less Inv-loop μ-loop
 loop-less c = search needs
 
--- src/main.rt:240:5
+-- src/main.rt:237:5
 loop-again : tie.Need-loop-again Inv-loop μ-loop
 loop-again c = search needs
 
--- src/main.rt:232:1
+-- src/main.rt:229:1
 returns-3 : tie.Need-returns-3 Inv-loop μ-loop
 returns-3 c = tt
 

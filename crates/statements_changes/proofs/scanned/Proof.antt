@@ -14,37 +14,29 @@ use Rattle.statements_changes.proofs.told.Reads as told-reads
 use Rattle.statements_changes.proofs.within.Reads as within-reads
 use Rattle.expressions_scan.proofs.scan_on.Reads as scan-on-reads
 
--- src/lib.rt:269:9
 scan-on-requires : tie.Need-scan-on-requires
 scan-on-requires c κs =
     let r = c .before .before .before .before .before .before .before .before .before .pre in
     (r .0, r .1, r .2 .within (r .3) .ready, begun-room _ _ _ (c .before .before .before .before .before .before .before .before .before .args .c) (r .2) (r .3))
 
--- src/lib.rt:270:9
 told-requires : tie.Need-told-requires
 told-requires c κs = search needs
 
--- src/lib.rt:271:9
 within-requires : tie.Need-within-requires
 within-requires c κs = search needs
 
--- src/lib.rt:276:19
 enum-told : tie.Need-enum-told
 enum-told c = search needs
 
--- src/lib.rt:278:40
 enum-known-change : tie.Need-enum-known-change
 enum-known-change c = search needs
 
--- src/lib.rt:238:1
 same-length : tie.Need-same-length
 same-length c = search needs
 
--- src/lib.rt:238:1
 same-length-2 : tie.Need-same-length-2
 same-length-2 c = search needs
 
--- src/lib.rt:238:1
 returns : tie.Need-returns
 returns c =
     let at-scan-on = c .before .before .before .before .before .before .before .before in
@@ -65,15 +57,12 @@ returns c =
       ),
     )
 
--- src/lib.rt:238:1
 same-length-3 : tie.Need-same-length-3
 same-length-3 c = search needs
 
--- src/lib.rt:238:1
 same-length-4 : tie.Need-same-length-4
 same-length-4 c = search needs
 
--- src/lib.rt:238:1
 returns-2 : tie.Need-returns-2
 returns-2 c =
     let at-told = c .before .before .before .before in

@@ -6,7 +6,6 @@ use Rattle.scope_stack.proofs.Locals.new.Tie as tie
 use Rattle.scope_stack.proofs.Locals.new.Reads as reads
 use Rattle.scope_stack.proofs.Locals.new.Lts as lts
 
--- src/lib.rt:139:5
 returns : tie.Need-returns
 returns c = (record { small = omega arith; nameRoom = refl; typeRoom = refl; depthRoom = refl; birthRoom = refl; dtorRoom = omega arith }, refl, λ T. sym (word-none 0 _ (λ k l. absurd (omega arith))))
 
