@@ -175,7 +175,7 @@ static uint64_t page(const char *label, const uint8_t *image, size_t length, uin
 static int check(const char *label, const uint8_t *image, size_t length, uint64_t *sum) {
     uint64_t *room = malloc(sizeof *room);
     uint32_t fault = ownership_room(image, length, room);
-    size_t many[KINDS] = {fault == 0 ? *room : length, 12 * 4096, 2 * 4096, 2 * 4096}, needed[KINDS];
+    size_t many[KINDS] = {fault == 0 ? *room : length, 12 * 4096, 2 * 4096, 3 * 4096}, needed[KINDS];
     free(room);
     *sum += page(label, image, length, fault);
     struct lent l = lend(many);
@@ -278,7 +278,7 @@ int main(int words, char **word) {
     if (words != 3)
         return 2;
     int stack = strcmp(word[1], "stack") == 0;
-    size_t length, roomy[KINDS] = {4 << 20, 12 * 4096, 2 * 4096, 2 * 4096};
+    size_t length, roomy[KINDS] = {4 << 20, 12 * 4096, 2 * 4096, 3 * 4096};
     uint8_t *file = file_of(word[2], &length);
     struct seen s = {0};
     s.stack = mmap(NULL, PAINTED, PROT_READ | PROT_WRITE, MAP_PRIVATE | MAP_ANONYMOUS, -1, 0);

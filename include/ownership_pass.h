@@ -16,8 +16,8 @@
  * valid for its length; what is written to must overlap neither the image nor any other memory lent in the same call. The calls hold
  * no state, allocate nothing and keep no pointer: threads may call them at one time, each with memory of its own to write to.
  *
- * Machine stack: give a thread that calls them 1 MB. Measured (bench/memory.c), ownership_pass takes up to 226,952 bytes,
- * ownership_room 126,808 and ownership_page 180,008. Nothing proves a bound, and a stack that is too small ends the process.
+ * Machine stack: give a thread that calls them 1 MB. Measured (bench/memory.c), ownership_pass takes up to 238,424 bytes,
+ * ownership_room 136,232 and ownership_page 189,432. Nothing proves a bound, and a stack that is too small ends the process.
  *
  * An image of n bytes without faults 1 to 13 has, with m = n - 28 and rounded down, at most m / 7 errors, m / 21 warnings and
  * 64 * (m / 5) left-behind entries, and n + 90 * m bytes of output; for 65,536 bytes 9,358, 3,119, 838,464 and 5,961,256. At least 28
@@ -38,7 +38,8 @@ extern "C" {
 /* The numbers of one entry of each list, and of totals. Lists are lent as numbers: room for n errors is an errors_len of 12 * n. */
 #define OWNERSHIP_ERROR_NUMBERS 12  /* kind 1 to 8, place, hint, count of other places, 8 other places (unused ones 0) */
 #define OWNERSHIP_WARNING_NUMBERS 2 /* the statement's span, the byte offset of the callee's tag in the submitted image */
-#define OWNERSHIP_LEFT_NUMBERS 2    /* the span of the return, break or continue, the local's name */
+#define OWNERSHIP_LEFT_NUMBERS 3    /* the span of the return, break or continue, the local's name, the span of the Let or Const that
+                                     * registered it; 0 for a parameter and `this` */
 #define OWNERSHIP_TOTALS 4          /* bytes written, errors, warnings, left-behind entries */
 
 /* Gives back the body with the deletes inserted, as a whole image, and what is reported, each list in order. On 0 the first bytes of

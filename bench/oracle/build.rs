@@ -63,8 +63,8 @@ fn place_of(path: &str) -> String {
     path.replace("ownership_pass/mod.rs", "ownership_pass/published.rs")
 }
 
-// mod.rs with a note of each registration and each join, of the states at the end, with the file answered from memory, and with drops before
-// breaks and continues.
+// mod.rs with a note of each registration and each join, of the states at the end, with the file answered from memory, with drops before
+// breaks and continues, and with births.
 fn probed(pass: String) -> String {
     let pass = replace(
         pass,
@@ -86,6 +86,17 @@ fn probed(pass: String) -> String {
         let listed = format!("HirStatement::{jump}(span) => {{ {drops} statements.push(HirStatement::{jump}(span)) }}");
         replace(pass, 1, &push, &listed)
     });
+    // document 02, (d): a local keeps the span of the Let or Const that registered it, the default one for parameters and `this`; in the drops of
+    // collect_scope_drops it is the span of the Ident
+    let pass = replace(pass, 1, "is_compiler_temp: bool,\n", "is_compiler_temp: bool,\n    born: crate::atlas_c::utils::Span,\n");
+    let pass = replace(pass, 3, "is_compiler_temp: false,", "is_compiler_temp: false, born: Default::default(),");
+    let temp = |of: &str| format!("is_compiler_temp: self.is_compiler_temp_name({of}.name),");
+    let pass = [("param", 2, "Default::default()"), ("let_stmt", 1, "let_stmt.span"), ("const_stmt", 1, "const_stmt.span")]
+        .iter()
+        .fold(pass, |pass, (of, times, born)| replace(pass, *times, &temp(of), &format!("{} born: {born},", temp(of))));
+    let drops = "drops.push(self.delete_stmt_for(\n                        crate::atlas_c::utils::Span::default(),\n                        local.name,\n                        local.ty,\n                    ));";
+    let born = format!("{drops} born_at(drops.last_mut(), local.born);");
+    let pass = replace(pass, 1, drops, &born);
     replace(pass, 7, "utils::get_file_content(", "crate::probe::file_content(")
 }
 

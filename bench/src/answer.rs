@@ -22,6 +22,9 @@ pub struct Error {
 /// A local's state after the body: 0 Alive, 1 Deleted, 2 Moved, 3 Consumed, 4 to 6 the same under a condition; its places.
 pub type State = (u8, Vec<SpanNo>);
 
+/// A left-behind entry: the span of the return, break or continue, the name, the birth.
+pub type Left = (SpanNo, Name, SpanNo);
+
 #[derive(Debug, Clone, PartialEq, Eq)]
 pub struct Answer {
     pub output: Vec<u8>,
@@ -30,7 +33,7 @@ pub struct Answer {
     pub errors: Vec<Error>,
     /// the statement's span, where the callee's tag stands
     pub warnings: Vec<(SpanNo, usize)>,
-    pub lefts: Vec<(SpanNo, Name)>,
+    pub lefts: Vec<Left>,
     /// of the parameters and `this`, newest first
     pub states: Vec<State>,
 }
@@ -198,11 +201,11 @@ fn hint_of(text: &str) -> u32 {
 
 // In a body with marks, what stands before a return that was bare, a break or a continue and has no mark was inserted there: all deletes of
 // locals.
-fn left_behind<'hir>(block: &HirBlock<'hir>, marks: &Marks, numbers: &mut Numbers<'hir>, lefts: &mut Vec<(SpanNo, Name)>) {
+fn left_behind<'hir>(block: &HirBlock<'hir>, marks: &Marks, numbers: &mut Numbers<'hir>, lefts: &mut Vec<Left>) {
     let mut inserted = vec![];
     for s in &block.statements {
         if s.span() == Span::default() {
-            inserted.push(deleted_name(s, numbers));
+            inserted.push(deleted_local(s, marks, numbers));
             continue;
         }
         match s {
@@ -215,12 +218,12 @@ fn left_behind<'hir>(block: &HirBlock<'hir>, marks: &Marks, numbers: &mut Number
             HirStatement::Return(r) => {
                 let marked = marks.marked[mark_of(r.span).expect("a submitted statement")];
                 if marked.bare_return {
-                    lefts.extend(inserted.iter().map(|name| (marked.span, *name)));
+                    lefts.extend(inserted.iter().map(|(name, born)| (marked.span, *name, *born)));
                 }
             }
             HirStatement::Break(span) | HirStatement::Continue(span) => {
                 let marked = marks.marked[mark_of(*span).expect("a submitted statement")];
-                lefts.extend(inserted.iter().map(|name| (marked.span, *name)));
+                lefts.extend(inserted.iter().map(|(name, born)| (marked.span, *name, *born)));
             }
             _ => {}
         }
@@ -228,12 +231,13 @@ fn left_behind<'hir>(block: &HirBlock<'hir>, marks: &Marks, numbers: &mut Number
     }
 }
 
-fn deleted_name<'hir>(s: &HirStatement<'hir>, numbers: &mut Numbers<'hir>) -> Name {
+// The name and the birth: the span of the Let or Const, by its mark, 0 for a parameter or `this`.
+fn deleted_local<'hir>(s: &HirStatement<'hir>, marks: &Marks, numbers: &mut Numbers<'hir>) -> (Name, SpanNo) {
     if let HirStatement::Expr(e) = s
         && let HirExpr::Delete(d) = &e.expr
         && let HirExpr::Ident(id) = &*d.expr
     {
-        return numbers.name_number(id.name);
+        return (numbers.name_number(id.name), mark_of(id.span).map_or(0, |m| marks.marked[m].span));
     }
     panic!("an inserted statement is the delete of a local")
 }

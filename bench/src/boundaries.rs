@@ -60,6 +60,9 @@ pub fn all() -> Vec<(String, Image)> {
         let breaks = (0..n).map(|i| Stmt::Break(i as SpanNo)).collect();
         add(format!("{n} left behind by breaks"), body(&[], vec![repeat(20, block(21, [locals(1), breaks].concat()))]));
     }
+    let births = |spans: &[SpanNo]| spans.iter().map(|span| set(*span, V, T, literal())).chain([back(20)]).collect::<Vec<_>>();
+    add("births 0, 1 and 4,294,967,295".into(), body(&[V], births(&[0, 1, SpanNo::MAX])));
+    add("64 births of one name".into(), body(&[], births(&(100..164).collect::<Vec<_>>())));
     add(
         "257 errors and too long".into(),
         body(&[], [locals(64), vec![moving(21, ident(22, V)); 258], vec![give(20, literal()); 1000]].concat()),

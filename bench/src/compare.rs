@@ -132,8 +132,8 @@ fn compiler_way(tree: &Image, rust: &Answer) -> bool {
         .map(|e| Error { place: back(e.place), others: e.others.into_iter().map(&mut back).collect(), ..e })
         .collect();
     let warned: Vec<_> = answer.warnings.iter().map(|w| back(w.0)).collect();
-    let lefts: Vec<_> = answer.lefts.iter().map(|l| (back(l.0), l.1)).collect();
-    let lefts: Vec<_> = lefts.into_iter().map(|l| (l.0, numbers.name_number(own.name(l.1)))).collect();
+    let lefts: Vec<_> = answer.lefts.iter().map(|l| (back(l.0), l.1, if l.2 == 0 { 0 } else { back(l.2) })).collect();
+    let lefts: Vec<_> = lefts.into_iter().map(|l| (l.0, numbers.name_number(own.name(l.1)), l.2)).collect();
     let same_reports = errors == rust.errors && lefts == rust.lefts && warned == rust.warnings.iter().map(|w| w.0).collect::<Vec<_>>();
     // an output that is no image can't be read
     let Ok(returned) = reader::read(&answer.output) else { return same_reports };

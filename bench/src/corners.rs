@@ -1,5 +1,5 @@
-//! K1 to K12 of document 01 and the rows of document 02 (c) with the answers of crates/rules/proofs/Rows.antt, its example of 81 bytes, and its other corners.
-use crate::answer::{Error, State};
+//! K1 to K12 of document 01 and the rows of document 02 (c) and (d) with the answers of crates/rules/proofs/Rows.antt, its example of 81 bytes, and its other corners.
+use crate::answer::{Error, Left, State};
 use crate::build::*;
 use crate::image::*;
 
@@ -9,24 +9,17 @@ pub struct Row {
     pub image: Image,
     pub returned: Vec<Stmt>,
     pub errors: Vec<Error>,
-    pub lefts: Vec<(SpanNo, Name)>,
+    pub lefts: Vec<Left>,
     /// the parameters' states after the body, last parameter first
     pub states: Vec<State>,
 }
 
-fn row(label: &'static str, image: Image, returned: Vec<Stmt>, errors: Vec<Error>, lefts: Vec<(SpanNo, Name)>, states: Vec<State>) -> Row {
+fn row(label: &'static str, image: Image, returned: Vec<Stmt>, errors: Vec<Error>, lefts: Vec<Left>, states: Vec<State>) -> Row {
     Row { label, image, returned, errors, lefts, states }
 }
 
 // A body that comes back as it is.
-fn as_is(
-    label: &'static str,
-    params: &[Name],
-    statements: Vec<Stmt>,
-    errors: Vec<Error>,
-    lefts: Vec<(SpanNo, Name)>,
-    states: Vec<State>,
-) -> Row {
+fn as_is(label: &'static str, params: &[Name], statements: Vec<Stmt>, errors: Vec<Error>, lefts: Vec<Left>, states: Vec<State>) -> Row {
     row(label, body(params, statements.clone()), statements, errors, lefts, states)
 }
 
@@ -36,12 +29,14 @@ fn error(kind: u32, place: SpanNo, hint: u32, others: &[SpanNo]) -> Error {
 
 pub fn rows() -> Vec<Row> {
     let v = |span| ident(span, V);
+    let w = |span| ident(span, W);
     let alive = || vec![(0, vec![])];
     let let_v = |span| set(span, V, T, literal());
     let let_w = |span| set(span, W, T, literal());
     let let_g = |span| set(span, G, T, literal());
+    let const_v = |span| Stmt::Variable { constant: true, span, name: V, ty: T, value: literal() };
     vec![
-        as_is("K1", &[V], vec![back(20)], vec![], vec![(20, V)], alive()),
+        as_is("K1", &[V], vec![back(20)], vec![], vec![(20, V, 0)], alive()),
         as_is("K2", &[V], vec![], vec![], vec![], alive()),
         row(
             "K3",
@@ -94,7 +89,7 @@ pub fn rows() -> Vec<Row> {
             &[V],
             vec![when(21, block(22, vec![moving(25, v(26)), back(27)]), Some(block(28, vec![back(29)])))],
             vec![],
-            vec![(29, V)],
+            vec![(29, V, 0)],
             alive(),
         ),
         as_is("K7", &[V], vec![repeat(21, block(22, vec![moving(25, v(26))]))], vec![], vec![], vec![(5, vec![26])]),
@@ -141,12 +136,15 @@ pub fn rows() -> Vec<Row> {
                 ),
             )],
             vec![],
-            vec![(27, G), (27, V), (28, V)],
+            vec![(27, G, 24), (27, V, 22), (28, V, 22)],
             alive(),
         ),
         row(
             "(c): the nearest loop",
-            body(&[], vec![repeat(20, block(21, vec![let_v(22), repeat(23, block(24, vec![let_w(25), Stmt::Continue(26)])), Stmt::Break(27)]))]),
+            body(
+                &[],
+                vec![repeat(20, block(21, vec![let_v(22), repeat(23, block(24, vec![let_w(25), Stmt::Continue(26)])), Stmt::Break(27)]))],
+            ),
             vec![repeat(
                 20,
                 block(
@@ -160,7 +158,7 @@ pub fn rows() -> Vec<Row> {
                 ),
             )],
             vec![],
-            vec![(26, W), (27, V)],
+            vec![(26, W, 25), (27, V, 22)],
             vec![],
         ),
         row(
@@ -181,17 +179,13 @@ pub fn rows() -> Vec<Row> {
                     21,
                     vec![
                         let_v(22),
-                        when(
-                            23,
-                            block(24, vec![Stmt::Break(25)]),
-                            Some(block(26, vec![let_w(27), Stmt::Continue(28), deletion(26, W)])),
-                        ),
+                        when(23, block(24, vec![Stmt::Break(25)]), Some(block(26, vec![let_w(27), Stmt::Continue(28), deletion(26, W)]))),
                         deletion(21, V),
                     ],
                 ),
             )],
             vec![],
-            vec![(25, V), (28, W), (28, V)],
+            vec![(25, V, 22), (28, W, 27), (28, V, 22)],
             vec![],
         ),
         row(
@@ -205,12 +199,9 @@ pub fn rows() -> Vec<Row> {
         row(
             "(c): K4 in a loop",
             body(&[], vec![repeat(20, block(21, vec![let_v(22), moving(23, v(24)), let_v(25), Stmt::Break(26)]))]),
-            vec![repeat(
-                20,
-                block(21, vec![let_v(22), moving(23, v(24)), let_v(25), Stmt::Break(26), deletion(21, V), deletion(21, V)]),
-            )],
+            vec![repeat(20, block(21, vec![let_v(22), moving(23, v(24)), let_v(25), Stmt::Break(26), deletion(21, V), deletion(21, V)]))],
             vec![],
-            vec![(26, V), (26, V)],
+            vec![(26, V, 25), (26, V, 22)],
             vec![],
         ),
         row(
@@ -218,7 +209,67 @@ pub fn rows() -> Vec<Row> {
             body(&[], vec![repeat(20, block(21, vec![let_v(22), Stmt::Continue(23), back(24), Stmt::Break(25)]))]),
             vec![repeat(20, block(21, vec![let_v(22), Stmt::Continue(23), back(24), Stmt::Break(25), deletion(21, V)]))],
             vec![],
-            vec![(23, V), (24, V), (25, V)],
+            vec![(23, V, 22), (24, V, 22), (25, V, 22)],
+            vec![],
+        ),
+        as_is(
+            "(d): two of one name and a parameter",
+            &[V],
+            vec![let_v(21), let_v(22), back(23)],
+            vec![],
+            vec![(23, V, 22), (23, V, 21), (23, V, 0)],
+            alive(),
+        ),
+        as_is(
+            "(d): through branches, joins and assignments",
+            &[],
+            vec![
+                let_w(21),
+                when(22, block(23, vec![moving(24, w(25)), assign(26, w(27), literal())]), Some(block(28, vec![]))),
+                repeat(29, block(30, vec![moving(31, w(32)), assign(33, w(34), literal())])),
+                back(35),
+            ],
+            vec![error(2, 27, 0, &[25]), error(2, 34, 0, &[32])],
+            vec![(35, W, 21)],
+            vec![],
+        ),
+        row(
+            "(d): nested blocks and this",
+            body(
+                &[0],
+                vec![
+                    let_v(21),
+                    Stmt::Block(block(22, vec![let_v(23), back(24)])),
+                    Stmt::Block(block(25, vec![let_v(26)])),
+                    let_w(27),
+                    back(28),
+                ],
+            ),
+            vec![
+                let_v(21),
+                Stmt::Block(block(22, vec![let_v(23), back(24)])),
+                Stmt::Block(block(25, vec![let_v(26), deletion(25, V)])),
+                let_w(27),
+                back(28),
+            ],
+            vec![],
+            vec![(24, V, 23), (24, V, 21), (24, 0, 0), (28, W, 27), (28, V, 21), (28, 0, 0)],
+            alive(),
+        ),
+        as_is(
+            "(d): moved and registered again",
+            &[],
+            vec![let_v(21), moving(22, v(23)), let_v(24), back(25)],
+            vec![],
+            vec![(25, V, 24), (25, V, 21)],
+            vec![],
+        ),
+        row(
+            "(d): a const in a loop",
+            body(&[], vec![repeat(20, block(21, vec![const_v(22), Stmt::Continue(23)]))]),
+            vec![repeat(20, block(21, vec![const_v(22), Stmt::Continue(23), deletion(21, V)]))],
+            vec![],
+            vec![(23, V, 22)],
             vec![],
         ),
     ]

@@ -57,7 +57,7 @@ impl Expected {
             errors,
             reports: a.errors.iter().map(Report::of).collect(),
             warnings: a.warnings.iter().flat_map(|w| [w.0, w.1 as u32]).collect(),
-            left: a.lefts.iter().flat_map(|l| [l.0, l.1 as u32]).collect(),
+            left: a.lefts.iter().flat_map(|l| [l.0, l.1 as u32, l.2]).collect(),
         }
     }
 
@@ -171,7 +171,7 @@ impl Differ {
         self.images += 1;
         self.bytes += bytes.len();
         let expected = self.expected(bytes);
-        self.left += expected.left.len() / 2;
+        self.left += expected.left.len() / 3;
         self.room(bytes, &expected)?;
         match self.pages.check(bytes, expected.fault, &expected.page, all) {
             found if !found.is_empty() => return Err(found),
@@ -211,7 +211,7 @@ impl Differ {
         let [bytes, errors, warnings, left] = expected.sizes();
         let random = &mut self.random;
         match random.below(8) {
-            0 => [LENT_BYTES, 12 * LENT_ENTRIES, 2 * LENT_ENTRIES, 2 * LENT_ENTRIES],
+            0 => [LENT_BYTES, 12 * LENT_ENTRIES, 2 * LENT_ENTRIES, 3 * LENT_ENTRIES],
             1 => [bytes, errors + random.below(40), warnings, left + random.below(40)],
             2 => [bytes + random.below(300), errors, warnings + random.below(40), left],
             _ => [bytes + random.below(300), errors + random.below(40), warnings + random.below(40), left + random.below(40)],
@@ -304,8 +304,7 @@ pub fn differ(images: u64, damaged: u64, seed: u64) -> i32 {
         let whole = image::write(&generator::short(seed + i)).bytes;
         let jumping = image::write(&generator::jumping(seed + i)).bytes;
         let same = i >= images
-            || differ.step(&format!("seed {}", seed + i), &whole, false)
-                && differ.step(&format!("jumping {}", seed + i), &jumping, false);
+            || differ.step(&format!("seed {}", seed + i), &whole, false) && differ.step(&format!("jumping {}", seed + i), &jumping, false);
         let label = format!("damaged {}", seed + i);
         if !same || (i < damaged && !differ.step(&label, &generator::damaged(&whole, &mut random), false)) {
             return 1;

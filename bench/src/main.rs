@@ -291,7 +291,7 @@ fn answer_text(outcome: Option<&Outcome>) -> String {
         text += &format!("error {} {} {}{others}\n", e.kind, e.place, e.hint);
     }
     a.warnings.iter().for_each(|(span, offset)| text += &format!("warning {span} {offset}\n"));
-    a.lefts.iter().for_each(|(span, name)| text += &format!("left {span} {name}\n"));
+    a.lefts.iter().for_each(|(span, name, born)| text += &format!("left {span} {name} {born}\n"));
     text
 }
 

@@ -18,8 +18,8 @@ pub fn of(a: &Answer) -> Vec<u8> {
     for (span, offset) in &a.warnings {
         entry(&mut page, "unused result", *span, &[*offset as u32]);
     }
-    for (span, name) in &a.lefts {
-        entry(&mut page, "left behind", *span, &[*name as u32]);
+    for (span, name, born) in &a.lefts {
+        entry(&mut page, "left behind", *span, &[*name as u32, *born]);
     }
     page.into_bytes()
 }

@@ -1,7 +1,7 @@
 //! A third reading of the rules: the definitions of crates/rules/specs and crates/tables_lookup/specs, clause by clause and under their names,
 //! so that they can be run beside the Rust. Lists are newest first. A `Code` is a slice of statements, the rest of a list its tail.
 #![allow(non_snake_case)]
-use crate::answer::{Answer, Error, Outcome};
+use crate::answer::{Answer, Error, Left, Outcome};
 use crate::image::{self, Image, Name, Node, SpanNo, Ty, TyNo};
 
 // ---- lookup: First, Ty, Signature, Name ----
@@ -206,6 +206,7 @@ struct Static {
     name: Name,
     ty: TyNo,
     depth: usize,
+    born: SpanNo,
 }
 
 type Stack = Vec<(Static, State)>;
@@ -459,9 +460,9 @@ fn revived(n: Named, s: Stack) -> Stack {
     }
 }
 
-fn register(n: Name, t: TyNo, d: usize, mut s: Stack) -> Stack {
-    inFrame(n, d, &|_| Alive, &mut s);
-    s.insert(0, (Static { name: n, ty: t, depth: d }, Alive));
+fn register(l: Static, mut s: Stack) -> Stack {
+    inFrame(l.name, l.depth, &|_| Alive, &mut s);
+    s.insert(0, (l, Alive));
     s
 }
 
@@ -484,6 +485,10 @@ type Drop = (SpanNo, Name, TyNo);
 impl Tables<'_> {
     fn collect(&self, q: &dyn Fn(Static) -> bool, p: SpanNo, s: &Stack) -> Vec<Drop> {
         s.iter().filter(|(l, a)| q(*l) && *a == Alive && self.auto(l.ty)).map(|(l, _)| (p, l.name, l.ty)).collect()
+    }
+
+    fn leftBehind(&self, p: SpanNo, q: &dyn Fn(Static) -> bool, s: &Stack) -> Vec<Left> {
+        s.iter().filter(|(l, a)| q(*l) && *a == Alive && self.auto(l.ty)).map(|(l, _)| (p, l.name, l.born)).collect()
     }
 
     fn tailDrops(&self, d: usize, p: SpanNo, s: &Stack) -> Vec<Drop> {
@@ -510,9 +515,9 @@ impl Tables<'_> {
         applyAll(&self.exprStmtEffects(&shape(&s), e), s)
     }
 
-    fn afterVariable(&self, d: usize, n: Name, t: TyNo, e: &Expr<'_>, s: Stack) -> Stack {
-        let takes = self.takeOver(&shape(&s), n, t, e);
-        applyAll(&takes, register(n, t, d, self.evaluate(e, s)))
+    fn afterVariable(&self, l: Static, e: &Expr<'_>, s: Stack) -> Stack {
+        let takes = self.takeOver(&shape(&s), l.name, l.ty, e);
+        applyAll(&takes, register(l, self.evaluate(e, s)))
     }
 
     fn beforeAssign(&self, dst: &Expr<'_>, val: &Expr<'_>, s: Stack) -> Stack {
@@ -528,7 +533,7 @@ impl Tables<'_> {
     fn after(&self, stmt: &Stmt<'_>, d: usize, s: Stack) -> Stack {
         match stmt {
             ExprStmt(_, e) => self.afterExpr(e, s),
-            Variable(_, _, n, t, e) => self.afterVariable(d, *n, *t, e, s),
+            Variable(_, span, n, t, e) => self.afterVariable(Static { name: *n, ty: *t, depth: d, born: *span }, e, s),
             Assign(_, e, v, _) => {
                 let s = self.beforeAssign(e, v, s);
                 self.afterAssign(e, v, s)
@@ -601,7 +606,7 @@ impl Tables<'_> {
     fn entered(&self, i: &Image) -> Stack {
         let x = &i.entry;
         let this = (x.receiver >= 2).then_some((0, x.this));
-        this.iter().chain(&x.params).fold(vec![], |s, (n, t)| register(*n, *t, 0, s))
+        this.iter().chain(&x.params).fold(vec![], |s, (n, t)| register(Static { name: *n, ty: *t, depth: 0, born: 0 }, s))
     }
 }
 
@@ -623,7 +628,7 @@ fn inserts(drops: Vec<Drop>, out: &mut Vec<image::Stmt>) {
 struct Reports {
     errors: Vec<Error>,
     warnings: Vec<(SpanNo, usize)>,
-    lefts: Vec<(SpanNo, Name)>,
+    lefts: Vec<Left>,
 }
 
 fn badUse(s: SpanNo, a: &State) -> Option<Error> {
@@ -662,7 +667,7 @@ impl Reports {
                 }
                 Variable(_, _, _, _, e) | Return(_, e, _) => self.all(&T.effects(&g, e), s.clone()),
                 Assign(_, e, v, _) => self.all(&T.assignEffects(&g, e, v), s.clone()),
-                BareReturn(span, _) => self.lefts.extend(T.collect(&|_| true, 0, &s).iter().map(|x| (*span, x.1))),
+                BareReturn(span, _) => self.lefts.extend(T.leftBehind(*span, &|_| true, &s)),
                 Block(_, c) => self.report(T, c, d + 1, l, at + 7, s.clone()),
                 IfElse(_, e, _, t, _, u) => {
                     self.all(&T.effects(&g, e), s.clone());
@@ -677,7 +682,7 @@ impl Reports {
                     self.all(&T.effects(&g, e), s.clone());
                     self.report(T, t, d + 1, Some(d + 1), at + 11 + exprBytes(e), T.evaluate(e, s.clone()));
                 }
-                Jump(_, span) => self.lefts.extend(T.collect(&|x| l.is_some_and(|l| l <= x.depth), 0, &s).iter().map(|x| (*span, x.1))),
+                Jump(_, span) => self.lefts.extend(T.leftBehind(*span, &|x| l.is_some_and(|l| l <= x.depth), &s)),
             }
             at += codeBytes(std::slice::from_ref(stmt));
             s = T.after(stmt, d, s);

@@ -87,9 +87,10 @@ fn record(label: &str, bytes: &[u8], outcome: &Outcome) -> Record {
             r.extend((*offset as u32).to_be_bytes());
         }
         r.extend((a.lefts.len() as u16).to_be_bytes());
-        for (span, name) in &a.lefts {
+        for (span, name, born) in &a.lefts {
             r.extend(span.to_be_bytes());
             r.extend(name.to_be_bytes());
+            r.extend(born.to_be_bytes());
         }
     }
     Record { bytes: r, fault }

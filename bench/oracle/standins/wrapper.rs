@@ -45,3 +45,14 @@ fn states_of(stack: &[ScopeFrame<'_>]) -> Vec<(String, u8, Vec<Span>)> {
     }
     list
 }
+
+/// The Ident of a local's delete gets the local's birth as its span.
+#[allow(dead_code)]
+fn born_at(drop: Option<&mut HirStatement<'_>>, born: Span) {
+    if let Some(HirStatement::Expr(e)) = drop
+        && let HirExpr::Delete(d) = &mut e.expr
+        && let HirExpr::Ident(id) = &mut *d.expr
+    {
+        id.span = born;
+    }
+}

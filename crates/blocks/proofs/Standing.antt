@@ -21,7 +21,7 @@ use Rattle.tables_lookup.specs.Ty.{shouldAutoDelete}
 use Rattle.rules.specs.Questions.{auto}
 use Rattle.rules.specs.State.{State as Status}
 use Rattle.rules.specs.Stack.{Static, shape, mark, Stack as Scope}
-use Rattle.rules.specs.Rules.{states, register}
+use Rattle.rules.specs.Rules.{declared, states, register}
 use Rattle.rules.specs.Walk.{tooMany}
 use Rattle.scope_state.specs.Kinds.{said, put}
 use Rattle.tables_lookup.specs.Lent.{Lent, Says}
@@ -87,8 +87,8 @@ loop-few none base d l few h = omega (arith, h)
 loop-few (some k) base d l few h = omega (arith, h .1)
 
 pub loop-looped : (loop : Option ℕ) (base d : ℕ) (l : Locals) → l .count ≤ 64 → InLoop loop base d l → Looped (l .depths) loop base (l .count)
-loop-looped none base d l few h = record { few = few; own = λ names types i li. sym (lt-leb base i (omega (arith, h))) }
-loop-looped (some k) base d l few h = record { few = few; own = λ names types i li. h .2 i li }
+loop-looped none base d l few h = record { few = few; own = λ names types births i li. sym (lt-leb base i (omega (arith, h))) }
+loop-looped (some k) base d l few h = record { few = few; own = λ names types births i li. h .2 i li }
 
 -- between statements
 pub steady-between : (s : List ℕ) (left : ℕ) (ns : List ℕ) (n : ℕ) (p : Place) → Within s p → StmtsThere s left n (p .at) → Steady s left ns (betweenOf n p Nobody)
@@ -105,8 +105,8 @@ many-some σ l = ap (λ (b : Bool). cond b (some 12) none) (lt-ltb 64 (length σ
 pub mark-goes : (n k p : ℕ) (o : Bool) → Mark n k p o ≡ Over → ⊥
 mark-goes n k p o e = let z : _≡_ {A = ℕ} 0 1 = cc in omega arith
 
-pub register-goes : (n y : ℕ) → Register n y ≡ Over → ⊥
-register-goes n y e = let z : _≡_ {A = ℕ} 0 1 = cc in omega arith
+pub register-goes : (n y b : ℕ) → Register n y b ≡ Over → ⊥
+register-goes n y b e = let z : _≡_ {A = ℕ} 0 1 = cc in omega arith
 
 pub blocks-go : (tag : ℕ) → Blocks tag ≡ Over → ⊥
 blocks-go tag e = let z : _≡_ {A = ℕ} 0 1 = cc in omega arith
@@ -194,7 +194,7 @@ module _ (s tb : List ℕ) (e : Env) (start : Place) (outer : Locals) (t₀ : St
   abbrev Answers : List ℕ → List ℕ → List ℕ → List ℕ → List ℕ → List ℕ → Locals → States → Cursor → List ℕ → List ℕ → List ℕ → List ℕ → List ℕ → Cursor → Turn → Scanning → Type 0
   Answers rows nodes out errs warns lefts l t c nodes′ out′ errs′ warns′ lefts′ c′ turn here =
       ((T : Tables) → Says s tb T → (ld : List ℕ) (σ : Scope Status) (loop : Option ℕ)
-      → Lends T (here .mark) loop (here .base) (l .names) (l .types) ld (stateIn (t .kinds) (t .firsts) rows (here .cur) (here .width)) (here .locals) σ
+      → Lends T (here .mark) loop (here .base) (l .names) (l .types) ld (l .births) (stateIn (t .kinds) (t .firsts) rows (here .cur) (here .width)) (here .locals) σ
       → (n : ℕ) (τ : Scope Status) (q : Place) (m : Memory)
       → Stood T s (here .left) (12 - here .left) loop n τ q m nodes c σ (memory out errs warns lefts)
       → After T s (here .left) (12 - here .left) loop n τ q m nodes′ c′ σ (memory out′ errs′ warns′ lefts′) turn)
@@ -238,20 +238,20 @@ module _ (s tb : List ℕ) (e : Env) (start : Place) (outer : Locals) (t₀ : St
         }
 
     -- a registration, with room for it
-    module _ (n y : ℕ) (h : Turned rows nodes out errs warns lefts pl l t c (Register n y)) where
+    module _ (n y b : ℕ) (h : Turned rows nodes out errs warns lefts pl l t c (Register n y b)) where
       abbrev more : Scope Status
-      more = register states n y (12 - e .left) (seen l t rows)
+      more = register states (declared (12 - e .left) b n y) (seen l t rows)
 
       many : length more ≡ l .count + 1
-      many = register-length l n y (12 - e .left) t rows (e .cur) (e .width)
+      many = register-length l n y (12 - e .left) b t rows (e .cur) (e .width)
 
-      module _ (dtor : Bool) (asked : (T : Tables) → Says s tb T → dtor ≡ auto T y) (r : Locals) (g : Grows l n y (12 - e .left) dtor r) (room : l .count < 64) where
+      module _ (dtor : Bool) (asked : (T : Tables) → Says s tb T → dtor ≡ auto T y) (r : Locals) (g : Grows l (declared (12 - e .left) b n y) dtor r) (room : l .count < 64) where
         standing-more : (u : States) → Sound (Says s tb) r u rows (e .cur) (e .width) → view r u rows (e .cur) (e .width) ≡ more → Standing rows nodes out errs warns lefts pl r u c
         standing-more u sound is = record {
           owned = record {
             sound = sound;
-            nested = subst (λ (σ : Scope Status). Nested (12 - e .left) (shape σ)) (sym is) (nested-register n y (12 - e .left) (seen l t rows) (h .owned .nested));
-            extends = extends-more (12 - e .left) outer l r n y dtor (h .owned .extends) g;
+            nested = subst (λ (σ : Scope Status). Nested (12 - e .left) (shape σ)) (sym is) (nested-register n y (12 - e .left) b (seen l t rows) (h .owned .nested));
+            extends = extends-more (12 - e .left) outer l r n y b dtor (h .owned .extends) g;
             below = h .owned .below;
           };
           long = h .long;
@@ -262,14 +262,14 @@ module _ (s tb : List ℕ) (e : Env) (start : Place) (outer : Locals) (t₀ : St
 
         pub standing-fresh : ((i : ℕ) → i < 64 → aliveAt t i ≡ false → Named (r .names) (r .depths) n (12 - e .left) i → ⊥) → Standing rows nodes out errs warns lefts pl r t c
         standing-fresh calm =
-            standing-more t (sound-register l r n y (12 - e .left) dtor g t rows (e .cur) (e .width) (h .owned .sound .rowed) (h .owned .sound .held) (h .owned .sound .drops) asked)
-            (registers-fresh l r n y (12 - e .left) dtor g t rows (e .cur) (e .width) (h .owned .sound .rowed) calm (omega arith))
+            standing-more t (sound-register l r n y (12 - e .left) b dtor g t rows (e .cur) (e .width) (h .owned .sound .rowed) (h .owned .sound .held) (h .owned .sound .drops) asked)
+            (registers-fresh l r n y (12 - e .left) b dtor g t rows (e .cur) (e .width) (h .owned .sound .rowed) calm (omega arith))
 
         pub standing-revived : (p : ℕ) (u : States) → Held u → Marks r n (put false (said 0 (p ∷ []))) t u → Standing rows nodes out errs warns lefts pl r u c
         standing-revived p u held m =
-            let sound = sound-register l r n y (12 - e .left) dtor g t rows (e .cur) (e .width) (h .owned .sound .rowed) (h .owned .sound .held) (h .owned .sound .drops) asked in
+            let sound = sound-register l r n y (12 - e .left) b dtor g t rows (e .cur) (e .width) (h .owned .sound .rowed) (h .owned .sound .held) (h .owned .sound .drops) asked in
             standing-more u (sound-mark r t u n (put false (said 0 (p ∷ []))) rows (e .cur) (e .width) sound held m)
-            (registers-marked l r n y (12 - e .left) dtor g t rows (e .cur) (e .width) (h .owned .sound .rowed) p u m)
+            (registers-marked l r n y (12 - e .left) b dtor g t rows (e .cur) (e .width) (h .owned .sound .rowed) p u m)
 
       -- and without
       pub full : 64 ≤ l .count → (w : Walked) → w .fault ≡ 12 → (T : Tables) → Says s tb T → (loop : Option ℕ) → InLoop loop (e .base) (12 - e .left) outer

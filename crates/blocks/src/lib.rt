@@ -148,6 +148,7 @@ pub fn transform_block(
             blocks_ends::scanning(e, l.count, mark),
             &l.names,
             &l.types,
+            &l.births,
             &st.kinds,
             &st.firsts,
             &*rows,
@@ -180,7 +181,7 @@ pub fn transform_block(
             Turn::Mark(name, kind, place, only_alive) => {
                 st = st.mark(&l.names, &l.depths, l.count, name, kind, place, only_alive);
             }
-            Turn::Register(name, ty) => {
+            Turn::Register(name, ty, born) => {
                 if blocks_ends::full(env, l.count) {
                     pl[8] = 12;
                     return st;
@@ -189,6 +190,7 @@ pub fn transform_block(
                     name,
                     ty,
                     depth,
+                    born,
                     tables_lookup::auto_deleted(tb, ty as usize),
                 );
                 if scope_stack::needs_revival(&l.names, &l.depths, st.alive, name, depth) {

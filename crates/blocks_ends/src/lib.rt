@@ -200,9 +200,9 @@ fn put_tail<'a>(
     at: usize,
 ) -> statements_acts::Put
     requires { ⌜ (at < 4294900000) × (base ≤ 64) ⌝ }
-    ensures { λ r. ⌜ (r .at ≤ at + 1344) × (r .count ≤ 64) × ((T : Tables) (ld : List ℕ) (g : ℕ → Status) (n depth : ℕ) → Marked T (now (lt .entry)) g n mark → Frame ld base depth n
-        → Stored (now (out .entry)) at (deleteBytes (tail T «sure» depth span (lent (now (ln .entry)) (now (lt .entry)) ld g n))) (now (out .exit)) (r .at)
-        × (r .count ≡ length (tail T «sure» depth span (lent (now (ln .entry)) (now (lt .entry)) ld g n)))) ⌝ }
+    ensures { λ r. ⌜ (r .at ≤ at + 1344) × (r .count ≤ 64) × ((T : Tables) (ld births : List ℕ) (g : ℕ → Status) (n depth : ℕ) → Marked T (now (lt .entry)) g n mark → Frame ld base depth n
+        → Stored (now (out .entry)) at (deleteBytes (tail T «sure» depth span (lent (now (ln .entry)) (now (lt .entry)) ld births g n))) (now (out .exit)) (r .at)
+        × (r .count ≡ length (tail T «sure» depth span (lent (now (ln .entry)) (now (lt .entry)) ld births g n)))) ⌝ }
 {
     if sure {
         return statements_acts::Put { at: at, count: 0 };
@@ -253,9 +253,9 @@ pub fn end_block<'a>(
     pl: &mut [usize; 10],
 )
     requires { ⌜ EndThere (now s) left start p × (base ≤ 64) × (length (now pl) ≡ 10) ⌝ }
-    ensures { λ r. ⌜ ((T : Tables) (ld : List ℕ) (g : ℕ → Status) (n : ℕ) → Marked T (now (lt .entry)) g n mark → Frame ld base (suc (12 - left)) n
-        → (σ : Scope Status) → σ ≡ pop (suc (12 - left)) (lent (now (ln .entry)) (now (lt .entry)) ld g n)
-        → Ends T (now (s .entry)) left (suc (12 - left)) (lent (now (ln .entry)) (now (lt .entry)) ld g n) start (start .written + 4) p (now (out .entry))
+    ensures { λ r. ⌜ ((T : Tables) (ld births : List ℕ) (g : ℕ → Status) (n : ℕ) → Marked T (now (lt .entry)) g n mark → Frame ld base (suc (12 - left)) n
+        → (σ : Scope Status) → σ ≡ pop (suc (12 - left)) (lent (now (ln .entry)) (now (lt .entry)) ld births g n)
+        → Ends T (now (s .entry)) left (suc (12 - left)) (lent (now (ln .entry)) (now (lt .entry)) ld births g n) start (start .written + 4) p (now (out .entry))
         (walkedIn (now (pl .exit)) σ) (now (out .exit)))
         × Ended start p (now (pl .exit)) ⌝ }
 {

@@ -38,7 +38,7 @@ module _ (n : ℕ) (kinds rows : List ℕ) (src cur width : ℕ)
 
 -- the rows of n locals that were copied
 abbrev counted : ℕ → Locals
-counted n = record { count = n; names = []; types = []; depths = []; dtors = 0 }
+counted n = record { count = n; names = []; types = []; depths = []; births = []; dtors = 0 }
 
 module _ (n : ℕ) (t : States) (rows new : List ℕ) (src cur width : ℕ) (h : Rowed n t rows src width) (c : Copies n width (t .kinds) rows src cur true new) where
   copied-below : Below cur rows new

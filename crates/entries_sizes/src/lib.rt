@@ -31,7 +31,7 @@ fn judge_tiny(
     let mut bytes = [0u8; 1024];
     let mut told = [0u32; 96];
     let mut warned = [0u32; 34];
-    let mut left = [0u32; 34];
+    let mut left = [0u32; 51];
     let mut rows = [0u32; 288];
     judge(
         s,
@@ -68,7 +68,7 @@ fn judge_short(
     let mut bytes = [0u8; 4096];
     let mut told = [0u32; 384];
     let mut warned = [0u32; 64];
-    let mut left = [0u32; 64];
+    let mut left = [0u32; 96];
     let mut rows = [0u32; 1152];
     judge(
         s,
@@ -105,7 +105,7 @@ fn judge_middle(
     let mut bytes = [0u8; 32768];
     let mut told = [0u32; 3072];
     let mut warned = [0u32; 512];
-    let mut left = [0u32; 512];
+    let mut left = [0u32; 768];
     let mut rows = [0u32; 4608];
     judge(
         s,
@@ -142,7 +142,7 @@ fn judge_long(
     let mut bytes = [0u8; 65536];
     let mut told = [0u32; 6144];
     let mut warned = [0u32; 1024];
-    let mut left = [0u32; 1024];
+    let mut left = [0u32; 1536];
     let mut rows = [0u32; 13248];
     judge(
         s,
@@ -174,7 +174,7 @@ fn told_of(r: Seen) -> Outcome
         written: p.written,
         errors: p.errors / 12,
         warnings: p.warnings / 2,
-        lefts: p.lefts / 2,
+        lefts: p.lefts / 3,
     })
 }
 

@@ -59,19 +59,19 @@ error-numbers (error k p h ps ∷ rs) =
     let c : length (take 8 (ps ++ replicate 8 0)) ≡ 8 = length-take-le 8 (ps ++ replicate 8 0) (let d = length-append ps (replicate 8 0) in omega arith) in
     omega arith
 error-numbers (warning s o ∷ rs) = error-numbers rs
-error-numbers (left s n ∷ rs) = error-numbers rs
+error-numbers (left s n b ∷ rs) = error-numbers rs
 
 warning-numbers : (rs : List Report) → length (entriesOf version1 (warnings rs)) ≡ 2 * length (warnings rs)
 warning-numbers [] = refl
 warning-numbers (error k p h ps ∷ rs) = warning-numbers rs
 warning-numbers (warning s o ∷ rs) = let a = warning-numbers rs in omega arith
-warning-numbers (left s n ∷ rs) = warning-numbers rs
+warning-numbers (left s n b ∷ rs) = warning-numbers rs
 
-left-numbers : (rs : List Report) → length (entriesOf version1 (lefts rs)) ≡ 2 * length (lefts rs)
+left-numbers : (rs : List Report) → length (entriesOf version1 (lefts rs)) ≡ 3 * length (lefts rs)
 left-numbers [] = refl
 left-numbers (error k p h ps ∷ rs) = left-numbers rs
 left-numbers (warning s o ∷ rs) = left-numbers rs
-left-numbers (left s n ∷ rs) = let a = left-numbers rs in omega arith
+left-numbers (left s n b ∷ rs) = let a = left-numbers rs in omega arith
 
 -- entries lent, by their numbers
 by-twelve : (k n : ℕ) → leb (12 * k) n ≡ leb k (n / 12)
@@ -83,6 +83,11 @@ by-two : (k n : ℕ) → leb (2 * k) n ≡ leb k (n / 2)
 by-two k n = ⊎-elim
     (λ (h : k < suc (n / 2)). le-leb (2 * k) n (omega arith) ∙ sym (le-leb k (n / 2) (omega arith)))
     (λ (h : suc (n / 2) ≤ k). lt-leb (2 * k) n (omega arith) ∙ sym (lt-leb k (n / 2) (omega arith))) (less k (suc (n / 2)))
+
+by-three : (k n : ℕ) → leb (3 * k) n ≡ leb k (n / 3)
+by-three k n = ⊎-elim
+    (λ (h : k < suc (n / 3)). le-leb (3 * k) n (omega arith) ∙ sym (le-leb k (n / 3) (omega arith)))
+    (λ (h : suc (n / 3) ≤ k). lt-leb (3 * k) n (omega arith) ∙ sym (lt-leb k (n / 3) (omega arith))) (less k (suc (n / 3)))
 
 pub fault-some : (x : Option ℕ) (n : ℕ) → n ≡ numberOf x → 0 < n → x ≡ some n
 fault-some none n e h = absurd (omega arith)
@@ -123,14 +128,14 @@ module _ (s : List ℕ) (i : Image) (e : decode version1 s ≡ accepted i) (m : 
     warning-count : p .warnings ≡ 2 * a .warningCount
     warning-count = d .warnings .place ∙ omega (arith, warning-numbers (reports i))
 
-    left-count : p .lefts ≡ 2 * a .leftCount
+    left-count : p .lefts ≡ 3 * a .leftCount
     left-count = d .lefts .place ∙ omega (arith, left-numbers (reports i))
 
     lists-fit : (leb (p .errors) (length (m .errs)) && leb (p .warnings) (length (m .warns)) && leb (p .lefts) (length (m .lefts))) ≡ listsFit (lentOf m) a
     lists-fit =
         ap (λ x. x && leb (p .warnings) (length (m .warns)) && leb (p .lefts) (length (m .lefts))) (ap (λ k. leb k (length (m .errs))) error-count ∙ by-twelve (a .errorCount) (length (m .errs)))
         ∙ ap (λ x. leb (a .errorCount) (length (m .errs) / 12) && x && leb (p .lefts) (length (m .lefts))) (ap (λ k. leb k (length (m .warns))) warning-count ∙ by-two (a .warningCount) (length (m .warns)))
-        ∙ ap (λ x. leb (a .errorCount) (length (m .errs) / 12) && leb (a .warningCount) (length (m .warns) / 2) && x) (ap (λ k. leb k (length (m .lefts))) left-count ∙ by-two (a .leftCount) (length (m .lefts)))
+        ∙ ap (λ x. leb (a .errorCount) (length (m .errs) / 12) && leb (a .warningCount) (length (m .warns) / 2) && x) (ap (λ k. leb k (length (m .lefts))) left-count ∙ by-three (a .leftCount) (length (m .lefts)))
 
     output-fits : (leb (p .written) (length (m .out)) && p .fits) ≡ outputFits (lentOf m) i a
     output-fits = ap (λ k. leb k (length (m .out)) && p .fits) (d .long) ∙ ap (λ x. leb (length (a .output)) (length (m .out)) && x) (d .fits)
@@ -156,7 +161,7 @@ module _ (s : List ℕ) (i : Image) (e : decode version1 s ≡ accepted i) (m : 
 
     -- enough room, and the memory after
     pub answered : (n : ℕ) → n ≡ lack → (0 < n → ⊥) → (r : Outcome)
-        → r ≡ Accepted (record { written = p .written; errors = p .errors / 12; warnings = p .warnings / 2; lefts = p .lefts / 2 })
+        → r ≡ Accepted (record { written = p .written; errors = p .errors / 12; warnings = p .warnings / 2; lefts = p .lefts / 3 })
         → (m′ : Memory) → m′ .out ≡ over (a .output) (m .out) → m′ .errs ≡ over (a .errorNumbers) (m .errs) → m′ .warns ≡ over (a .warningNumbers) (m .warns) → m′ .lefts ≡ over (a .leftNumbers) (m .lefts)
         → Passes s m r m′
     answered n f h r er m′ e₀ e₁ e₂ e₃ =
@@ -171,11 +176,11 @@ module _ (s : List ℕ) (i : Image) (e : decode version1 s ≡ accepted i) (m : 
         go true false g = absurd (h (omega arith))
         go false c g = absurd (h (omega arith))
 
-        totals : Accepted (record { written = p .written; errors = p .errors / 12; warnings = p .warnings / 2; lefts = p .lefts / 2 }) ≡ outcomeOf (answers a)
+        totals : Accepted (record { written = p .written; errors = p .errors / 12; warnings = p .warnings / 2; lefts = p .lefts / 3 }) ≡ outcomeOf (answers a)
         totals =
             let x : p .errors / 12 ≡ a .errorCount = omega (arith, error-count) in
             let y : p .warnings / 2 ≡ a .warningCount = omega (arith, warning-count) in
-            let w : p .lefts / 2 ≡ a .leftCount = omega (arith, left-count) in
+            let w : p .lefts / 3 ≡ a .leftCount = omega (arith, left-count) in
             rw (x, y, w, d .long)
 
         made : m′ ≡ memory (over (a .output) (m .out)) (over (a .errorNumbers) (m .errs)) (over (a .warningNumbers) (m .warns)) (over (a .leftNumbers) (m .lefts))
@@ -205,7 +210,7 @@ lack-low p bytes errs warns many = go (leb (p .errors) errs && leb (p .warnings)
 
 -- the outcome of a fault, and without one
 abbrev acceptedAt : Place → Outcome
-acceptedAt p = Accepted (record { written = p .written; errors = p .errors / 12; warnings = p .warnings / 2; lefts = p .lefts / 2 })
+acceptedAt p = Accepted (record { written = p .written; errors = p .errors / 12; warnings = p .warnings / 2; lefts = p .lefts / 3 })
 
 outcome-refused : (r : Seen) → 0 < r .fault → outcomeIn r ≡ Refused (r .fault)
 outcome-refused r h = ap (λ (b : Bool). cond b (acceptedAt (r .place)) (Refused (r .fault))) (ne-eqb (r .fault) 0 (λ e. omega arith))

@@ -9,9 +9,9 @@ use Rattle.image_writing.specs.Memory.{Memory, memory}
 use Rattle.entries_verdict.specs.declared.Outcome.{Outcome}
 use Rattle.entries_verdict.specs.declared.Outcome.the-variants.{Accepted, Refused}
 
--- the memory lent as document 01 counts it: bytes, and entries of 12, 2 and 2 numbers
+-- the memory lent as document 01 counts it: bytes, and entries of 12, 2 and 3 numbers
 abbrev pub lentOf : Memory → Lent
-lentOf m = record { bytes = length (m .out); errors = length (m .errs) / 12; warnings = length (m .warns) / 2; lefts = length (m .lefts) / 2 }
+lentOf m = record { bytes = length (m .out); errors = length (m .errs) / 12; warnings = length (m .warns) / 2; lefts = length (m .lefts) / 3 }
 
 -- the outcome of a verdict
 abbrev pub outcomeOf : Verdict → Outcome

@@ -35,7 +35,7 @@ pub record CopiesAll (p : Place) (own m m′ : Memory) : Type 0 where
 -- the outcome that a fault or 0 and a place say
 abbrev pub outcomeIn : Seen → Outcome
 outcomeIn r = cond (eqb (r .fault) 0)
-    (Accepted (record { written = r .place .written; errors = r .place .errors / 12; warnings = r .place .warnings / 2; lefts = r .place .lefts / 2 })) (Refused (r .fault))
+    (Accepted (record { written = r .place .written; errors = r .place .errors / 12; warnings = r .place .warnings / 2; lefts = r .place .lefts / 3 })) (Refused (r .fault))
 
 -- the verdict, with memory of our own of some size; 254: it does not reach, and nothing lent is changed; the largest reaches
 pub record Judges (largest : Bool) (s : List ℕ) (m : Memory) (r : Seen) (m′ : Memory) : Type 0 where

@@ -23,12 +23,12 @@ has-lookup : (n : ℕ) (σ : Scope Status) → has n (shape σ) ≡ isSome (look
 has-lookup n [] = refl
 has-lookup n (local s a ∷ σ) = has-head (eqb (s .name) n) s a (has n (shape σ)) (lookup n σ) (has-lookup n σ)
 
-module _ {names : List ℕ} {n name : ℕ} {r : Found} (f : Finds names n name r) (types depths : List ℕ) (at : ℕ → Status) where
+module _ {names : List ℕ} {n name : ℕ} {r : Found} (f : Finds names n name r) (types depths births : List ℕ) (at : ℕ → Status) where
   abbrev held : Scope Status
-  held = lent names types depths at n
+  held = lent names types depths births at n
 
-  found-as : {x : Found} → r ≡ x → lookup name held ≡ foundIn names types depths at x
-  found-as e = f .is types depths at ∙ ap (foundIn names types depths at) e
+  found-as : {x : Found} → r ≡ x → lookup name held ≡ foundIn names types depths births at x
+  found-as e = f .is types depths births at ∙ ap (foundIn names types depths births at) e
 
   pub found-local : {i : ℕ} → r ≡ At i → true ≡ has name (shape held)
   found-local e = sym (has-lookup name held ∙ ap isSome (found-as e))

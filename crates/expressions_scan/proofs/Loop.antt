@@ -39,20 +39,20 @@ module _ (s tb : List ℕ) (locals : List ℕ) (at : ℕ → Status) (n : ℕ) (
     pub room : length new ≡ length errors
     pub reach : length out ≡ length page
     pub ends : (frames : List Stage) (end : ℕ) → Stacked (opens nodes) count frames s pos end → (fs : List Stage) × Stacked (opens ns) d fs s p end
-    pub onward : (T : Tables) → Says s tb T → (types depths : List ℕ) (σ : Scope Status) → σ ≡ lent locals types depths at n
+    pub onward : (T : Tables) → Says s tb T → (types depths births : List ℕ) (σ : Scope Status) → σ ≡ lent locals types depths births at n
         → Onward T s (opens nodes) count pos σ paged errors page told (opens ns) d p σ new out t
 
   -- what it comes back with
   abbrev pub Stops : List ℕ → List ℕ → List ℕ → Scanned → Type 0
   Stops ns new out v =
-      ((T : Tables) → Says s tb T → (types depths : List ℕ) (σ : Scope Status) → σ ≡ lent locals types depths at n
+      ((T : Tables) → Says s tb T → (types depths births : List ℕ) (σ : Scope Status) → σ ≡ lent locals types depths births at n
       → Onward T s (opens nodes) count pos σ paged errors page told (opens ns) (v .nodes) (v .at) (applied (v .change) σ) new out (v .told)) × Going s (opens nodes) count pos told (opens ns) v
 
   pub stops-as : (ns new out : List ℕ) {v w : Scanned} → v ≡ w → Stops ns new out w → Stops ns new out v
   stops-as ns new out e h = subst (Stops ns new out) (sym e) h
 
   pub scan-start : Ready s (opens nodes) count pos → Scan nodes count pos errors page told
-  scan-start g = record { ready = g; most = omega arith; less = omega arith; room = refl; reach = refl; ends = λ frames end st. (frames, st); onward = λ T sy types depths σ h. onward-none (opens nodes) count pos σ paged errors page told }
+  scan-start g = record { ready = g; most = omega arith; less = omega arith; room = refl; reach = refl; ends = λ frames end st. (frames, st); onward = λ T sy types depths births σ h. onward-none (opens nodes) count pos σ paged errors page told }
 
   module _ {ns : List ℕ} {d p : ℕ} {new out : List ℕ} {t : ℕ} (w : Scan ns d p new out t) (ns′ : List ℕ) (r : Step) (en : opens ns′ ≡ nodesAfter (opens ns) d r)
       (g : (T : Tables) → Says s tb T → Goes T s (opens ns) d p r) where
@@ -72,11 +72,11 @@ module _ (s tb : List ℕ) (locals : List ℕ) (at : ℕ → Status) (n : ℕ) (
         (k .after, subst (λ os. Stacked os (openAfter d r) (k .after) s (r .at) end) (sym en) (k .stacked))
 
     module _ {newer out′ : List ℕ} {a : Answer}
-        (q : ((types depths : List ℕ) → Tells paged (emits (r .effect)) (lent locals types depths at n) new out t newer out′ a) × (a .told ≤ t + 219) × Marks (a .change)) where
-      step-onward : (T : Tables) → Says s tb T → (types depths : List ℕ) (σ : Scope Status) → σ ≡ lent locals types depths at n
+        (q : ((types depths births : List ℕ) → Tells paged (emits (r .effect)) (lent locals types depths births at n) new out t newer out′ a) × (a .told ≤ t + 219) × Marks (a .change)) where
+      step-onward : (T : Tables) → Says s tb T → (types depths births : List ℕ) (σ : Scope Status) → σ ≡ lent locals types depths births at n
           → Onward T s (opens nodes) count pos σ paged errors page told (opens ns′) (openAfter d r) (r .at) (applied (a .change) σ) newer out′ (a .told)
-      step-onward T sy types depths σ h =
-          onward-as (sym en) refl (onward-both (w .onward T sy types depths σ h) (onward-step r a (g T sy) (subst (λ x. Tells paged (emits (r .effect)) x new out t newer out′ a) (sym h) (q .0 types depths))))
+      step-onward T sy types depths births σ h =
+          onward-as (sym en) refl (onward-both (w .onward T sy types depths births σ h) (onward-step r a (g T sy) (subst (λ x. Tells paged (emits (r .effect)) x new out t newer out′ a) (sym h) (q .0 types depths births))))
 
       step-most : a .told + 219 * fuel s (openAfter d r) (r .at) ≤ told + 219 * fuel s count pos
       step-most = let f = some-goes .falls in let m = w .most in let o = q .1 in omega arith
@@ -90,12 +90,12 @@ module _ (s tb : List ℕ) (locals : List ℕ) (at : ℕ → Status) (n : ℕ) (
         room = l ∙ w .room;
         reach = k ∙ w .reach;
         ends = step-ends;
-        onward = λ T sy types depths σ h. onward-as refl (ap (λ z. applied z σ) e) (step-onward T sy types depths σ h);
+        onward = λ T sy types depths births σ h. onward-as refl (ap (λ z. applied z σ) e) (step-onward T sy types depths births σ h);
       }
 
       -- a change: the scan comes back
       pub scan-stop : (c : Change) → a .change ≡ c → ((b f : ℕ) → f < b → Came c (openAfter d r) b f)
-          → ((T : Tables) → Says s tb T → (types depths : List ℕ) (σ : Scope Status) → σ ≡ lent locals types depths at n
+          → ((T : Tables) → Says s tb T → (types depths births : List ℕ) (σ : Scope Status) → σ ≡ lent locals types depths births at n
           → Onward T s (opens nodes) count pos σ paged errors page told (opens ns′) (openAfter d r) (r .at) (applied (a .change) σ) newer out′ (a .told))
           × Going s (opens nodes) count pos told (opens ns′) (record { at = r .at; nodes = openAfter d r; told = a .told; change = a .change })
       scan-stop c e came = (
@@ -111,6 +111,6 @@ module _ (s tb : List ℕ) (locals : List ℕ) (at : ℕ → Status) (n : ℕ) (
 
   -- no node is open
   pub scan-end : {ns : List ℕ} {d p : ℕ} {new out : List ℕ} {t : ℕ} → d ≤ 0 → Scan ns d p new out t
-      → ((T : Tables) → Says s tb T → (types depths : List ℕ) (σ : Scope Status) → σ ≡ lent locals types depths at n → Onward T s (opens nodes) count pos σ paged errors page told (opens ns) d p σ new out t)
+      → ((T : Tables) → Says s tb T → (types depths births : List ℕ) (σ : Scope Status) → σ ≡ lent locals types depths births at n → Onward T s (opens nodes) count pos σ paged errors page told (opens ns) d p σ new out t)
       × Going s (opens nodes) count pos told (opens ns) (record { at = p; nodes = d; told = t; change = Nothing })
   scan-end le w = (w .onward, record { ready = w .ready; ends = w .ends; most = w .most; came = omega arith; marks = tt })

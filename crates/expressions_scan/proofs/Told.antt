@@ -107,10 +107,10 @@ module _ (σ : Scope Status) (uses : (m s : ℕ) → Single (useOf s (lookup m �
   told-single (effect.GlobalMove p d) = inr (record { kind = 8; place = p; hint = 0; others = d ∷ []; some = omega arith; known = omega arith; few = omega arith; is = refl })
 
 -- of an effect on the locals of lent arrays
-pub single : {kinds firsts rows : List ℕ} {cur width n : ℕ} → AllKept kinds firsts rows cur width n → (e : Effect) (names types depths : List ℕ)
-    → Single (told (emits e) (lent names types depths (stateIn kinds firsts rows cur width) n))
-single {kinds} {firsts} {rows} {cur} {width} {n} g e names types depths =
-    told-single (lent names types depths (stateIn kinds firsts rows cur width) n)
+pub single : {kinds firsts rows : List ℕ} {cur width n : ℕ} → AllKept kinds firsts rows cur width n → (e : Effect) (names types depths births : List ℕ)
+    → Single (told (emits e) (lent names types depths births (stateIn kinds firsts rows cur width) n))
+single {kinds} {firsts} {rows} {cur} {width} {n} g e names types depths births =
+    told-single (lent names types depths births (stateIn kinds firsts rows cur width) n)
     (λ m s. looked-single s m n _ (stateIn kinds firsts rows cur width) (λ i lt. kept-single s (getD kinds i 0) (getD firsts i 0) rows (rowOf cur width i) (g .kept i lt))) e
 
 -- the numbers of such an error's entry, alone in memory of 12

@@ -224,8 +224,8 @@ fn validate_identifier_use<'a>(
     told: usize,
 ) -> Answer
     requires { ⌜ AllKept (now lk) (now lf) (now rows) cur width n × (told < 4294967100) ⌝ }
-    ensures { λ r. ⌜ ((types depths : List ℕ)
-        → Answers (uses name place ∷ []) (lent (now (ln .entry)) types depths (stateIn (now (lk .entry)) (now (lf .entry)) (now (rows .entry)) cur width) n) (now (errs .entry)) told (now (errs .exit)) r) × Small told (now (errs .entry)) (now (errs .exit)) r ⌝ }
+    ensures { λ r. ⌜ ((types depths births : List ℕ)
+        → Answers (uses name place ∷ []) (lent (now (ln .entry)) types depths births (stateIn (now (lk .entry)) (now (lf .entry)) (now (rows .entry)) cur width) n) (now (errs .entry)) told (now (errs .exit)) r) × Small told (now (errs .entry)) (now (errs .exit)) r ⌝ }
 {
     match find_local(ln, n, name) {
         Found::At(i) => {
@@ -257,8 +257,8 @@ fn use_and_hand_over<'a>(
     told: usize,
 ) -> Answer
     requires { ⌜ AllKept (now lk) (now lf) (now rows) cur width n × (told < 4294967100) ⌝ }
-    ensures { λ r. ⌜ ((types depths : List ℕ)
-        → Answers (uses name place ∷ hands name place ∷ []) (lent (now (ln .entry)) types depths (stateIn (now (lk .entry)) (now (lf .entry)) (now (rows .entry)) cur width) n) (now (errs .entry)) told (now (errs .exit)) r) × Small told (now (errs .entry)) (now (errs .exit)) r ⌝ }
+    ensures { λ r. ⌜ ((types depths births : List ℕ)
+        → Answers (uses name place ∷ hands name place ∷ []) (lent (now (ln .entry)) types depths births (stateIn (now (lk .entry)) (now (lf .entry)) (now (rows .entry)) cur width) n) (now (errs .entry)) told (now (errs .exit)) r) × Small told (now (errs .entry)) (now (errs .exit)) r ⌝ }
 {
     match find_local(ln, n, name) {
         Found::At(i) => {
@@ -278,7 +278,7 @@ fn use_and_hand_over<'a>(
 // The consumption of a receiver that is a local.
 fn consume(names: &Names, n: usize, name: u16, place: u32, told: usize) -> Answer
     requires { ⌜ n ≤ 64 ⌝ }
-    ensures { λ r. ⌜ ((types depths : List ℕ) (at : ℕ → Status) (old : List ℕ) → Answers (gives name place ∷ []) (lent (now (names .entry)) types depths at n) old told old r) × ((old : List ℕ) → Small told old old r) ⌝ }
+    ensures { λ r. ⌜ ((types depths births : List ℕ) (at : ℕ → Status) (old : List ℕ) → Answers (gives name place ∷ []) (lent (now (names .entry)) types depths births at n) old told old r) × ((old : List ℕ) → Small told old old r) ⌝ }
 {
     match find_local(names, n, name) {
         Found::At(_) => Answer {
@@ -315,8 +315,8 @@ fn validate_move(
     told: usize,
 ) -> Answer
     requires { ⌜ (n ≤ 64) × (told < 4294967100) ⌝ }
-    ensures { λ r. ⌜ ((types depths : List ℕ) (at : ℕ → Status)
-        → Answers (moves name place temp ∷ []) (lent (now (names .entry)) types depths at n) (now (errors .entry)) told (now (errors .exit)) r) × Small told (now (errors .entry)) (now (errors .exit)) r ⌝ }
+    ensures { λ r. ⌜ ((types depths births : List ℕ) (at : ℕ → Status)
+        → Answers (moves name place temp ∷ []) (lent (now (names .entry)) types depths births at n) (now (errors .entry)) told (now (errors .exit)) r) × Small told (now (errors .entry)) (now (errors .exit)) r ⌝ }
 {
     match find_local(names, n, name) {
         Found::At(_) => {
@@ -346,8 +346,8 @@ pub fn effect_on<'a>(
     told: usize,
 ) -> Answer
     requires { ⌜ AllKept (now lk) (now lf) (now rows) cur width n × (told < 4294967100) ⌝ }
-    ensures { λ r. ⌜ ((types depths : List ℕ)
-        → Answers (emits effect) (lent (now (ln .entry)) types depths (stateIn (now (lk .entry)) (now (lf .entry)) (now (rows .entry)) cur width) n) (now (errs .entry)) told (now (errs .exit)) r) × Small told (now (errs .entry)) (now (errs .exit)) r ⌝ }
+    ensures { λ r. ⌜ ((types depths births : List ℕ)
+        → Answers (emits effect) (lent (now (ln .entry)) types depths births (stateIn (now (lk .entry)) (now (lf .entry)) (now (rows .entry)) cur width) n) (now (errs .entry)) told (now (errs .exit)) r) × Small told (now (errs .entry)) (now (errs .exit)) r ⌝ }
 {
     match effect {
         Effect::Nothing => Answer {
@@ -392,8 +392,8 @@ fn effect_told<'a>(
     told: usize,
 ) -> Answer
     requires { ⌜ AllKept (now lk) (now lf) (now rows) cur width n × (told < 4294900000) ⌝ }
-    ensures { λ r. ⌜ ((types depths : List ℕ)
-        → Tells «paged» (emits effect) (lent (now (ln .entry)) types depths (stateIn (now (lk .entry)) (now (lf .entry)) (now (rows .entry)) cur width) n)
+    ensures { λ r. ⌜ ((types depths births : List ℕ)
+        → Tells «paged» (emits effect) (lent (now (ln .entry)) types depths births (stateIn (now (lk .entry)) (now (lf .entry)) (now (rows .entry)) cur width) n)
         (now (errs .entry)) (now (out .entry)) told (now (errs .exit)) (now (out .exit)) r) × (r .told ≤ told + 219) × Marks (r .change) ⌝ }
 {
     if let Effect::Nothing = effect {
@@ -494,8 +494,8 @@ pub fn scan_on<'a>(
     requires { ⌜ Lent (now s) (now tb) × AllKept (now lk) (now lf) (now rows) (env .cur) (env .width) (env .locals)
         × Ready (now s) (opens (now nodes)) count at × (told + 219 * fuel (now s) count at < 4294900000) ⌝ }
     ensures { λ r. ⌜ ((T : Tables) → Says (now (s .entry)) (now (tb .entry)) T
-        → (types depths : List ℕ) (σ : Scope Status)
-        → σ ≡ lent (now (ln .entry)) types depths (stateIn (now (lk .entry)) (now (lf .entry)) (now (rows .entry)) (env .cur) (env .width)) (env .locals)
+        → (types depths births : List ℕ) (σ : Scope Status)
+        → σ ≡ lent (now (ln .entry)) types depths births (stateIn (now (lk .entry)) (now (lf .entry)) (now (rows .entry)) (env .cur) (env .width)) (env .locals)
         → Onward T (now (s .entry)) (opens (now (nodes .entry))) count at σ «paged» (now (errs .entry)) (now (out .entry)) told
         (opens (now (nodes .exit))) (r .nodes) (r .at) (applied (r .change) σ) (now (errs .exit)) (now (out .exit)) (r .told))
         × Going (now (s .entry)) (opens (now (nodes .entry))) count at told (opens (now (nodes .exit))) r ⌝ }

@@ -63,7 +63,7 @@ pub stored-lined : {old new : List ℕ} {next : ℕ} (c : Cursors) (r : Report) 
 unfolding lined
 stored-lined c (error k p h ps) s = (s .cells, s .place)
 stored-lined c (warning t o) s = (s .cells, s .place)
-stored-lined c (left t n) s = (s .cells, s .place)
+stored-lined c (left t n b) s = (s .cells, s .place)
 
 -- the cursors after some reports: each behind what its list shows
 pub cursors-of : (c : Cursors) (rs : List Report) → onwardAll c rs
@@ -72,7 +72,7 @@ unfolding onwardAll
 cursors-of c [] = simp (shown-none, add-zero)
 cursors-of c (error k p h ps ∷ rs) = cursors-of (onward c (error k p h ps)) rs ∙ rw (more-length (c .errors) (error k p h ps) (errors rs))
 cursors-of c (warning s o ∷ rs) = cursors-of (onward c (warning s o)) rs ∙ rw (more-length (c .warnings) (warning s o) (warnings rs))
-cursors-of c (left s n ∷ rs) = cursors-of (onward c (left s n)) rs ∙ rw (more-length (c .lefts) (left s n) (lefts rs))
+cursors-of c (left s n b ∷ rs) = cursors-of (onward c (left s n b)) rs ∙ rw (more-length (c .lefts) (left s n b) (lefts rs))
 
 -- reports measured from 0 on: where the lists begin, and the page's length
 module _ (rs : List Report) where
@@ -97,7 +97,7 @@ lined-errors c [] out = simp shown-none
 lined-errors c (error k p h ps ∷ rs) out =
     lined-errors (onward c (error k p h ps)) rs (sets out (c .errors) (shown (error k p h ps))) ∙ sets-more out (c .errors) (error k p h ps) (errors rs)
 lined-errors c (warning s o ∷ rs) out = lined-errors c rs out
-lined-errors c (left s n ∷ rs) out = lined-errors c rs out
+lined-errors c (left s n b ∷ rs) out = lined-errors c rs out
 
 pub lined-warnings : (c : Cursors) (rs : List Report) (out : List ℕ) → lined c (warnings rs) out ≡ sets out (c .warnings) (shownAll (warnings rs))
 unfolding lined
@@ -105,15 +105,15 @@ lined-warnings c [] out = simp shown-none
 lined-warnings c (error k p h ps ∷ rs) out = lined-warnings c rs out
 lined-warnings c (warning s o ∷ rs) out =
     lined-warnings (onward c (warning s o)) rs (sets out (c .warnings) (shown (warning s o))) ∙ sets-more out (c .warnings) (warning s o) (warnings rs)
-lined-warnings c (left s n ∷ rs) out = lined-warnings c rs out
+lined-warnings c (left s n b ∷ rs) out = lined-warnings c rs out
 
 pub lined-lefts : (c : Cursors) (rs : List Report) (out : List ℕ) → lined c (lefts rs) out ≡ sets out (c .lefts) (shownAll (lefts rs))
 unfolding lined
 lined-lefts c [] out = simp shown-none
 lined-lefts c (error k p h ps ∷ rs) out = lined-lefts c rs out
 lined-lefts c (warning s o ∷ rs) out = lined-lefts c rs out
-lined-lefts c (left s n ∷ rs) out =
-    lined-lefts (onward c (left s n)) rs (sets out (c .lefts) (shown (left s n))) ∙ sets-more out (c .lefts) (left s n) (lefts rs)
+lined-lefts c (left s n b ∷ rs) out =
+    lined-lefts (onward c (left s n b)) rs (sets out (c .lefts) (shown (left s n b))) ∙ sets-more out (c .lefts) (left s n b) (lefts rs)
 
 -- the three lists, each from its cursor on
 abbrev threeLists : Cursors → List Report → List ℕ → List ℕ
@@ -132,8 +132,8 @@ lined-lists c (warning s o ∷ rs) out a b =
     let e = more-length (c .warnings) r (warnings rs) in
     lined-lists (onward c r) rs (sets out (c .warnings) (shown r)) (omega arith) (omega arith)
     ∙ rw (sets-sets out (c .errors) (c .warnings) (shownAll (errors rs)) (shown r) a, sets-more _ (c .warnings) r (warnings rs))
-lined-lists c (left s n ∷ rs) out a b =
-    let r = left s n in
+lined-lists c (left s n z ∷ rs) out a b =
+    let r = left s n z in
     let e = more-length (c .lefts) r (lefts rs) in
     lined-lists (onward c r) rs (sets out (c .lefts) (shown r)) a (omega arith)
     ∙ rw (sets-sets out (c .errors) (c .lefts) (shownAll (errors rs)) (shown r) (omega arith), sets-sets _ (c .warnings) (c .lefts) (shownAll (warnings rs)) (shown r) b, sets-more _ (c .lefts) r (lefts rs))

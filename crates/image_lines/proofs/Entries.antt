@@ -112,16 +112,16 @@ pub warning-put : {xs ys : List ℕ} {p r : ℕ} (s o : ℕ) → Stored xs p (li
 unfolding shown entry lines flatten
 warning-put s o a = rw append-nil a
 
-pub left-put : {xs ys : List ℕ} {p r : ℕ} (s n : ℕ) → Stored xs p (line (head (bytes "left behind") s) (n ∷ [])) ys r → Stored xs p (shown (left s n)) ys r
+pub left-put : {xs ys : List ℕ} {p r : ℕ} (s n b : ℕ) → Stored xs p (line (head (bytes "left behind") s) (n ∷ b ∷ [])) ys r → Stored xs p (shown (left s n b)) ys r
 unfolding shown entry lines flatten
-left-put s n a = rw append-nil a
+left-put s n b a = rw append-nil a
 
 -- one past the end of memory
-left-length : (s n : ℕ) → length (shown (left s n)) ≡ 73
+left-length : (s n b : ℕ) → length (shown (left s n b)) ≡ 73
 unfolding shown entry
-left-length s n =
-    let c = lines-count (head (bytes "left behind") s) (n ∷ []) in
-    omega (arith, lines-length (lines-are (head (bytes "left behind") s) (n ∷ []) (head-begins (bytes "left behind") s left-fit)))
+left-length s n b =
+    let c = lines-count (head (bytes "left behind") s) (n ∷ b ∷ []) in
+    omega (arith, lines-length (lines-are (head (bytes "left behind") s) (n ∷ b ∷ []) (head-begins (bytes "left behind") s left-fit)))
 
-pub left-past : {xs : List ℕ} {p : ℕ} (s n : ℕ) → length xs ≤ p → Stored xs p (shown (left s n)) xs (p + 73)
-left-past {xs} {p} s n h = record { cells = sym (sets-out xs p (shown (left s n)) h); place = ap (λ (k : ℕ). p + k) (sym (left-length s n)) }
+pub left-past : {xs : List ℕ} {p : ℕ} (s n b : ℕ) → length xs ≤ p → Stored xs p (shown (left s n b)) xs (p + 73)
+left-past {xs} {p} s n b h = record { cells = sym (sets-out xs p (shown (left s n b)) h); place = ap (λ (k : ℕ). p + k) (sym (left-length s n b)) }

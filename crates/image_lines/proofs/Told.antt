@@ -93,7 +93,7 @@ unfolding lined
 errorless e k w l [] page z = refl
 errorless e k w l (error a p h ps ∷ rs) page z = absurd (nil-cons z)
 errorless e k w l (warning s o ∷ rs) page z = errorless e k (w + length (shown (warning s o))) l rs (sets page w (shown (warning s o))) z
-errorless e k w l (left s n ∷ rs) page z = errorless e k w (l + length (shown (left s n))) rs (sets page l (shown (left s n))) z
+errorless e k w l (left s n b ∷ rs) page z = errorless e k w (l + length (shown (left s n b))) rs (sets page l (shown (left s n b))) z
 
 pub lined-retold : (k : ℕ) {e w l e′ w′ l′ : ℕ} {rs : List Report} {page page′ : List ℕ} → errors rs ≡ []
     → Lined (cursors e w l) rs page (cursors e′ w′ l′) page′ → Lined (cursors k w l) rs page (cursors k w′ l′) page′

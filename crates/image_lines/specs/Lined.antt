@@ -30,13 +30,13 @@ cursors e w l = record { errors = e; warnings = w; lefts = l }
 abbrev pub cursor : Cursors → Report → ℕ
 cursor c (error k p h ps) = c .errors
 cursor c (warning s o) = c .warnings
-cursor c (left s n) = c .lefts
+cursor c (left s n b) = c .lefts
 
 -- the cursors after it: that of its list behind its lines
 abbrev pub onward : Cursors → Report → Cursors
 onward c (error k p h ps) = cursors (c .errors + length (shown (error k p h ps))) (c .warnings) (c .lefts)
 onward c (warning s o) = cursors (c .errors) (c .warnings + length (shown (warning s o))) (c .lefts)
-onward c (left s n) = cursors (c .errors) (c .warnings) (c .lefts + length (shown (left s n)))
+onward c (left s n b) = cursors (c .errors) (c .warnings) (c .lefts + length (shown (left s n b)))
 
 unfoldable pub onwardAll : Cursors → List Report → Cursors
 onwardAll c [] = c

@@ -142,7 +142,7 @@ pub fn put_warning_line(out: &mut [u8], at: usize, span: u32, offset: u32) -> us
     put_first(out, at, b"unused result", span, &others)
 }
 
-// What the line of a left-behind entry begins with, in blank text: the same for all that a return leaves behind.
+// What the line of a left-behind entry begins with, in blank text: the same for all that a return, a break or a continue leaves behind.
 pub fn begin_left(text: &mut [u8; 73], span: u32)
     requires { ⌜ now text ≡ blanks 73 ⌝ }
     ensures { λ r. ⌜ now (text .exit) ≡ leftBegin span ⌝ }
@@ -152,14 +152,14 @@ pub fn begin_left(text: &mut [u8; 73], span: u32)
 }
 
 // A left-behind entry's line, from what it begins with.
-pub fn put_left_line(text: &[u8; 73], out: &mut [u8], at: usize, name: u32) -> usize
+pub fn put_left_line(text: &[u8; 73], out: &mut [u8], at: usize, name: u32, born: u32) -> usize
     requires { ⌜ at < 4294900000 ⌝ }
-    ensures { λ r. ⌜ ((span : ℕ) → now (text .entry) ≡ leftBegin span → Stored (now (out .entry)) at (shown (left span name)) (now (out .exit)) r) × (r ≡ at + 73) ⌝ }
+    ensures { λ r. ⌜ ((span : ℕ) → now (text .entry) ≡ leftBegin span → Stored (now (out .entry)) at (shown (left span name born)) (now (out .exit)) r) × (r ≡ at + 73) ⌝ }
 {
     if out.len() <= at {
         return at + 73;
     }
     let mut whole = *text;
-    let others = [name];
+    let others = [name, born];
     put_line(&mut whole, &others, out, at)
 }

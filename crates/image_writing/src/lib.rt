@@ -101,3 +101,12 @@ pub fn put_pair(list: &mut [u32], at: usize, a: u32, b: u32) -> usize
     let next = put_number(list, at, a);
     put_number(list, next, b)
 }
+
+// An entry of three numbers.
+pub fn put_triple(list: &mut [u32], at: usize, a: u32, b: u32, c: u32) -> usize
+    requires { ⌜ at < 4294967100 ⌝ }
+    ensures { λ r. ⌜ Stored (now (list .entry)) at (a ∷ b ∷ c ∷ []) (now (list .exit)) r ⌝ }
+{
+    let next = put_pair(list, at, a, b);
+    put_number(list, next, c)
+}

@@ -26,7 +26,7 @@ abbrev pub recordsOf : List Reported → List Report
 recordsOf [] = []
 recordsOf (error k p h ps ∷ rs) = recordOf k p h ps ∷ recordsOf rs
 recordsOf (warning s o ∷ rs) = recordsOf rs
-recordsOf (left s n ∷ rs) = recordsOf rs
+recordsOf (left s n b ∷ rs) = recordsOf rs
 
 -- 14 exactly where there are too few structs or numbers, and then nothing changes
 pub too-few : (ns : List ℕ) (n : ℕ) (old new : List Report) (fault : ℕ) → Writes ns n old new fault
@@ -102,7 +102,7 @@ length-entries (error k p h ps ∷ rs) =
     let c = length-entries rs in
     omega (arith, a, b, c)
 length-entries (warning s o ∷ rs) = length-entries rs
-length-entries (left s n ∷ rs) = length-entries rs
+length-entries (left s n b ∷ rs) = length-entries rs
 
 records-of : (rs : List Reported) (rest : List ℕ) → records (entriesOf version1 (errors rs) ++ rest) (length (errors rs)) ≡ recordsOf rs
 unfolding records
@@ -119,7 +119,7 @@ records-of (error k p h ps ∷ rs) rest =
     ∙ ap (λ (ns : List ℕ). recordOf k p h ps ∷ records ns n) (drop-at entry after 12 twelve)
     ∙ ap (λ (l : List Report). recordOf k p h ps ∷ l) (records-of rs rest)
 records-of (warning s o ∷ rs) rest = records-of rs rest
-records-of (left s n ∷ rs) rest = records-of rs rest
+records-of (left s n b ∷ rs) rest = records-of rs rest
 
 -- the numbers of the rules' errors, with whatever follows them, make these errors' records
 pub reports-of-errors : (rs : List Reported) (rest : List ℕ) (old new : List Report) (fault : ℕ) → length (errors rs) ≤ length old

@@ -15,7 +15,7 @@ use Rattle.tables.specs.Tables.{Tables}
 use Rattle.rules.specs.Questions.{auto}
 use Rattle.rules.specs.State.{State as Status}
 use Rattle.rules.specs.Stack.{mark}
-use Rattle.rules.specs.Rules.{states, register}
+use Rattle.rules.specs.Rules.{declared, states, register}
 use Rattle.scope_state.specs.Kinds.{said, put}
 use Rattle.scope_stack.specs.declared.Locals.{Locals}
 use Rattle.scope_stack.specs.declared.States.{States}
@@ -25,8 +25,8 @@ use Rattle.lent.specs.declared.Stack.{Stack}
 use Rattle.lent.specs.Changed.{Whole, Marked, Registered, view}
 
 -- 64 locals are there
-pub refused : (s : Stack) (name ty depth : ℕ) (dtor : Bool) → Whole s → 64 ≤ s .locals .count → Registered s name ty depth dtor false s
-refused s name ty depth dtor w full = record {
+pub refused : (s : Stack) (name ty depth born : ℕ) (dtor : Bool) → Whole s → 64 ≤ s .locals .count → Registered s name ty depth born dtor false s
+refused s name ty depth born dtor w full = record {
   answer = sym (le-ltb (s .locals .count) 64 full);
   kept = λ _. refl;
   grows = λ e. false-true e;
@@ -36,27 +36,27 @@ refused s name ty depth dtor w full = record {
 }
 
 -- one local more, and its frame marked Alive, or Alive already
-module _ (s : Stack) (name ty depth : ℕ) (dtor : Bool) (r : Locals) (few : s .locals .count < 64) (g : Grows (s .locals) name ty depth dtor r) where
+module _ (s : Stack) (name ty depth born : ℕ) (dtor : Bool) (r : Locals) (few : s .locals .count < 64) (g : Grows (s .locals) (declared depth born name ty) dtor r) where
   pub revived : (p : ℕ) (u : States) → Held u → Marks r name (put false (said 0 (p ∷ []))) (s .states) u
-      → Registered s name ty depth dtor true (record { locals = r; states = u })
+      → Registered s name ty depth born dtor true (record { locals = r; states = u })
   revived p u held m = record {
     answer = sym (lt-ltb (s .locals .count) 64 few);
     kept = λ e. false-true (sym e);
     grows = λ _. g;
     held = held;
-    is = λ _ rows cur width h. registers-marked (s .locals) r name ty depth dtor g (s .states) rows cur width h p u m;
-    rowed = λ _ rows cur width h. m .rowed rows cur width (rowed-more (s .locals) r name ty depth dtor g (s .states) rows cur width h);
+    is = λ _ rows cur width h. registers-marked (s .locals) r name ty depth born dtor g (s .states) rows cur width h p u m;
+    rowed = λ _ rows cur width h. m .rowed rows cur width (rowed-more (s .locals) r name ty depth born dtor g (s .states) rows cur width h);
   }
 
   pub fresh : Held (s .states) → ((i : ℕ) → i < 64 → aliveAt (s .states) i ≡ false → Named (r .names) (r .depths) name depth i → ⊥)
-      → Registered s name ty depth dtor true (record { locals = r; states = s .states })
+      → Registered s name ty depth born dtor true (record { locals = r; states = s .states })
   fresh held calm = record {
     answer = sym (lt-ltb (s .locals .count) 64 few);
     kept = λ e. false-true (sym e);
     grows = λ _. g;
     held = held;
-    is = λ _ rows cur width h. registers-fresh (s .locals) r name ty depth dtor g (s .states) rows cur width h calm (omega arith);
-    rowed = λ _ rows cur width h. rowed-more (s .locals) r name ty depth dtor g (s .states) rows cur width h;
+    is = λ _ rows cur width h. registers-fresh (s .locals) r name ty depth born dtor g (s .states) rows cur width h calm (omega arith);
+    rowed = λ _ rows cur width h. rowed-more (s .locals) r name ty depth born dtor g (s .states) rows cur width h;
   }
 
 -- what a mark leaves, with any rows
@@ -72,23 +72,23 @@ module _ (s r : Stack) (name : ℕ) (f : Status → Status) (m : Marked s name f
   )
 
 -- what a registration leaves, refused or not, and when it is refused: fault 12
-module _ (s r : Stack) (name ty depth : ℕ) (dtor : Bool) where
-  pub registered-whole : (ok : Bool) → Whole s → Registered s name ty depth dtor ok r → Whole r
+module _ (s r : Stack) (name ty depth born : ℕ) (dtor : Bool) where
+  pub registered-whole : (ok : Bool) → Whole s → Registered s name ty depth born dtor ok r → Whole r
   registered-whole true w g = (g .grows refl .kept, g .held)
   registered-whole false w g = subst Whole (sym (g .kept refl)) w
 
-  pub registered-view : {P : Tables → Type 0} (rows : List ℕ) (cur width : ℕ) → Registered s name ty depth dtor true r → Sound P (s .locals) (s .states) rows cur width
+  pub registered-view : {P : Tables → Type 0} (rows : List ℕ) (cur width : ℕ) → Registered s name ty depth born dtor true r → Sound P (s .locals) (s .states) rows cur width
       → ((T : Tables) → P T → dtor ≡ auto T ty)
-      → (view r rows cur width ≡ register states name ty depth (view s rows cur width)) × Sound P (r .locals) (r .states) rows cur width
+      → (view r rows cur width ≡ register states (declared depth born name ty) (view s rows cur width)) × Sound P (r .locals) (r .states) rows cur width
   registered-view rows cur width g h asked = (
     g .is refl rows cur width (h .rowed),
     sound-of (r .locals) (r .states) rows cur width (g .grows refl .kept) (g .held) (g .rowed refl rows cur width (h .rowed)) (λ T p. g .grows refl .drops T (asked T p) (h .drops T p)),
   )
 
-  pub registered-answer : (ok : Bool) (rows : List ℕ) (cur width : ℕ) → Registered s name ty depth dtor ok r
-      → ok ≡ not (ltb (version1 .locals) (length (register states name ty depth (view s rows cur width))))
+  pub registered-answer : (ok : Bool) (rows : List ℕ) (cur width : ℕ) → Registered s name ty depth born dtor ok r
+      → ok ≡ not (ltb (version1 .locals) (length (register states (declared depth born name ty) (view s rows cur width))))
   registered-answer ok rows cur width g =
-      g .answer ∙ below (s .locals .count) ∙ ap (λ (n : ℕ). not (ltb 64 n)) (sym (register-length (s .locals) name ty depth (s .states) rows cur width))
+      g .answer ∙ below (s .locals .count) ∙ ap (λ (n : ℕ). not (ltb 64 n)) (sym (register-length (s .locals) name ty depth born (s .states) rows cur width))
     where
       below : (n : ℕ) → ltb n 64 ≡ not (ltb 64 (n + 1))
       below n = ⊎-elim

@@ -8,7 +8,7 @@ use lib.Dec.{ltb}
 use Rattle.tables.specs.Limits.{version1}
 use Rattle.rules.specs.State.{State as Status}
 use Rattle.rules.specs.Stack.{Stack as Scope}
-use Rattle.rules.specs.Rules.{states, register}
+use Rattle.rules.specs.Rules.{declared, states, register}
 use Rattle.scope_stack.specs.View.{Kept, Held, Rowed, Marks, Grows, view as seen}
 use Rattle.lent.specs.declared.Stack.{Stack}
 
@@ -27,12 +27,12 @@ pub record Marked (old : Stack) (name : ℕ) (f : Status → Status) (new : Stac
   pub marks : Marks (old .locals) name f (old .states) (new .states)
 
 -- a registration, refused where it would be the 65th local; refused, the stack is as it was
-pub record Registered (old : Stack) (name ty depth : ℕ) (dtor ok : Bool) (new : Stack) : Type 0 where
+pub record Registered (old : Stack) (name ty depth born : ℕ) (dtor ok : Bool) (new : Stack) : Type 0 where
   pub answer : ok ≡ ltb (old .locals .count) (version1 .locals)
   pub kept : ok ≡ false → new ≡ old
-  pub grows : ok ≡ true → Grows (old .locals) name ty depth dtor (new .locals)
+  pub grows : ok ≡ true → Grows (old .locals) (declared depth born name ty) dtor (new .locals)
   pub held : Held (new .states)
   pub is : ok ≡ true → (rows : List ℕ) (cur width : ℕ) → Rowed (old .locals .count) (old .states) rows cur width
-      → view new rows cur width ≡ register states name ty depth (view old rows cur width)
+      → view new rows cur width ≡ register states (declared depth born name ty) (view old rows cur width)
   pub rowed : ok ≡ true → (rows : List ℕ) (cur width : ℕ) → Rowed (old .locals .count) (old .states) rows cur width
       → Rowed (new .locals .count) (new .states) rows cur width

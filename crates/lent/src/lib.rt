@@ -56,9 +56,9 @@ pub fn mark(stack: &mut Stack, name: u16, kind: u8, place: u32, only_alive: bool
 }
 
 // The stack with a new local; refused, it is as it was.
-fn registered(stack: Stack, name: u16, ty: u16, depth: u8, dtor: bool) -> Next
+fn registered(stack: Stack, name: u16, ty: u16, depth: u8, born: u32, dtor: bool) -> Next
     requires { ⌜ Whole stack ⌝ }
-    ensures { λ r. ⌜ Registered stack name ty depth dtor (r .ok) (r .stack) ⌝ }
+    ensures { λ r. ⌜ Registered stack name ty depth born dtor (r .ok) (r .stack) ⌝ }
 {
     let l = stack.locals;
     if 64 <= l.count {
@@ -67,7 +67,7 @@ fn registered(stack: Stack, name: u16, ty: u16, depth: u8, dtor: bool) -> Next
             stack: stack,
         };
     }
-    let m = l.register_local(name, ty, depth, dtor);
+    let m = l.register_local(name, ty, depth, born, dtor);
     let mut t = stack.states;
     if scope_stack::needs_revival(&m.names, &m.depths, t.alive, name, depth) {
         t = t.mark(&m.names, &m.depths, m.count, name, 0, 0, false);
@@ -83,11 +83,18 @@ fn registered(stack: Stack, name: u16, ty: u16, depth: u8, dtor: bool) -> Next
 }
 
 // False: 64 locals are there.
-pub fn register_local(stack: &mut Stack, name: u16, ty: u16, depth: u8, dtor: bool) -> bool
+pub fn register_local(
+    stack: &mut Stack,
+    name: u16,
+    ty: u16,
+    depth: u8,
+    born: u32,
+    dtor: bool,
+) -> bool
     requires { ⌜ Whole (now stack) ⌝ }
-    ensures { λ r. ⌜ Registered (now (stack .entry)) name ty depth dtor r (now (stack .exit)) ⌝ }
+    ensures { λ r. ⌜ Registered (now (stack .entry)) name ty depth born dtor r (now (stack .exit)) ⌝ }
 {
-    let next = registered(*stack, name, ty, depth, dtor);
+    let next = registered(*stack, name, ty, depth, born, dtor);
     *stack = next.stack;
     next.ok
 }

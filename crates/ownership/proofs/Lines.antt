@@ -1,7 +1,8 @@
 -- Lines from their words and numbers, and lists from their lines.
 -- Assumes nothing.
-use Prim.Native.Nat.{ℕ, zero, suc, _+_, _-_, _≤_, _<_, min}
+use Prim.Native.Nat.{ℕ, zero, suc, _+_, _-_, _*_, _≤_, _<_, min}
 use native.Mathlib.Omega.{arith}
+use native.Mathlib.Nat.{mul-suc}
 use mathlib.Core.Path.{_≡_, refl, sym, ap, _∙_, subst}
 use mathlib.Core.List.{List, [], _∷_, _++_, append-assoc}
 use lib.ListN.{length, getD}
@@ -58,3 +59,8 @@ pub error-put : {xs ys zs us vs : List ℕ} {p q r t w : ℕ} (l : List ℕ) (at
 error-put {xs} {ys} {zs} {us} {vs} {p} {q} {r} {t} {w} l at k e a b c d =
     subst (λ j. Stored xs p (line (101 ∷ 114 ∷ 114 ∷ 111 ∷ 114 ∷ []) (slice at (at + 3) l ++ slice (at + 4) (at + 4 + j) l)) vs w) e
     (two-runs _ (slice at (at + 3) l) (slice (at + 4) (at + 4 + k) l) a b c d)
+
+-- one entry of so many numbers less
+pub width-step : (width n : ℕ) → 0 < n → width * n ≡ width * (n - 1) + width
+width-step width zero h = absurd (omega arith)
+width-step width (suc n) h = let e : suc n - 1 ≡ n = omega arith in mul-suc width n ∙ ap (λ (k : ℕ). width * k + width) (sym e)

@@ -12,14 +12,14 @@ use Rattle.entries_verdict.specs.declared.Totals.{Totals}
 use Rattle.entries_verdict.specs.declared.Outcome.{Outcome}
 use Rattle.entries_verdict.specs.declared.Outcome.the-variants.{Accepted, Refused}
 use Rattle.programs_text.specs.Text.{refusedWord, line}
-use Rattle.ownership.specs.Text.{acceptedWord, warningWord, leftWord, lines, errorLine, pairLine, Reports}
+use Rattle.ownership.specs.Text.{acceptedWord, warningWord, leftWord, lines, errorLine, entryLine, Reports}
 
 -- what the program lends
 pub record Lends (m : Memory) : Type 0 where
   pub bytes : length (m .out) ≡ 65536
   pub errors : length (m .errs) ≡ 12 * 256
   pub warnings : length (m .warns) ≡ 2 * 256
-  pub lefts : length (m .lefts) ≡ 2 * 256
+  pub lefts : length (m .lefts) ≡ 3 * 256
 
 module _ {s old new : List ℕ} {r : ℕ} {o : Outcome} (lent after : Memory) (g : Lends lent) (p : Passes s lent o after) where
   pub told-refused : {n : ℕ} → o ≡ Refused n → Stored old 0 (line refusedWord (n ∷ [])) new r → Reports s old new r
@@ -38,8 +38,8 @@ module _ {s old new : List ℕ} {r : ℕ} {o : Outcome} (lent after : Memory) (g
   pub told-accepted : {t : Totals} {us vs ws : List ℕ} {i j k : ℕ} → o ≡ Accepted t
       → Stored old 0 (line acceptedWord (t .written ∷ t .errors ∷ t .warnings ∷ t .lefts ∷ [])) us i
       → Stored us i (lines (errorLine (after .errs)) 12 (t .errors) 0) vs j
-      → Stored vs j (lines (pairLine warningWord (after .warns)) 2 (t .warnings) 0) ws k
-      → Stored ws k (lines (pairLine leftWord (after .lefts)) 2 (t .lefts) 0) new r → Reports s old new r
+      → Stored vs j (lines (entryLine warningWord (after .warns) 2) 2 (t .warnings) 0) ws k
+      → Stored ws k (lines (entryLine leftWord (after .lefts) 3) 3 (t .lefts) 0) new r → Reports s old new r
   told-accepted {t} e a b c d = record {
     outcome = Accepted t;
     lent = lent;

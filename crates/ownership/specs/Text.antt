@@ -15,8 +15,9 @@ use Rattle.entries_verdict.specs.declared.Outcome.the-variants.{Accepted, Refus
 abbrev pub errorLine : List ℕ → ℕ → List ℕ
 errorLine l at = line (101 ∷ 114 ∷ 114 ∷ 111 ∷ 114 ∷ []) (slice at (at + 3) l ++ slice (at + 4) (at + 4 + min (getD l (at + 3) 0) 8) l)
 
-abbrev pub pairLine : List ℕ → List ℕ → ℕ → List ℕ
-pairLine word l at = line word (slice at (at + 2) l)
+-- a word and the numbers of an entry, so many
+abbrev pub entryLine : List ℕ → List ℕ → ℕ → ℕ → List ℕ
+entryLine word l width at = line word (slice at (at + width) l)
 
 -- the lines of so many entries, each `stride` numbers after the one before
 unfoldable pub lines : (ℕ → List ℕ) → ℕ → ℕ → ℕ → List ℕ
@@ -37,7 +38,7 @@ abbrev pub textOf : Outcome → Memory → List ℕ
 textOf (Refused n) m = line refusedWord (n ∷ [])
 textOf (Accepted t) m =
     line acceptedWord (t .written ∷ t .errors ∷ t .warnings ∷ t .lefts ∷ [])
-    ++ (lines (errorLine (m .errs)) 12 (t .errors) 0 ++ (lines (pairLine warningWord (m .warns)) 2 (t .warnings) 0 ++ lines (pairLine leftWord (m .lefts)) 2 (t .lefts) 0))
+    ++ (lines (errorLine (m .errs)) 12 (t .errors) 0 ++ (lines (entryLine warningWord (m .warns) 2) 2 (t .warnings) 0 ++ lines (entryLine leftWord (m .lefts) 3) 3 (t .lefts) 0))
 
 -- the text of what the pass answers and leaves, with 65,536 bytes and 256 entries a list lent
 pub record Reports (s old new : List ℕ) (r : ℕ) : Type 0 where
@@ -47,6 +48,6 @@ pub record Reports (s old new : List ℕ) (r : ℕ) : Type 0 where
   pub bytes : length (lent .out) ≡ 65536
   pub errors : length (lent .errs) ≡ 12 * 256
   pub warnings : length (lent .warns) ≡ 2 * 256
-  pub lefts : length (lent .lefts) ≡ 2 * 256
+  pub lefts : length (lent .lefts) ≡ 3 * 256
   pub passes : Passes s lent outcome after
   pub stored : Stored old 0 (textOf outcome after) new r

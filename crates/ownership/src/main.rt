@@ -7,7 +7,7 @@ ghost use lib.ListN.{length};
 ghost use lib.Seq.{slice};
 ghost use Rattle.image_writing.specs.Stored.{Stored};
 ghost use Rattle.programs_text.specs.Text.{numbers, line};
-ghost use Rattle.ownership.specs.Text.{acceptedWord, errorLine, pairLine, lines, Reports};
+ghost use Rattle.ownership.specs.Text.{acceptedWord, errorLine, entryLine, lines, Reports};
 use entries_verdict::Outcome;
 use entries_verdict::Totals;
 use libc::STDIN_FILENO;
@@ -69,27 +69,41 @@ fn put_errors(out: &mut [u8], at: usize, errs: &[u32], many: usize) -> usize
     p
 }
 
-// A word and the two numbers of an entry.
-fn put_pair(out: &mut [u8], at: usize, word: &[u8], list: &[u32], entry: usize) -> usize
-    requires { ⌜ (at < 4294800000) × (length (now word) ≤ 8) × (entry + 2 ≤ length (now list)) ⌝ }
-    ensures { λ r. ⌜ Stored (now (out .entry)) at (pairLine (now (word .entry)) (now (list .entry)) entry) (now (out .exit)) r × (r ≤ at + 52) ⌝ }
+// A word and the numbers of an entry, so many.
+fn put_entry(
+    out: &mut [u8],
+    at: usize,
+    word: &[u8],
+    list: &[u32],
+    width: usize,
+    entry: usize,
+) -> usize
+    requires { ⌜ (at < 4294800000) × (length (now word) ≤ 8) × (width ≤ 3) × (entry + width ≤ length (now list)) ⌝ }
+    ensures { λ r. ⌜ Stored (now (out .entry)) at (entryLine (now (word .entry)) (now (list .entry)) width entry) (now (out .exit)) r × (r ≤ at + 73) ⌝ }
 {
     let named = programs_text::put_text(out, at, word);
-    let told = put_numbers(out, named, list, entry, entry + 2);
+    let told = put_numbers(out, named, list, entry, entry + width);
     programs_text::put_text(out, told, b"\n")
 }
 
 // The lines of a list's first entries.
-fn put_pairs(out: &mut [u8], at: usize, word: &[u8], list: &[u32], many: usize) -> usize
-    requires { ⌜ (at < 1000000) × (many ≤ 256) × (length (now word) ≤ 8) × (2 * many ≤ length (now list)) ⌝ }
-    ensures { λ r. ⌜ Stored (now (out .entry)) at (lines (pairLine (now (word .entry)) (now (list .entry))) 2 many 0) (now (out .exit)) r × (r ≤ at + 52 * many) ⌝ }
+fn put_entries(
+    out: &mut [u8],
+    at: usize,
+    word: &[u8],
+    list: &[u32],
+    width: usize,
+    many: usize,
+) -> usize
+    requires { ⌜ (at < 1000000) × (many ≤ 256) × (length (now word) ≤ 8) × (width ≤ 3) × (width * many ≤ length (now list)) ⌝ }
+    ensures { λ r. ⌜ Stored (now (out .entry)) at (lines (entryLine (now (word .entry)) (now (list .entry)) width) width many 0) (now (out .exit)) r × (r ≤ at + 73 * many) ⌝ }
 {
     let mut left = many;
     let mut entry = 0;
     let mut p = at;
     while 0 < left {
-        p = put_pair(out, p, word, list, entry);
-        entry += 2;
+        p = put_entry(out, p, word, list, width, entry);
+        entry += width;
         left -= 1;
     }
     p
@@ -113,14 +127,14 @@ fn report(s: &[u8], out: &mut [u8]) -> usize
     let mut bytes = [0u8; 65536];
     let mut errs = [0u32; 3072];
     let mut warns = [0u32; 512];
-    let mut lefts = [0u32; 512];
+    let mut lefts = [0u32; 768];
     match ownership_pass::pass(s, &mut bytes, &mut errs, &mut warns, &mut lefts) {
         Outcome::Refused(fault) => programs_text::put_refused(out, fault),
         Outcome::Accepted(t) => {
             let totals = put_totals(out, t);
             let errors = put_errors(out, totals, &errs, t.errors);
-            let warnings = put_pairs(out, errors, b"warning", &warns, t.warnings);
-            put_pairs(out, warnings, b"left", &lefts, t.lefts)
+            let warnings = put_entries(out, errors, b"warning", &warns, 2, t.warnings);
+            put_entries(out, warnings, b"left", &lefts, 3, t.lefts)
         }
     }
 }

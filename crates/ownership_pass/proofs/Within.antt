@@ -24,7 +24,7 @@ pub record Within (m : Memory) (t : Totals) : Type 0 where
   pub written : t .written ≤ length (m .out)
   pub errors : 12 * t .errors ≤ length (m .errs)
   pub warnings : 2 * t .warnings ≤ length (m .warns)
-  pub lefts : 2 * t .lefts ≤ length (m .lefts)
+  pub lefts : 3 * t .lefts ≤ length (m .lefts)
 
 refused-never : (n : ℕ) (t : Totals) → Refused n ≡ Accepted t → ⊥
 refused-never n t h = let z : _≡_ {A = ℕ} 0 1 = cc in omega arith
@@ -36,7 +36,7 @@ module _ (m : Memory) (t : Totals) where
     where
       go : (e w l b f : Bool)
           → leb (a .errorCount) (length (m .errs) / 12) ≡ e → leb (a .warningCount) (length (m .warns) / 2) ≡ w
-          → leb (a .leftCount) (length (m .lefts) / 2) ≡ l → leb (length (a .output)) (length (m .out)) ≡ b
+          → leb (a .leftCount) (length (m .lefts) / 3) ≡ l → leb (length (a .output)) (length (m .out)) ≡ b
           → outcomeOf (cond (e && w && l) (cond (b && f) (answers a) (refuses 15)) (refuses 14)) ≡ Accepted t → Within m t
       go true true true true true p q r s h =
           let z : record { written = length (a .output); errors = a .errorCount; warnings = a .warningCount; lefts = a .leftCount } ≡ t = cc in
@@ -46,7 +46,7 @@ module _ (m : Memory) (t : Totals) where
           let zl = ap (λ (x : Totals). x .lefts) z in
           let pe = leb-true (a .errorCount) (length (m .errs) / 12) p in
           let pw = leb-true (a .warningCount) (length (m .warns) / 2) q in
-          let pl = leb-true (a .leftCount) (length (m .lefts) / 2) r in
+          let pl = leb-true (a .leftCount) (length (m .lefts) / 3) r in
           let pb = leb-true (length (a .output)) (length (m .out)) s in
           record { written = omega arith; errors = omega arith; warnings = omega arith; lefts = omega arith }
       go true true true true false p q r s h = absurd (refused-never 15 t h)

@@ -10,9 +10,9 @@ use libc::STDOUT_FILENO;
 use scope_stack::Locals;
 use scope_stack::States;
 
-// A registration: name, type, depth and whether the type has a destructor. A mark: name and place.
+// A registration: name, type, depth, birth and whether the type has a destructor. A mark: name and place.
 enum Step {
-    Register(u16, u16, u8, bool),
+    Register(u16, u16, u8, u32, bool),
     Deleted(u16, u32),
     Moved(u16, u32),
     Consumed(u16, u32),
@@ -40,11 +40,11 @@ fn mark(mut stack: Stack, name: u16, kind: u8, place: u32, only_alive: bool) -> 
     stack
 }
 
-fn register_local(mut stack: Stack, name: u16, ty: u16, depth: u8, dtor: bool) -> Next
+fn register_local(mut stack: Stack, name: u16, ty: u16, depth: u8, born: u32, dtor: bool) -> Next
     requires { ⌜ Whole stack ⌝ }
-    ensures { λ r. ⌜ Registered stack name ty depth dtor (r .ok) (r .stack) ⌝ }
+    ensures { λ r. ⌜ Registered stack name ty depth born dtor (r .ok) (r .stack) ⌝ }
 {
-    let ok = lent::register_local(&mut stack, name, ty, depth, dtor);
+    let ok = lent::register_local(&mut stack, name, ty, depth, born, dtor);
     Next {
         ok: ok,
         stack: stack,
@@ -66,9 +66,9 @@ fn mark_by_value(old: Stack, name: u16, kind: u8, place: u32, only_alive: bool) 
 }
 
 // By value, the frame marked Alive whether or not that changes it; refused, the stack is as it was.
-fn register_by_value(old: Stack, name: u16, ty: u16, depth: u8, dtor: bool) -> Next
+fn register_by_value(old: Stack, name: u16, ty: u16, depth: u8, born: u32, dtor: bool) -> Next
     requires { ⌜ Whole old ⌝ }
-    ensures { λ r. ⌜ Registered old name ty depth dtor (r .ok) (r .stack) ⌝ }
+    ensures { λ r. ⌜ Registered old name ty depth born dtor (r .ok) (r .stack) ⌝ }
 {
     let l = old.locals;
     if 64 <= l.count {
@@ -77,7 +77,7 @@ fn register_by_value(old: Stack, name: u16, ty: u16, depth: u8, dtor: bool) -> N
             stack: old,
         };
     }
-    let m = l.register_local(name, ty, depth, dtor);
+    let m = l.register_local(name, ty, depth, born, dtor);
     let t = old.states;
     let u = t.mark(&m.names, &m.depths, m.count, name, 0, 0, false);
     let new = Stack {
@@ -105,7 +105,14 @@ fn by_value(stack: Stack, step: Step) -> Next
     ensures { λ r. ⌜ Whole (r .stack) ⌝ }
 {
     match step {
-        Step::Register(name, ty, depth, dtor) => register_by_value(stack, name, ty, depth, dtor),
+        Step::Register(name, ty, depth, born, dtor) => register_by_value(
+            stack,
+            name,
+            ty,
+            depth,
+            born,
+            dtor,
+        ),
         Step::Deleted(name, place) => done(mark_by_value(stack, name, 1, place, false)),
         Step::Moved(name, place) => done(mark_by_value(stack, name, 2, place, false)),
         Step::Consumed(name, place) => done(mark_by_value(stack, name, 3, place, false)),
@@ -119,7 +126,14 @@ fn in_place(stack: Stack, step: Step) -> Next
     ensures { λ r. ⌜ Whole (r .stack) ⌝ }
 {
     match step {
-        Step::Register(name, ty, depth, dtor) => register_local(stack, name, ty, depth, dtor),
+        Step::Register(name, ty, depth, born, dtor) => register_local(
+            stack,
+            name,
+            ty,
+            depth,
+            born,
+            dtor,
+        ),
         Step::Deleted(name, place) => done(mark(stack, name, 1, place, false)),
         Step::Moved(name, place) => done(mark(stack, name, 2, place, false)),
         Step::Consumed(name, place) => done(mark(stack, name, 3, place, false)),
@@ -153,6 +167,7 @@ fn step_of(a: u64, b: u64) -> Step
             name,
             (b / 1024 % 300) as u16,
             (b / 65536 % 5) as u8,
+            place,
             b / 1024 % 2 == 0,
         ),
     }
@@ -174,6 +189,9 @@ fn same_locals(a: Locals, b: Locals) -> bool {
             return false;
         }
         if a.depths[i] != b.depths[i] {
+            return false;
+        }
+        if a.births[i] != b.births[i] {
             return false;
         }
         i += 1;
@@ -239,7 +257,7 @@ fn counted(mut t: Tally, step: Step, old: Stack, a: Next, b: Next) -> Tally {
     if !agree(a, b) {
         t.differ = one_more(t.differ);
     }
-    if let Step::Register(_, _, _, _) = step {
+    if let Step::Register(_, _, _, _, _) = step {
         if a.ok {
             t.registered = one_more(t.registered);
         } else {

@@ -107,7 +107,7 @@ fn with_lists(s: &[u8], label: usize, answer: usize, bytes: usize, errors: usize
         errors: errors,
         warnings: warnings,
         lefts: lefts,
-        end: lefts + 2 + 6 * two(s, lefts),
+        end: lefts + 2 + 10 * two(s, lefts),
     }
 }
 
@@ -215,22 +215,19 @@ fn same_errors(s: &[u8], at: usize, errs: &[u32], many: usize) -> bool
     true
 }
 
-// Whether a stored pair, its second number in 2 or 4 bytes, is the one that was given.
-fn same_pair(s: &[u8], at: usize, width: usize, list: &[u32], entry: usize) -> bool
+// Whether a stored warning, a span and an offset, is the one that was given.
+fn same_warning(s: &[u8], at: usize, list: &[u32], entry: usize) -> bool
     requires { ⌜ (at < 1099511627776) × (entry + 2 ≤ length (now list)) ⌝ }
 {
     if four(s, at) != wide(list[entry]) {
         return false;
     }
-    if width == 2 {
-        return two(s, at + 4) == wide(list[entry + 1]);
-    }
     four(s, at + 4) == wide(list[entry + 1])
 }
 
-// Whether a stored list of pairs is the one that was given.
-fn same_pairs(s: &[u8], at: usize, width: usize, list: &[u32], many: usize) -> bool
-    requires { ⌜ (at < 4294967296) × (width ≤ 4) × (2 * many ≤ length (now list)) ⌝ }
+// Whether a stored list of warnings is the one that was given.
+fn same_warnings(s: &[u8], at: usize, list: &[u32], many: usize) -> bool
+    requires { ⌜ (at < 4294967296) × (2 * many ≤ length (now list)) ⌝ }
 {
     if two(s, at) != many {
         return false;
@@ -238,10 +235,42 @@ fn same_pairs(s: &[u8], at: usize, width: usize, list: &[u32], many: usize) -> b
     let mut p = at + 2;
     let mut i = 0;
     while i < many {
-        if !same_pair(s, p, width, list, 2 * i) {
+        if !same_warning(s, p, list, 2 * i) {
             return false;
         }
-        p += 4 + width;
+        p += 8;
+        i += 1;
+    }
+    true
+}
+
+// Whether a stored left-behind entry, a span, a name in 2 bytes and a birth, is the one that was given.
+fn same_left(s: &[u8], at: usize, list: &[u32], entry: usize) -> bool
+    requires { ⌜ (at < 1099511627776) × (entry + 3 ≤ length (now list)) ⌝ }
+{
+    if four(s, at) != wide(list[entry]) {
+        return false;
+    }
+    if two(s, at + 4) != wide(list[entry + 1]) {
+        return false;
+    }
+    four(s, at + 6) == wide(list[entry + 2])
+}
+
+// Whether a stored list of left-behind entries is the one that was given.
+fn same_lefts(s: &[u8], at: usize, list: &[u32], many: usize) -> bool
+    requires { ⌜ (at < 4294967296) × (3 * many ≤ length (now list)) ⌝ }
+{
+    if two(s, at) != many {
+        return false;
+    }
+    let mut p = at + 2;
+    let mut i = 0;
+    while i < many {
+        if !same_left(s, p, list, 3 * i) {
+            return false;
+        }
+        p += 10;
         i += 1;
     }
     true
@@ -258,7 +287,7 @@ fn same_answer(
     lefts: &[u32],
 ) -> bool
     requires { ⌜ Stands (now s) q ⌝ }
-    requires { ⌜ (t .written ≤ length (now out)) × (12 * t .errors ≤ length (now errs)) × (2 * t .warnings ≤ length (now warns)) × (2 * t .lefts ≤ length (now lefts)) ⌝ }
+    requires { ⌜ (t .written ≤ length (now out)) × (12 * t .errors ≤ length (now errs)) × (2 * t .warnings ≤ length (now warns)) × (3 * t .lefts ≤ length (now lefts)) ⌝ }
 {
     if four(s, q.answer + 2) != t.written {
         return false;
@@ -269,10 +298,10 @@ fn same_answer(
     if !same_errors(s, q.errors, errs, t.errors) {
         return false;
     }
-    if !same_pairs(s, q.warnings, 4, warns, t.warnings) {
+    if !same_warnings(s, q.warnings, warns, t.warnings) {
         return false;
     }
-    same_pairs(s, q.lefts, 2, lefts, t.lefts)
+    same_lefts(s, q.lefts, lefts, t.lefts)
 }
 
 // With 65,536 bytes and 256 entries a list lent: the outcome, and what it gives.
@@ -284,7 +313,7 @@ fn usual_agrees(s: &[u8], q: Record) -> bool
     let mut out = [0u8; 65536];
     let mut errs = [0u32; 3072];
     let mut warns = [0u32; 512];
-    let mut lefts = [0u32; 512];
+    let mut lefts = [0u32; 768];
     let outcome = image_fields::peek(s, answer);
     match ownership_pass::pass(
         &s[image..answer],
@@ -311,7 +340,7 @@ fn lavish_agrees(s: &[u8], q: Record, out: &mut [u8]) -> bool
     let answer = q.answer;
     let mut errs = [0u32; 6144];
     let mut warns = [0u32; 1024];
-    let mut lefts = [0u32; 1024];
+    let mut lefts = [0u32; 1536];
     let outcome = image_fields::peek(s, answer + 1);
     match ownership_pass::pass(&s[image..answer], out, &mut errs, &mut warns, &mut lefts) {
         Outcome::Refused(fault) => image_fields::wide(fault) == outcome,

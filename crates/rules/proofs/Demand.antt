@@ -11,7 +11,7 @@ use Rattle.tables.specs.Tables.{Tables}
 use Rattle.image_body.specs.Stmt.{Tree, done, exprStmt, variable, assign, return, bareReturn, block, ifElse, ifThen, while, jump}
 use Rattle.rules.specs.Expr.{view, identIn, nameIn}
 use Rattle.rules.specs.Stack.{Static, Stack, Shape, shape, staticOf, has}
-use Rattle.rules.specs.Rules.{holding, Drop, dropOf, Decided, excludes, register, tailDrops, decide, entered, Fresh, PlainIn, decideIn, concerns}
+use Rattle.rules.specs.Rules.{holding, Drop, dropOf, Decided, excludes, register, tailDrops, decide, entered, Fresh, PlainIn, decideIn, concerns, given}
 use Rattle.rules.specs.Run.{Path, Task, code, returning, assigning, deleting, closing, assigned, Config, at, arrived, start, Moment, momentCode, momentTask, moment, Reached, holds, dropped, admits, concerned, Lost, Demand3}
 use Rattle.rules.proofs.Spots.{dropsAt}
 use Rattle.rules.proofs.Bools.{and-l, and-r, and-i, leb-refl}
@@ -170,8 +170,8 @@ module _ (T : Tables) where
   entered-fit : (ps : List Param) (σ : Stack Bool) → Fit 0 (shape σ) → Fresh holding T ps σ → Fit 0 (shape (entered holding T ps σ))
   entered-fit [] σ fit fr = fit
   entered-fit (s ∷ ss) σ fit fr =
-      entered-fit ss (register holding (s .name) (s .ty) 0 σ)
-      (fit-by 0 (ap (λ (Γ : Shape). record { name = s .name; ty = s .ty; depth = 0 } ∷ Γ) (shape-frame (s .name) 0 (λ a. true) σ)) ((leb-refl 0, fit .0), (fr .0, fit .1)))
+      entered-fit ss (register holding (given s) σ)
+      (fit-by 0 (ap (λ (Γ : Shape). given s ∷ Γ) (shape-frame (s .name) 0 (λ a. true) σ)) ((leb-refl 0, fit .0), (fr .0, fit .1)))
       (fr .1)
 
   begins : (params : List Param) (p : ℕ) (body : Tree) → PlainIn holding T params body → (cs : List Bool)

@@ -16,7 +16,7 @@ use Rattle.rules.specs.Effects.{Effect, use′, kill, hand, badMove, glo
 
 -- locals: `this`, `v`, `g` and the temporary `__tmp`; `w` is none
 abbrev a : ℕ → Static
-a n = record { name = n; ty = 1; depth = 0 }
+a n = record { name = n; ty = 1; depth = 0; born = 0 }
 
 abbrev locals : Shape
 locals = a 6 ∷ a 5 ∷ a 1 ∷ a 0 ∷ []

@@ -66,8 +66,9 @@ example-plain = ((tt, tt), (tt, (tt, (tt, ((λ x. x), ((λ x. x), ((λ x. x), tt
 pub example-demand : Demand3 tables (localsOf consuming) (decideBody tables consuming body)
 example-demand = demand3 tables consuming body example-plain
 
-abbrev known : ℕ → ℕ → Bool → Local Bool
-known n d b = local (record { name = n; ty = 1; depth = d }) b
+-- name, depth, birth, and whether it is held
+abbrev known : ℕ → ℕ → ℕ → Bool → Local Bool
+known n d s b = local (record { name = n; ty = 1; depth = d; born = s }) b
 
 -- the body's end, `v` held or not: `__tmp` and `this` are given up, `w` is held and deleted
 abbrev pub atItsEnd : Bool → Moment
@@ -75,7 +76,7 @@ atItsEnd b = record {
   path = next ∷ next ∷ next ∷ next ∷ next ∷ next ∷ next ∷ next ∷ [];
   place = atEnd 1;
   drops = dropOf 10 2 1 ∷ [];
-  held = known 6 1 false ∷ known 2 1 true ∷ known 1 1 b ∷ known 0 0 false ∷ [];
+  held = known 6 1 38 false ∷ known 2 1 22 true ∷ known 1 1 21 b ∷ known 0 0 0 false ∷ [];
 }
 
 -- past the loop and both ifs: `v` is held at the end
@@ -100,7 +101,7 @@ atItsReturn b = record {
   path = next ∷ next ∷ next ∷ next ∷ into ∷ [];
   place = atReturn (called 2 37);
   drops = dropOf 0 0 1 ∷ [];
-  held = known 2 1 true ∷ known 1 1 b ∷ known 0 0 true ∷ [];
+  held = known 2 1 22 true ∷ known 1 1 21 b ∷ known 0 0 0 true ∷ [];
 }
 
 pub return-kept : Reached tables (localsOf consuming) (decideBody tables consuming body) (atItsReturn true)
@@ -139,7 +140,7 @@ atAssignment b = record {
   path = next ∷ next ∷ next ∷ into ∷ [];
   place = atAssign (called 1 37);
   drops = [];
-  held = known 2 1 true ∷ known 1 1 b ∷ [];
+  held = known 2 1 22 true ∷ known 1 1 21 b ∷ [];
 }
 
 abbrev pub atSecond : Moment
@@ -147,7 +148,7 @@ atSecond = record {
   path = next ∷ next ∷ next ∷ into ∷ next ∷ [];
   place = atAssign (called 2 39);
   drops = dropOf 38 2 1 ∷ [];
-  held = known 2 1 true ∷ known 1 1 true ∷ [];
+  held = known 2 1 22 true ∷ known 1 1 21 true ∷ [];
 }
 
 pub assign-kept : Reached tables [] (decideBody tables plainEntry assigns) (atAssignment true)

@@ -13,16 +13,17 @@ use Rattle.image_body.specs.Stmt.{Code, Tree, Block, done, exprStmt, variable, 
 use Rattle.image.specs.Image.{Image}
 use Rattle.rules.specs.Questions.{auto, isTempOf}
 use Rattle.rules.specs.Expr.{Named, nobody, called, view, identIn, nameIn, isCall, tyOf}
-use Rattle.rules.specs.Stack.{Shape}
+use Rattle.rules.specs.Stack.{Static, Shape}
 use Rattle.rules.specs.State.{deleted, moved, consumed, State, alive, gone, isAlive, joinState}
 use Rattle.rules.specs.Effects.{Effect, use′, kill, hand, badMove, globalMove, effects, exprStmtEffects, takeOver, assignEffects, assignTakes}
 use Rattle.rules.specs.Rules.{Drop, dropOf, Decided, sureFrom, excludes, localsOf}
-use Rattle.rules.specs.Report.{Report, error, badUse, unused, leftBehind, exprBytes, codeBytes, bodyStart}
+use Rattle.rules.specs.Report.{Report, error, left, badUse, unused, exprBytes, codeBytes, bodyStart}
 
--- LocalVar; is_compiler_temp is a question to its name
+-- LocalVar, and the span of the statement that registered it (02, d); is_compiler_temp is a question to its name
 pub record Var : Type 0 where
   pub name : ℕ
   pub ty : ℕ
+  pub born : ℕ
 
 -- HashMap<&str, OwnershipState>: what get says of each name
 abbrev pub States : Type 0
@@ -59,14 +60,21 @@ popFrame [] = []
 popFrame (f ∷ fs) = fs
 
 -- register_local
-abbrev pub registerLocal : ℕ → ℕ → Frames → Frames
-registerLocal n t [] = []
-registerLocal n t (frame ls m ∷ fs) = frame (record { name = n; ty = t } ∷ ls) (insert n alive m) ∷ fs
+abbrev pub registerLocal : Var → Frames → Frames
+registerLocal v [] = []
+registerLocal v (frame ls m ∷ fs) = frame (v ∷ ls) (insert (v .name) alive m) ∷ fs
+
+-- the local of a Let or Const, and that of a parameter or `this`
+abbrev pub declaredVar : ℕ → ℕ → ℕ → Var
+declaredVar s n t = record { name = n; ty = t; born = s }
+
+abbrev pub givenVar : Param → Var
+givenVar x = record { name = x .name; ty = x .ty; born = 0 }
 
 -- run_ownership_for_method_body, run_ownership_for_body: the locals a body is entered with
 abbrev pub enteredFrames : List Param → Frames → Frames
 enteredFrames [] fs = fs
-enteredFrames (x ∷ xs) fs = enteredFrames xs (registerLocal (x .name) (x .ty) fs)
+enteredFrames (x ∷ xs) fs = enteredFrames xs (registerLocal (givenVar x) fs)
 
 -- the first, or else the second
 abbrev pub orElse : {A : Type 0} → Option A → Option A → Option A
@@ -162,10 +170,14 @@ abbrev pub mergeFrames : Bool → Bool → Frames → Frames → Option Frames �
 mergeFrames f g [] ts es = []
 mergeFrames f g (b ∷ bs) ts es = mergeFrame f g b (frameAt (length bs) ts) (elseAt (length bs) es) ∷ mergeFrames f g bs ts es
 
--- the locals of a frame with d frames outside it, then those of the others: LocalVar and its block depth
+-- a local of a frame with d frames outside it
+abbrev pub atDepth : ℕ → Var → Static
+atDepth d v = record { name = v .name; ty = v .ty; depth = d; born = v .born }
+
+-- the locals of such a frame, then those of the others
 abbrev pub numbered : ℕ → List Var → Shape → Shape
 numbered d [] Γ = Γ
-numbered d (v ∷ ls) Γ = record { name = v .name; ty = v .ty; depth = d } ∷ numbered d ls Γ
+numbered d (v ∷ ls) Γ = atDepth d v ∷ numbered d ls Γ
 
 abbrev pub shapeOf : Frames → Shape
 shapeOf [] = []
@@ -204,27 +216,33 @@ abbrev pub doingFrames : (Shape → List Effect) → Frames → Frames
 doingFrames f fs = applyAllFrames (f (shapeOf fs)) fs
 
 module _ (T : Tables) where
-  -- the living locals of one frame, by its own map, that q admits and whose type has a destructor, newest first
-  abbrev pub frameDrops : (ℕ → Bool) → ℕ → States → List Var → List Drop
-  frameDrops q p m [] = []
-  frameDrops q p m (v ∷ ls) =
-      cond (q (v .name) && isLive (m (v .name)) && auto T (v .ty)) (dropOf p (v .name) (v .ty) ∷ frameDrops q p m ls) (frameDrops q p m ls)
+  -- what f says of the living locals of one frame, by its own map, that q admits and whose type has a destructor, newest first
+  abbrev pub frameGather : {B : Type 0} → (ℕ → Bool) → (Var → B) → States → List Var → List B
+  frameGather q f m [] = []
+  frameGather q f m (v ∷ ls) = cond (q (v .name) && isLive (m (v .name)) && auto T (v .ty)) (f v ∷ frameGather q f m ls) (frameGather q f m ls)
 
-  -- collect_scope_drops: every frame from the innermost, but not the returned name, with span 0
+  -- of every frame from the innermost
+  abbrev pub scopeGather : {B : Type 0} → (ℕ → Bool) → (Var → B) → Frames → List B
+  scopeGather q f [] = []
+  scopeGather q f (frame ls m ∷ fs) = frameGather q f m ls ++ scopeGather q f fs
+
+  -- of the frames from the innermost out to the one with l frames outside it, the body of the nearest loop (02, c)
+  abbrev pub loopGather : {B : Type 0} → Option ℕ → (Var → B) → Frames → List B
+  loopGather none f fs = []
+  loopGather (some l) f [] = []
+  loopGather (some l) f (frame ls m ∷ fs) = cond (leb l (length fs)) (frameGather (λ k. true) f m ls ++ loopGather (some l) f fs) []
+
+  abbrev pub deleteOf : ℕ → Var → Drop
+  deleteOf p v = dropOf p (v .name) (v .ty)
+
+  -- collect_scope_drops: every frame, but not the returned name, with span 0
   abbrev pub scopeDrops : Named → Frames → List Drop
-  scopeDrops n [] = []
-  scopeDrops n (frame ls m ∷ fs) = frameDrops (λ k. not (excludes n k)) 0 m ls ++ scopeDrops n fs
-
-  -- the frames from the innermost out to the one with l frames outside it, the body of the nearest loop (02, c)
-  abbrev pub loopFrames : Option ℕ → Frames → List Drop
-  loopFrames none fs = []
-  loopFrames (some l) [] = []
-  loopFrames (some l) (frame ls m ∷ fs) = cond (leb l (length fs)) (frameDrops (λ k. true) 0 m ls ++ loopFrames (some l) fs) []
+  scopeDrops n fs = scopeGather (λ k. not (excludes n k)) (deleteOf 0) fs
 
   -- transform_block's tail_drops: scope_stack.last(), with the block's span
   abbrev pub lastDrops : ℕ → Frames → List Drop
   lastDrops p [] = []
-  lastDrops p (frame ls m ∷ fs) = frameDrops (λ k. true) p m ls
+  lastDrops p (frame ls m ∷ fs) = frameGather (λ k. true) (deleteOf p) m ls
 
   abbrev pub preDrop : ℕ → ℕ → Option State → Option Var → List Drop → List Drop
   preDrop p n a none ds = ds
@@ -249,8 +267,8 @@ module _ (T : Tables) where
   abbrev pub afterExprFrames : Expr → Frames → Frames
   afterExprFrames e fs = doingFrames (λ Γ. exprStmtEffects T Γ e) fs
 
-  abbrev pub afterVariableFrames : ℕ → ℕ → Expr → Frames → Frames
-  afterVariableFrames n t e fs = applyAllFrames (takeOver T (shapeOf fs) n t e) (registerLocal n t (evaluateFrames e fs))
+  abbrev pub afterVariableFrames : Var → Expr → Frames → Frames
+  afterVariableFrames v e fs = applyAllFrames (takeOver T (shapeOf fs) (v .name) (v .ty) e) (registerLocal v (evaluateFrames e fs))
 
   abbrev pub beforeAssignFrames : Expr → Expr → Frames → Frames
   beforeAssignFrames dst val fs = doingFrames (λ Γ. assignEffects T Γ dst val) fs
@@ -262,7 +280,7 @@ module _ (T : Tables) where
   abbrev pub exitFrames : {X Y : Type 0} → Code X Y → Frames → Frames
   exitFrames (done x) fs = popFrame fs
   exitFrames (exprStmt s e y r) fs = exitFrames r (afterExprFrames e fs)
-  exitFrames (variable k s n t e r) fs = exitFrames r (afterVariableFrames n t e fs)
+  exitFrames (variable k s n t e r) fs = exitFrames r (afterVariableFrames (declaredVar s n t) e fs)
   exitFrames (assign s e v t x r) fs = exitFrames r (afterAssignFrames e v (beforeAssignFrames e v fs))
   exitFrames (return s e t x r) fs = exitFrames r (evaluateFrames e fs)
   exitFrames (bareReturn s t r) fs = exitFrames r fs
@@ -294,7 +312,7 @@ module _ (T : Tables) where
   abbrev pub decideFrames : Tree → ℕ → Bool → Frames → Decided
   decideFrames (done x) p f fs = done (cond f [] (lastDrops p fs))
   decideFrames (exprStmt s e y r) p f fs = exprStmt s e (auto T (tyOf e) && isCall (view e)) (decideFrames r p false (afterExprFrames e fs))
-  decideFrames (variable k s n t e r) p f fs = variable k s n t e (decideFrames r p false (afterVariableFrames n t e fs))
+  decideFrames (variable k s n t e r) p f fs = variable k s n t e (decideFrames r p false (afterVariableFrames (declaredVar s n t) e fs))
   decideFrames (assign s e v t x r) p f fs =
       assign s e v t (preDelete s e (beforeAssignFrames e v fs)) (decideFrames r p false (afterAssignFrames e v (beforeAssignFrames e v fs)))
   decideFrames (return s e t x r) p f fs =
@@ -320,13 +338,13 @@ module _ (T : Tables) where
       reportAllFrames (exprStmtEffects T (shapeOf fs) e) fs
       ++ (unused (auto T (tyOf e) && isCall (view e)) s e at ++ reportFrames r l (at + 5 + exprBytes e) (afterExprFrames e fs))
   reportFrames (variable k s n t e r) l at fs =
-      reportAllFrames (effects T (shapeOf fs) e) fs ++ reportFrames r l (at + 9 + exprBytes e) (afterVariableFrames n t e fs)
+      reportAllFrames (effects T (shapeOf fs) e) fs ++ reportFrames r l (at + 9 + exprBytes e) (afterVariableFrames (declaredVar s n t) e fs)
   reportFrames (assign s e v t x r) l at fs =
       reportAllFrames (assignEffects T (shapeOf fs) e v) fs
       ++ reportFrames r l (at + 7 + exprBytes e + exprBytes v) (afterAssignFrames e v (beforeAssignFrames e v fs))
   reportFrames (return s e t x r) l at fs =
       reportAllFrames (effects T (shapeOf fs) e) fs ++ reportFrames r l (at + 8 + exprBytes e) (evaluateFrames e fs)
-  reportFrames (bareReturn s t r) l at fs = leftBehind s (scopeDrops nobody fs) ++ reportFrames r l (at + 8) fs
+  reportFrames (bareReturn s t r) l at fs = scopeGather (λ k. true) (λ v. left s (v .name) (v .born)) fs ++ reportFrames r l (at + 8) fs
   reportFrames (block s c r) l at fs = reportFrames c l (at + 7) (push fs) ++ reportFrames r l (at + 7 + codeBytes c) (exitFrames c (push fs))
   reportFrames (ifElse s e ts t us u r) l at fs =
       reportAllFrames (effects T (shapeOf fs) e) fs
@@ -341,7 +359,7 @@ module _ (T : Tables) where
       reportAllFrames (effects T (shapeOf fs) e) fs
       ++ (reportFrames t (some (length fs)) (at + 11 + exprBytes e) (push (evaluateFrames e fs))
       ++ reportFrames r l (at + 11 + exprBytes e + codeBytes t) (behindLoopFrames e t fs))
-  reportFrames (jump k s r) l at fs = leftBehind s (loopFrames l fs) ++ reportFrames r l (at + 5) fs
+  reportFrames (jump k s r) l at fs = loopGather l (λ v. left s (v .name) (v .born)) fs ++ reportFrames r l (at + 5) fs
 
 -- run_ownership_for_method_body, run_ownership_for_body: from vec![ScopeFrame::default()]
 abbrev pub decideBodyFrames : Tables → Entry → Block → Decided

@@ -21,9 +21,9 @@ use Rattle.rules.specs.Expr.{Named, nobody, called, view, identIn, nameI
 use Rattle.rules.specs.Stack.{Static, Local, local, Stack, Shape, shape, inFrame, mark, lookup, pop, has, staticOf}
 use Rattle.rules.specs.State.{deleted, moved, consumed, State, alive, gone, isAlive, handState}
 use Rattle.rules.specs.Effects.{Effect, use′, kill, hand, badMove, globalMove, effects, exprStmtEffects, takeOver, assignEffects, assignTakes, handName}
-use Rattle.rules.specs.Rules.{Drop, dropOf, states, sureFrom, excludes, atJump, concerns, localsOf, apply, applyAll, doing, revived, register, merge, collect, tailDrops, returnDrops, loopDrops, dropNewest, dropNamed, assignDrops, evaluate, afterExpr, afterVariable, beforeAssign, afterAssign, exit, decide, entered, decideBody}
-use Rattle.rules.specs.Report.{useOf, reportOf, reportAll, unused, leftBehind, exprBytes, codeBytes, report, bodyStart, reports}
-use Rattle.rules.proofs.FrameRules.{handLocal, useFrames, reportFrame, reportAllFrames, reportFrames, reportsFrames, Var, States, insert, isSome, isLive, Frame, frame, Frames, push, popFrame, registerLocal, enteredFrames, orElse, newest, findLocal, findState, markAs, markDeleted, markMoved, markConsumed, markAlive, moveIf, handTemp, mergeState, mergeName, frameAt, elseAt, getIn, mergeFrame, mergeFrames, numbered, shapeOf, applyFrames, applyAllFrames, doingFrames, frameDrops, scopeDrops, loopFrames, lastDrops, preDrop, preDeleteName, preDeleteNamed, preDelete, evaluateFrames, afterExprFrames, afterVariableFrames, beforeAssignFrames, afterAssignFrames, exitFrames, decideFrames, decideBodyFrames}
+use Rattle.rules.specs.Rules.{Drop, dropOf, states, sureFrom, excludes, localsOf, apply, applyAll, doing, revived, register, merge, tailDrops, returnDrops, dropNewest, dropNamed, assignDrops, evaluate, afterExpr, afterVariable, beforeAssign, afterAssign, exit, decide, entered, decideBody, atReturn, atJump, concerns, gather}
+use Rattle.rules.specs.Report.{useOf, reportOf, reportAll, unused, leftBehind, exprBytes, codeBytes, report, bodyStart, reports, left}
+use Rattle.rules.proofs.FrameRules.{handLocal, useFrames, reportFrame, reportAllFrames, reportFrames, reportsFrames, Var, States, insert, isSome, isLive, Frame, frame, Frames, push, popFrame, registerLocal, enteredFrames, orElse, newest, findLocal, findState, markAs, markDeleted, markMoved, markConsumed, markAlive, moveIf, handTemp, mergeState, mergeName, frameAt, elseAt, getIn, mergeFrame, mergeFrames, numbered, shapeOf, applyFrames, applyAllFrames, doingFrames, scopeDrops, lastDrops, preDrop, preDeleteName, preDeleteNamed, preDelete, evaluateFrames, afterExprFrames, afterVariableFrames, beforeAssignFrames, afterAssignFrames, exitFrames, decideFrames, decideBodyFrames, atDepth, declaredVar, givenVar, frameGather, scopeGather, loopGather, deleteOf}
 use Rattle.rules.proofs.Bools.{no≡, of≡, of-false, eqb-self}
 
 -- has one of a frame's locals the name
@@ -35,7 +35,7 @@ named n (v ∷ ls) = eqb (v .name) n || named n ls
 pub data Over (d : ℕ) (m : States) (τ : Stack State) : List Var → Stack State → Type 0 where
   bottom : Over d m τ [] τ
   above : {v : Var} {a : State} {ls : List Var} {σ : Stack State} → m (v .name) ≡ some a → Over d m τ ls σ
-      → Over d m τ (v ∷ ls) (local (record { name = v .name; ty = v .ty; depth = d }) a ∷ σ)
+      → Over d m τ (v ∷ ls) (local (atDepth d v) a ∷ σ)
 
 -- k frames and a flat stack say the same: the frames' locals, with the number of frames outside as depth, are the stack's, in order; each has
 -- the state that its frame's map gives for its name; and a frame's map has the names of its locals only.
@@ -102,7 +102,7 @@ over-mark n f w t h z bottom = absurd (subst So (sym z) tt)
 over-mark {d} {m} {τ} n f w t h z (above {v} {a} {ls} {σ} e o) = split (eqb (v .name) n) refl z (λ y. over-mark n f w t h y o)
   where
     s : Static
-    s = record { name = v .name; ty = v .ty; depth = d }
+    s = atDepth d v
 
     split : (c : Bool) → eqb (v .name) n ≡ c → (c || named n ls) ≡ true → (named n ls ≡ true → Over d (insert n w m) τ ls (mark n f σ))
         → Over d (insert n w m) τ (v ∷ ls) (cond c (local s (f a) ∷ inFrame n d f σ) (local s a ∷ mark n f σ))
@@ -116,7 +116,7 @@ over-past n f z bottom = bottom
 over-past {d} {m} {τ} n f z (above {v} {a} {ls} {σ} e o) = split (eqb (v .name) n) z (λ y. over-past n f y o)
   where
     s : Static
-    s = record { name = v .name; ty = v .ty; depth = d }
+    s = atDepth d v
 
     split : (c : Bool) → (c || named n ls) ≡ false → (named n ls ≡ false → Over d m (mark n f τ) ls (mark n f σ))
         → Over d m (mark n f τ) (v ∷ ls) (cond c (local s (f a) ∷ inFrame n d f σ) (local s a ∷ mark n f σ))
@@ -160,12 +160,13 @@ pub agree-consumed : {k : ℕ} {fs : Frames} {σ : Stack State} (n p : ℕ) → 
 agree-consumed n p g = agree-mark n _ _ (λ a y. refl) g
 
 -- register_local
-pub agree-register : {d : ℕ} {fs : Frames} {σ : Stack State} (n t : ℕ) → Agree (suc d) fs σ → Agree (suc d) (registerLocal n t fs) (register states n t d σ)
-agree-register n t (framed {d} {m} {ls} g o q) =
-    framed g (above {v = record { name = n; ty = t }} {a = alive} (ap (λ (c : Bool). cond c (some alive) (m n)) (eqb-self n)) (over-some n (λ a. alive) alive (free d (omega arith) g) (λ a y. refl) o)) names
+pub agree-register : {d : ℕ} {fs : Frames} {σ : Stack State} (v : Var) → Agree (suc d) fs σ → Agree (suc d) (registerLocal v fs) (register states (atDepth d v) σ)
+agree-register v (framed {d} {m} {ls} g o q) =
+    let n = v .name in
+    framed g (above {v = v} {a = alive} (ap (λ (c : Bool). cond c (some alive) (m n)) (eqb-self n)) (over-some n (λ a. alive) alive (free d (omega arith) g) (λ a y. refl) o)) names
   where
-    names : (k : ℕ) → isSome (insert n alive m k) ≡ (eqb n k || named k ls)
-    names k = rw (eqb-comm n k) (split (eqb k n))
+    names : (k : ℕ) → isSome (insert (v .name) alive m k) ≡ (eqb (v .name) k || named k ls)
+    names k = rw (eqb-comm (v .name) k) (split (eqb k (v .name)))
       where
         split : (c : Bool) → isSome (cond c (some alive) (m k)) ≡ (c || named k ls)
         split true = refl
@@ -179,7 +180,7 @@ agree-push g = framed g bottom (λ n. refl)
 over-pop : {d : ℕ} {m : States} {τ : Stack State} {ls : List Var} {σ : Stack State} → Free d τ → Over d m τ ls σ → pop d σ ≡ τ
 over-pop {d} {m} {τ} t bottom = free-pop d τ t
 over-pop {d} {m} {τ} t (above {v} {a} {ls} {σ} e o) =
-    ap (λ (b : Bool). cond b (pop d σ) (local (record { name = v .name; ty = v .ty; depth = d }) a ∷ pop d σ)) (eqb-self d) ∙ over-pop t o
+    ap (λ (b : Bool). cond b (pop d σ) (local (atDepth d v) a ∷ pop d σ)) (eqb-self d) ∙ over-pop t o
 
 pub agree-pop : {d : ℕ} {fs : Frames} {σ : Stack State} → Agree (suc d) fs σ → Agree d (popFrame fs) (pop d σ)
 agree-pop (framed {d} {m} {ls} {fs} g o q) = subst (λ (ρ : Stack State). Agree d fs ρ) (sym (over-pop (free d (omega arith) g) o)) g
@@ -229,7 +230,7 @@ over-unique : {d : ℕ} {m : States} {τ τ′ : Stack State} {ls : List Var} {�
 over-unique q bottom bottom = q
 over-unique {d} q (above {v} {a} {ls} {σ} e o) (above {a = a′} {σ = σ′} e′ o′) =
     let z : a ≡ a′ = cc in let r : σ ≡ σ′ = over-unique q o o′ in
-    λ i. local (record { name = v .name; ty = v .ty; depth = d }) (z i) ∷ r i
+    λ i. local (atDepth d v) (z i) ∷ r i
 
 pub agree-unique : {k : ℕ} {fs : Frames} {σ σ′ : Stack State} → Agree k fs σ → Agree k fs σ′ → σ ≡ σ′
 agree-unique nothing nothing = refl
@@ -248,7 +249,7 @@ agree-length (framed g o q) = ap suc (agree-length g)
 -- the locals in order
 over-shape : {d : ℕ} {m : States} {τ : Stack State} {ls : List Var} {σ : Stack State} → Over d m τ ls σ → shape σ ≡ numbered d ls (shape τ)
 over-shape bottom = refl
-over-shape {d} (above {v} e o) = ap (λ (Γ : Shape). record { name = v .name; ty = v .ty; depth = d } ∷ Γ) (over-shape o)
+over-shape {d} (above {v} e o) = ap (λ (Γ : Shape). atDepth d v ∷ Γ) (over-shape o)
 
 pub agree-shape : {k : ℕ} {fs : Frames} {σ : Stack State} → Agree k fs σ → shape σ ≡ shapeOf fs
 agree-shape nothing = refl
@@ -257,7 +258,7 @@ agree-shape (framed {d} {m} {ls} {fs} g o q) = over-shape o ∙ (λ i. numbered 
 -- what find_local and find_state give
 abbrev pub varOf : Option (Local State) → Option Var
 varOf none = none
-varOf (some (local s a)) = some (record { name = s .name; ty = s .ty })
+varOf (some (local s a)) = some (record { name = s .name; ty = s .ty; born = s .born })
 
 abbrev pub stateOf : Option (Local State) → Option State
 stateOf none = none
@@ -269,7 +270,7 @@ over-local n bottom = refl
 over-local {d} {τ = τ} n (above {v} {a} {ls} {σ} e o) = split (eqb (v .name) n) (over-local n o)
   where
     split : (c : Bool) → orElse (newest n ls) (varOf (lookup n τ)) ≡ varOf (lookup n σ)
-        → orElse (cond c (some v) (newest n ls)) (varOf (lookup n τ)) ≡ varOf (cond c (some (local (record { name = v .name; ty = v .ty; depth = d }) a)) (lookup n σ))
+        → orElse (cond c (some v) (newest n ls)) (varOf (lookup n τ)) ≡ varOf (cond c (some (local (atDepth d v) a)) (lookup n σ))
     split true r = refl
     split false r = r
 
@@ -284,7 +285,7 @@ over-state n bottom = refl
 over-state {d} {m} {τ} n (above {v} {a} {ls} {σ} e o) = split (eqb (v .name) n) refl (over-state n o)
   where
     split : (c : Bool) → eqb (v .name) n ≡ c → cond (named n ls) (m n) (stateOf (lookup n τ)) ≡ stateOf (lookup n σ)
-        → cond (c || named n ls) (m n) (stateOf (lookup n τ)) ≡ stateOf (cond c (some (local (record { name = v .name; ty = v .ty; depth = d }) a)) (lookup n σ))
+        → cond (c || named n ls) (m n) (stateOf (lookup n τ)) ≡ stateOf (cond c (some (local (atDepth d v) a)) (lookup n σ))
     split true q r = subst (λ (k : ℕ). m k ≡ some a) (same (v .name) n q) e
     split false q r = r
 
@@ -343,58 +344,71 @@ one-state {fs = fs} {s = s} {t = t} {a = a} {b = b} g i j p q =
     let z : some a ≡ some b = sym x ∙ ((λ i. getIn (frameAt (q i) fs) (p i)) ∙ y) in cc
 
 module _ (T : Tables) where
-  over-drops : {d : ℕ} {m : States} {τ : Stack State} {ls : List Var} {σ : Stack State} (q : Static → Bool) (r : ℕ → Bool) (p : ℕ)
-      → ((n t : ℕ) → r n ≡ q (record { name = n; ty = t; depth = d })) → Over d m τ ls σ
-      → frameDrops T r p m ls ++ collect states T q p τ ≡ collect states T q p σ
-  over-drops q r p h bottom = refl
-  over-drops {d} {m} {τ} q r p h (above {v} {a} {ls} {σ} e o) =
-      let s : Static = record { name = v .name; ty = v .ty; depth = d } in
-      ap (λ (b : Bool). cond (b && isLive (m (v .name)) && auto T (v .ty)) (dropOf p (v .name) (v .ty) ∷ frameDrops T r p m ls) (frameDrops T r p m ls) ++ collect states T q p τ) (h (v .name) (v .ty))
-      ∙ (ap (λ (x : Option State). cond (q s && isLive x && auto T (v .ty)) (dropOf p (v .name) (v .ty) ∷ frameDrops T r p m ls) (frameDrops T r p m ls) ++ collect states T q p τ) e
-      ∙ split (q s && isAlive a && auto T (v .ty)) (over-drops q r p h o))
+  over-gather : {B : Type 0} {d : ℕ} {m : States} {τ : Stack State} {ls : List Var} {σ : Stack State} (q : Static → Bool) (r : ℕ → Bool) (f : Static → B) (h : Var → B)
+      → ((v : Var) → r (v .name) ≡ q (atDepth d v)) → ((v : Var) → h v ≡ f (atDepth d v)) → Over d m τ ls σ
+      → frameGather T r h m ls ++ gather states T q f τ ≡ gather states T q f σ
+  over-gather q r f h e₁ e₂ bottom = refl
+  over-gather {B} {d} {m} {τ} q r f h e₁ e₂ (above {v} {a} {ls} {σ} e o) =
+      let s : Static = atDepth d v in
+      (λ i. cond (e₁ v i && isLive (e i) && auto T (v .ty)) (e₂ v i ∷ frameGather T r h m ls) (frameGather T r h m ls) ++ gather states T q f τ)
+      ∙ split (q s && isAlive a && auto T (v .ty)) (over-gather q r f h e₁ e₂ o)
     where
-      split : (c : Bool) → frameDrops T r p m ls ++ collect states T q p τ ≡ collect states T q p σ
-          → cond c (dropOf p (v .name) (v .ty) ∷ frameDrops T r p m ls) (frameDrops T r p m ls) ++ collect states T q p τ
-          ≡ cond c (dropOf p (v .name) (v .ty) ∷ collect states T q p σ) (collect states T q p σ)
-      split true x = ap (λ (ds : List Drop). dropOf p (v .name) (v .ty) ∷ ds) x
+      split : (c : Bool) → frameGather T r h m ls ++ gather states T q f τ ≡ gather states T q f σ
+          → cond c (f (atDepth d v) ∷ frameGather T r h m ls) (frameGather T r h m ls) ++ gather states T q f τ
+          ≡ cond c (f (atDepth d v) ∷ gather states T q f σ) (gather states T q f σ)
+      split true x = ap (λ (bs : List B). f (atDepth d v) ∷ bs) x
       split false x = x
+
+  -- every frame
+  agree-scope : {B : Type 0} {k : ℕ} {fs : Frames} {σ : Stack State} (q : Static → Bool) (r : ℕ → Bool) (f : Static → B) (h : Var → B)
+      → ((d : ℕ) (v : Var) → r (v .name) ≡ q (atDepth d v)) → ((d : ℕ) (v : Var) → h v ≡ f (atDepth d v)) → Agree k fs σ
+      → scopeGather T r h fs ≡ gather states T q f σ
+  agree-scope q r f h e₁ e₂ nothing = refl
+  agree-scope {B} q r f h e₁ e₂ (framed {d} {m} {ls} g o p) =
+      ap (λ (bs : List B). frameGather T r h m ls ++ bs) (agree-scope q r f h e₁ e₂ g) ∙ over-gather q r f h (e₁ d) (e₂ d) o
 
   -- collect_scope_drops
   pub agree-return : {k : ℕ} {fs : Frames} {σ : Stack State} (n : Named) → Agree k fs σ → scopeDrops T n fs ≡ returnDrops states T n σ
-  agree-return n nothing = refl
-  agree-return n (framed {m = m} {ls = ls} g o q) =
-      ap (λ (ds : List Drop). frameDrops T (λ k. not (excludes n k)) 0 m ls ++ ds) (agree-return n g)
-      ∙ over-drops (λ s. not (excludes n (s .name))) (λ k. not (excludes n k)) 0 (λ j t. refl) o
+  agree-return n g = agree-scope (λ s. concerns (atReturn n) s) (λ k. not (excludes n k)) (λ s. dropOf 0 (s .name) (s .ty)) (deleteOf T 0) (λ d v. refl) (λ d v. refl) g
 
-  none-in : (p : ℕ) (m : States) (ls : List Var) → frameDrops T (λ k. false) p m ls ≡ []
-  none-in p m [] = refl
-  none-in p m (v ∷ ls) = none-in p m ls
+  none-in : {B : Type 0} (f : Var → B) (m : States) (ls : List Var) → frameGather T (λ k. false) f m ls ≡ []
+  none-in f m [] = refl
+  none-in f m (v ∷ ls) = none-in f m ls
 
-  no-loop : (p : ℕ) (σ : Stack State) → collect states T (λ s. false) p σ ≡ []
-  no-loop p [] = refl
-  no-loop p (local s a ∷ σ) = no-loop p σ
+  no-loop : {B : Type 0} (f : Static → B) (σ : Stack State) → gather states T (λ s. false) f σ ≡ []
+  no-loop f [] = refl
+  no-loop f (local s a ∷ σ) = no-loop f σ
 
   -- frames outside the loop's body
-  outside-loop : {k : ℕ} {fs : Frames} {σ : Stack State} (l : ℕ) → k ≤ l → Agree k fs σ → loopDrops states T (some l) σ ≡ []
-  outside-loop l h nothing = refl
-  outside-loop l h (framed {d} {m} {ls} {fs} {τ} g o q) =
+  outside-loop : {B : Type 0} (f : Static → B) (h : Var → B) → ((d : ℕ) (v : Var) → h v ≡ f (atDepth d v))
+      → {k : ℕ} {fs : Frames} {σ : Stack State} (l : ℕ) → k ≤ l → Agree k fs σ → gather states T (λ s. concerns (atJump (some l)) s) f σ ≡ []
+  outside-loop f h e₂ l b nothing = refl
+  outside-loop {B} f h e₂ l b (framed {d} {m} {ls} {fs} {τ} g o q) =
       let e : leb l d ≡ false = no≡ (leb l d) (λ t. let z : l ≤ d = leb→le l d t in omega arith) in
-      sym (over-drops (λ s. concerns (atJump (some l)) s) (λ k. false) 0 (λ n t. sym e) o)
-      ∙ (ap (λ (ds : List Drop). ds ++ loopDrops states T (some l) τ) (none-in 0 m ls) ∙ outside-loop l (omega arith) g)
+      sym (over-gather (λ s. concerns (atJump (some l)) s) (λ k. false) f h (λ v. sym e) (e₂ d) o)
+      ∙ (ap (λ (bs : List B). bs ++ gather states T (λ s. concerns (atJump (some l)) s) f τ) (none-in h m ls) ∙ outside-loop f h e₂ l (omega arith) g)
 
   -- what a Break or Continue leaves behind
-  pub agree-loop : {k : ℕ} {fs : Frames} {σ : Stack State} (l : Option ℕ) → Agree k fs σ → loopFrames T l fs ≡ loopDrops states T l σ
-  agree-loop {σ = σ} none g = sym (no-loop 0 σ)
-  agree-loop (some l) nothing = refl
-  agree-loop (some l) (framed {d} {m} {ls} {fs} {τ} {σ} g o q) =
-      ap (λ (j : ℕ). cond (leb l j) (frameDrops T (λ k. true) 0 m ls ++ loopFrames T (some l) fs) []) (agree-length g)
-      ∙ split (leb l d) refl (agree-loop (some l) g)
+  agree-loop : {B : Type 0} (f : Static → B) (h : Var → B) → ((d : ℕ) (v : Var) → h v ≡ f (atDepth d v))
+      → {k : ℕ} {fs : Frames} {σ : Stack State} (l : Option ℕ) → Agree k fs σ → loopGather T l h fs ≡ gather states T (λ s. concerns (atJump l) s) f σ
+  agree-loop f h e₂ {σ = σ} none g = sym (no-loop f σ)
+  agree-loop f h e₂ (some l) nothing = refl
+  agree-loop {B} f h e₂ (some l) (framed {d} {m} {ls} {fs} {τ} {σ} g o q) =
+      ap (λ (j : ℕ). cond (leb l j) (frameGather T (λ k. true) h m ls ++ loopGather T (some l) h fs) []) (agree-length g)
+      ∙ split (leb l d) refl (agree-loop f h e₂ (some l) g)
     where
-      split : (c : Bool) → leb l d ≡ c → loopFrames T (some l) fs ≡ loopDrops states T (some l) τ
-          → cond c (frameDrops T (λ k. true) 0 m ls ++ loopFrames T (some l) fs) [] ≡ loopDrops states T (some l) σ
+      split : (c : Bool) → leb l d ≡ c → loopGather T (some l) h fs ≡ gather states T (λ s. concerns (atJump (some l)) s) f τ
+          → cond c (frameGather T (λ k. true) h m ls ++ loopGather T (some l) h fs) [] ≡ gather states T (λ s. concerns (atJump (some l)) s) f σ
       split true e r =
-          ap (λ (ds : List Drop). frameDrops T (λ k. true) 0 m ls ++ ds) r ∙ over-drops (λ s. concerns (atJump (some l)) s) (λ k. true) 0 (λ n t. sym e) o
-      split false e r = sym (outside-loop l (le-cases l d (of-false (leb l d) e)) (framed g o q))
+          ap (λ (bs : List B). frameGather T (λ k. true) h m ls ++ bs) r ∙ over-gather (λ s. concerns (atJump (some l)) s) (λ k. true) f h (λ v. sym e) (e₂ d) o
+      split false e r = sym (outside-loop f h e₂ l (le-cases l d (of-false (leb l d) e)) (framed g o q))
+
+  -- what a return without a value, and what a Break or Continue leaves behind
+  pub agree-left : {k : ℕ} {fs : Frames} {σ : Stack State} (p : ℕ) → Agree k fs σ → scopeGather T (λ k. true) (λ v. left p (v .name) (v .born)) fs ≡ leftBehind T p (atReturn nobody) σ
+  agree-left p g = agree-scope (λ s. concerns (atReturn nobody) s) (λ k. true) (λ s. left p (s .name) (s .born)) (λ v. left p (v .name) (v .born)) (λ d v. refl) (λ d v. refl) g
+
+  pub agree-jump : {k : ℕ} {fs : Frames} {σ : Stack State} (p : ℕ) (l : Option ℕ) → Agree k fs σ → loopGather T l (λ v. left p (v .name) (v .born)) fs ≡ leftBehind T p (atJump l) σ
+  agree-jump p l g = agree-loop (λ s. left p (s .name) (s .born)) (λ v. left p (v .name) (v .born)) (λ d v. refl) l g
 
   free-drops : (d p : ℕ) (σ : Stack State) → Free d σ → tailDrops states T d p σ ≡ []
   free-drops d p [] t = refl
@@ -405,9 +419,9 @@ module _ (T : Tables) where
   -- transform_block's tail_drops
   pub agree-tail : {d : ℕ} {fs : Frames} {σ : Stack State} (p : ℕ) → Agree (suc d) fs σ → lastDrops T p fs ≡ tailDrops states T d p σ
   agree-tail p (framed {d} {m} {ls} {fs} {τ} g o q) =
-      sym (append-nil (frameDrops T (λ k. true) p m ls))
-      ∙ (ap (λ (ds : List Drop). frameDrops T (λ k. true) p m ls ++ ds) (sym (free-drops d p τ (free d (omega arith) g)))
-      ∙ over-drops (λ s. eqb (s .depth) d) (λ k. true) p (λ n t. sym (eqb-self d)) o)
+      sym (append-nil (frameGather T (λ k. true) (deleteOf T p) m ls))
+      ∙ (ap (λ (ds : List Drop). frameGather T (λ k. true) (deleteOf T p) m ls ++ ds) (sym (free-drops d p τ (free d (omega arith) g)))
+      ∙ over-gather (λ s. eqb (s .depth) d) (λ k. true) (λ s. dropOf p (s .name) (s .ty)) (deleteOf T p) (λ v. sym (eqb-self d)) (λ v. refl) o)
 
   both-tests : {A : Type 0} (a b : Bool) (x y : A) → cond b (cond a x y) y ≡ cond (a && b) x y
   both-tests true b x y = refl
@@ -422,7 +436,7 @@ module _ (T : Tables) where
       split : (c : Bool) → eqb (v .name) n ≡ c
           → preDrop T p n (m n) (newest n ls) (dropNewest states T p n (lookup n τ)) ≡ dropNewest states T p n (lookup n σ)
           → preDrop T p n (m n) (cond c (some v) (newest n ls)) (dropNewest states T p n (lookup n τ))
-          ≡ dropNewest states T p n (cond c (some (local (record { name = v .name; ty = v .ty; depth = d }) a)) (lookup n σ))
+          ≡ dropNewest states T p n (cond c (some (local (atDepth d v) a)) (lookup n σ))
       split true q r =
           ap (λ (x : Option State). cond (auto T (v .ty)) (cond (isLive x) (dropOf p n (v .ty) ∷ []) []) []) (subst (λ (k : ℕ). m k ≡ some a) (same (v .name) n q) e)
           ∙ both-tests (isAlive a) (auto T (v .ty)) (dropOf p n (v .ty) ∷ []) []
@@ -571,14 +585,14 @@ agree-revived (called n s) g = agree-mark n (λ a. alive) alive (λ a y. refl) g
 -- what the effects ask of the locals is what find_local gives: the newest local's type, and whether there is one
 abbrev pub varIn : Option Static → Option Var
 varIn none = none
-varIn (some s) = some (record { name = s .name; ty = s .ty })
+varIn (some s) = some (record { name = s .name; ty = s .ty; born = s .born })
 
 numbered-static : (n d : ℕ) (ls : List Var) (Γ : Shape) → varIn (staticOf n (numbered d ls Γ)) ≡ orElse (newest n ls) (varIn (staticOf n Γ))
 numbered-static n d [] Γ = refl
 numbered-static n d (v ∷ ls) Γ = split (eqb (v .name) n) (numbered-static n d ls Γ)
   where
     split : (c : Bool) → varIn (staticOf n (numbered d ls Γ)) ≡ orElse (newest n ls) (varIn (staticOf n Γ))
-        → varIn (cond c (some (record { name = v .name; ty = v .ty; depth = d })) (staticOf n (numbered d ls Γ)))
+        → varIn (cond c (some (atDepth d v)) (staticOf n (numbered d ls Γ)))
         ≡ orElse (cond c (some v) (newest n ls)) (varIn (staticOf n Γ))
     split true r = refl
     split false r = r
@@ -661,9 +675,9 @@ layout-revived : (n : Named) (fs : Frames) → layout (markAlive n fs) ≡ layou
 layout-revived nobody fs = refl
 layout-revived (called n s) fs = layout-mark n alive fs
 
-layout-register : (n t : ℕ) (fs : Frames) → rest (layout (registerLocal n t fs)) ≡ rest (layout fs)
-layout-register n t [] = refl
-layout-register n t (frame ls m ∷ fs) = refl
+layout-register : (v : Var) (fs : Frames) → rest (layout (registerLocal v fs)) ≡ rest (layout fs)
+layout-register v [] = refl
+layout-register v (frame ls m ∷ fs) = refl
 
 layout-merge : (f g : Bool) (bs ts : Frames) (es : Option Frames) → layout (mergeFrames f g bs ts es) ≡ layout bs
 layout-merge f g [] ts es = refl
@@ -675,10 +689,10 @@ layout-merge f g (frame ls m ∷ bs) ts es = split (frameAt (length bs) ts) (lay
     split (some (frame ls′ m′)) r = ap (λ (ks : List (List Var)). ls ∷ ks) r
 
 module _ (T : Tables) where
-  layout-variable : (n t : ℕ) (e : Expr) (fs : Frames) → rest (layout (afterVariableFrames T n t e fs)) ≡ rest (layout fs)
-  layout-variable n t e fs =
-      ap rest (layout-all (takeOver T (shapeOf fs) n t e) (registerLocal n t (evaluateFrames T e fs)))
-      ∙ (layout-register n t (evaluateFrames T e fs) ∙ ap rest (layout-all (effects T (shapeOf fs) e) fs))
+  layout-variable : (v : Var) (e : Expr) (fs : Frames) → rest (layout (afterVariableFrames T v e fs)) ≡ rest (layout fs)
+  layout-variable v e fs =
+      ap rest (layout-all (takeOver T (shapeOf fs) (v .name) (v .ty) e) (registerLocal v (evaluateFrames T e fs)))
+      ∙ (layout-register v (evaluateFrames T e fs) ∙ ap rest (layout-all (effects T (shapeOf fs) e) fs))
 
   layout-assign : (e v : Expr) (fs : Frames) → layout (afterAssignFrames T e v fs) ≡ layout fs
   layout-assign e v fs = layout-all (assignTakes T (shapeOf fs) e v) (markAlive (nameIn (view e)) fs) ∙ layout-revived (nameIn (view e)) fs
@@ -688,7 +702,7 @@ module _ (T : Tables) where
   layout-exit (done x) [] = refl
   layout-exit (done x) (frame ls m ∷ fs) = refl
   layout-exit (exprStmt s e y r) fs = layout-exit r (afterExprFrames T e fs) ∙ ap rest (layout-all (exprStmtEffects T (shapeOf fs) e) fs)
-  layout-exit (variable k s n t e r) fs = layout-exit r (afterVariableFrames T n t e fs) ∙ layout-variable n t e fs
+  layout-exit (variable k s n t e r) fs = layout-exit r (afterVariableFrames T (declaredVar s n t) e fs) ∙ layout-variable (declaredVar s n t) e fs
   layout-exit (assign s e v t x r) fs =
       let gs = beforeAssignFrames T e v fs in
       layout-exit r (afterAssignFrames T e v gs) ∙ ap rest (layout-assign e v gs ∙ layout-all (assignEffects T (shapeOf fs) e v) fs)
@@ -724,21 +738,21 @@ module _ (T : Tables) where
       subst (λ (Γ : Shape). Agree k (applyAllFrames (assignTakes T Γ e v) (markAlive (nameIn (view e)) fs)) (afterAssign states T e v σ)) (agree-shape g)
       (agree-all (assignTakes T (shape σ) e v) (agree-revived (nameIn (view e)) g))
 
-  pub agree-variable : {d : ℕ} {fs : Frames} {σ : Stack State} (n t : ℕ) (e : Expr) → Agree (suc d) fs σ
-      → Agree (suc d) (afterVariableFrames T n t e fs) (afterVariable states T d n t e σ)
-  agree-variable {d} {fs} {σ} n t e g =
-      subst (λ (Γ : Shape). Agree (suc d) (applyAllFrames (takeOver T Γ n t e) (registerLocal n t (evaluateFrames T e fs))) (afterVariable states T d n t e σ)) (agree-shape g)
-      (agree-all (takeOver T (shape σ) n t e) (agree-register n t (agree-evaluate e g)))
+  pub agree-variable : {d : ℕ} {fs : Frames} {σ : Stack State} (v : Var) (e : Expr) → Agree (suc d) fs σ
+      → Agree (suc d) (afterVariableFrames T v e fs) (afterVariable states T (atDepth d v) e σ)
+  agree-variable {d} {fs} {σ} v e g =
+      subst (λ (Γ : Shape). Agree (suc d) (applyAllFrames (takeOver T Γ (v .name) (v .ty) e) (registerLocal v (evaluateFrames T e fs))) (afterVariable states T (atDepth d v) e σ)) (agree-shape g)
+      (agree-all (takeOver T (shape σ) (v .name) (v .ty) e) (agree-register v (agree-evaluate e g)))
 
   pub agree-entered : {fs : Frames} {σ : Stack State} (ps : List Param) → Agree 1 fs σ → Agree 1 (enteredFrames ps fs) (entered states T ps σ)
   agree-entered [] g = g
-  agree-entered (x ∷ xs) g = agree-entered xs (agree-register (x .name) (x .ty) g)
+  agree-entered (x ∷ xs) g = agree-entered xs (agree-register (givenVar x) g)
 
   -- every tree: the walk on frames and on the flat stack come to stacks that agree
   pub walk-agrees : {X Y : Type 0} {d : ℕ} {fs : Frames} {σ : Stack State} (c : Code X Y) → Agree (suc d) fs σ → Agree d (exitFrames T c fs) (exit states T c d σ)
   walk-agrees (done x) g = agree-pop g
   walk-agrees (exprStmt s e y r) g = walk-agrees r (agree-expr e g)
-  walk-agrees (variable k s n t e r) g = walk-agrees r (agree-variable n t e g)
+  walk-agrees (variable k s n t e r) g = walk-agrees r (agree-variable (declaredVar s n t) e g)
   walk-agrees (assign s e v t x r) g = walk-agrees r (agree-after e v (agree-before e v g))
   walk-agrees (return s e t x r) g = walk-agrees r (agree-evaluate e g)
   walk-agrees (bareReturn s t r) g = walk-agrees r g
@@ -761,7 +775,7 @@ module _ (T : Tables) where
   pub decide-agrees : {d : ℕ} {fs : Frames} {σ : Stack State} (c : Tree) (p : ℕ) (f : Bool) → Agree (suc d) fs σ → decideFrames T c p f fs ≡ decide states T c p d f σ
   decide-agrees (done x) p f g = λ i. done (cond f [] (agree-tail T p g i))
   decide-agrees (exprStmt s e y r) p f g = ap (exprStmt s e (auto T (tyOf e) && isCall (view e))) (decide-agrees r p false (agree-expr e g))
-  decide-agrees (variable k s n t e r) p f g = ap (variable k s n t e) (decide-agrees r p false (agree-variable n t e g))
+  decide-agrees (variable k s n t e r) p f g = ap (variable k s n t e) (decide-agrees r p false (agree-variable (declaredVar s n t) e g))
   decide-agrees (assign s e v t x r) p f g =
       let g′ = agree-before e v g in let q = decide-agrees r p false (agree-after e v g′) in
       λ i. assign s e v t (agree-assign T s e g′ i) (q i)
@@ -800,7 +814,7 @@ module _ (T : Tables) where
       let a = agree-use (λ Γ. exprStmtEffects T Γ e) g in let q = report-agrees r l (at + 5 + exprBytes e) (agree-expr e g) in
       λ i. a i ++ (unused (auto T (tyOf e) && isCall (view e)) s e at ++ q i)
   report-agrees (variable k s n t e r) l at g =
-      let a = agree-use (λ Γ. effects T Γ e) g in let q = report-agrees r l (at + 9 + exprBytes e) (agree-variable n t e g) in
+      let a = agree-use (λ Γ. effects T Γ e) g in let q = report-agrees r l (at + 9 + exprBytes e) (agree-variable (declaredVar s n t) e g) in
       λ i. a i ++ q i
   report-agrees (assign s e v t x r) l at g =
       let a = agree-use (λ Γ. assignEffects T Γ e v) g in
@@ -811,7 +825,7 @@ module _ (T : Tables) where
       λ i. a i ++ q i
   report-agrees (bareReturn s t r) l at g =
       let q = report-agrees r l (at + 8) g in
-      λ i. leftBehind s (agree-return T nobody g i) ++ q i
+      λ i. agree-left T s g i ++ q i
   report-agrees (block s c r) l at g =
       let a = report-agrees c l (at + 7) (agree-push g) in let q = report-agrees r l (at + 7 + codeBytes c) (walk-agrees c (agree-push g)) in
       λ i. a i ++ q i
@@ -842,7 +856,7 @@ module _ (T : Tables) where
       λ i. o i ++ (a i ++ q i)
   report-agrees (jump k s r) l at g =
       let q = report-agrees r l (at + 5) g in
-      λ i. leftBehind s (agree-loop T l g i) ++ q i
+      λ i. agree-jump T s l g i ++ q i
 
 -- every body: on mod.rs's frames the rules decide what they decide on the flat stack
 pub body-agrees : (T : Tables) (x : Entry) (b : Block) → decideBodyFrames T x b ≡ decideBody T x b

@@ -2,7 +2,7 @@
 pub mod Nodes
 pub mod Rows
 pub mod EffectRows
-pub mod WalkRows
+pub mod FaultRows
 pub mod OnBytes
 pub mod UnusedResult
 pub mod Needed
@@ -11,6 +11,8 @@ pub mod Relate
 pub mod FrameRules
 pub mod Frames
 pub mod Shapes
+pub mod Each
+pub mod Births
 pub mod Spots
 pub mod Order
 pub mod Through

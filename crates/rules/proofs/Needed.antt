@@ -43,7 +43,7 @@ abbrev begin : Tree → List Bool → Config
 begin c cs = start tables [] (decided c) cs
 
 abbrev declared : Stack State
-declared = afterVariable states tables 1 1 1 literal []
+declared = afterVariable states tables (record { name = 1; ty = 1; depth = 1; born = 21 }) literal []
 
 -- The loop's part: while .. { v = ..; std::move(v); }
 abbrev pub loop : Tree

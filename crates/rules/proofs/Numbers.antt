@@ -17,7 +17,7 @@ use Rattle.image.specs.Image.{Image, Decoded, accepted, refused, decode}
 use Rattle.image.proofs.Numbered.{fault-numbers}
 use Rattle.rules.specs.State.{State}
 use Rattle.rules.specs.Stack.{Stack}
-use Rattle.rules.specs.Rules.{states, sureFrom, merge, joins, evaluate, afterVariable, exit, entered, localsOf}
+use Rattle.rules.specs.Rules.{states, sureFrom, merge, joins, declared, evaluate, afterVariable, exit, entered, localsOf}
 use Rattle.rules.specs.Walk.{tooMany, tooWide, crowded, walkFault, imageFault}
 use Rattle.rules.specs.Verdict.{Lent, Answer, answerOf, refuses, answers, listsFit, outputFits, walked, decided, passVerdict, roomFaultOf, roomFault}
 
@@ -53,7 +53,7 @@ module _ (L : Limits) where
     real-walk (done x) d = λ σ. real-no
     real-walk (exprStmt s e y r) d = λ σ. real-walk r d _
     real-walk (variable k s n t e r) d = λ σ.
-        let τ = afterVariable states T d n t e σ in
+        let τ = afterVariable states T (declared d s n t) e σ in
         real-else (tooMany L τ) (walkFault L T r d τ) (real-many τ) (real-walk r d τ)
     real-walk (assign s e v t x r) d = λ σ. real-walk r d _
     real-walk (return s e t x r) d = λ σ. real-walk r d _

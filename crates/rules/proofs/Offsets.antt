@@ -4,18 +4,16 @@ use Prim.Native.Nat.{ℕ, suc, _+_}
 use native.Mathlib.Omega.{arith}
 use mathlib.Core.Path.{_≡_, refl, sym, ap, _∙_, subst}
 use mathlib.Core.Bool.{Bool, true, false, cond, _&&_}
-use mathlib.Core.List.{List, [], _∷_, _++_, append-nil, append-assoc}
-use mathlib.Core.Logic.{_⊎_, inl, inr, ⊎-elim}
+use mathlib.Core.List.{List, [], _∷_, _++_, append-nil}
 use borrow.Author.Tests.{eqb-true}
-use lib.ListN.{length, getD, length-append}
+use lib.ListN.{length, getD}
 use lib.Dec.{eqb}
 use lib.Seq.{drop-length}
 use Rattle.image_fields.specs.Bytes.{Bytes, twoBytes, fourBytes, numberBytes}
-use Rattle.image_fields.proofs.Tests.{split, and-true, false-true}
+use Rattle.image_fields.proofs.Tests.{and-true, false-true}
 use Rattle.tables.specs.Limits.{Limits}
 use Rattle.tables.specs.Tables.{Tables}
-use Rattle.image_body.specs.Expr.{Head, Expr, Exprs, node, none, more, argWidth, countWidth, lastWidth, noopUnary, through, throughFirst}
-use Rattle.image_body.specs.Stands.{count}
+use Rattle.image_body.specs.Expr.{Head, Expr, Exprs, node, none, more, argWidth, noopUnary, through, throughFirst}
 use Rattle.image_encoding.specs.Body.{encodeExpr, encodeExprs, encodeCode, size, withCount, encodeBlock}
 use Rattle.image_encoding.specs.Tables.{encodeTables, encodeEntry}
 use Rattle.image.specs.Image.{Image, accepted, decode, encodeParts, encode}
@@ -25,11 +23,12 @@ use Rattle.image_encoding.proofs.Parts.{first, second, being}
 use mathlib.Core.Option.{Option, some}
 use Rattle.image_body.specs.Stmt.{Tree, done, exprStmt, variable, assign, return, bareReturn, block, ifElse, ifThen, while, jump}
 use Rattle.rules.specs.Questions.{auto}
-use Rattle.rules.specs.Stack.{Local, local, Stack, shape, lookup}
-use Rattle.rules.specs.State.{State, alive, gone, deleted, moved, consumed}
-use Rattle.rules.specs.Effects.{Effect, use′, kill, hand, badMove, globalMove, effects, exprStmtEffects, assignEffects}
-use Rattle.rules.specs.Rules.{Drop, dropOf, states, apply, returnDrops, loopDrops, evaluate, afterExpr, afterVariable, beforeAssign, afterAssign, exit, behindIf, behindThen, behindLoop, entered, localsOf}
-use Rattle.rules.specs.Report.{Report, error, warning, left, badUse, useOf, reportOf, reportAll, unused, leftBehind, exprBytes, codeBytes, report, bodyStart, reports}
+use Rattle.rules.specs.Stack.{Stack, Shape, shape}
+use Rattle.rules.specs.State.{State}
+use Rattle.rules.specs.Effects.{Effect, effects, exprStmtEffects, assignEffects}
+use Rattle.rules.specs.Rules.{states, evaluate, afterExpr, afterVariable, beforeAssign, afterAssign, exit, behindIf, behindThen, behindLoop, entered, localsOf, declared, Place, atReturn, atJump}
+use Rattle.rules.specs.Report.{Report, error, warning, left, reportAll, unused, leftBehind, exprBytes, codeBytes, report, bodyStart, reports}
+use Rattle.rules.proofs.Each.{Each, EachLocal, each-none, each-more, each-both, each-own, each-effects, left-own}
 use Rattle.rules.specs.Expr.{nobody, tyOf, View, anIdent, aThis, aField, aDelete, aCall, other, viewOf, view, fieldView, deleteView, callView, calleeAt, calleeIn, isCall}
 
 -- an expression's encoding stands there
@@ -112,53 +111,25 @@ pub record Callee (s : List ℕ) (at : ℕ) : Type 0 where
   pub is : view call ≡ aCall callee
   pub stands : Stood s at callee
 
--- every warning's offset is a callee's place
-unfoldable pub Warned : List ℕ → List Report → Type 0
-Warned s [] = Unit {0}
-Warned s (error k p h ps ∷ rs) = Warned s rs
-Warned s (warning p o ∷ rs) = Callee s o × Warned s rs
-Warned s (left p n ∷ rs) = Warned s rs
+-- a warning's offset is a callee's place
+abbrev pub AtCallee : List ℕ → Report → Type 0
+AtCallee s (error k p h ps) = Unit {0}
+AtCallee s (warning p o) = Callee s o
+AtCallee s (left p n b) = Unit {0}
 
-both : (s : List ℕ) (xs ys : List Report) → Warned s xs → Warned s ys → Warned s (xs ++ ys)
-unfolding Warned
-both s [] ys a b = b
-both s (error k p h ps ∷ xs) ys a b = both s xs ys a b
-both s (warning p o ∷ xs) ys a b = (a .0, both s xs ys (a .1) b)
-both s (left p n ∷ xs) ys a b = both s xs ys a b
+abbrev pub Warned : List ℕ → List Report → Type 0
+Warned s rs = Each (AtCallee s) rs
 
 -- errors and left-behind entries are no warnings
-of-use : (s : List ℕ) (p : ℕ) (a : State) → Warned s (badUse p a)
-unfolding Warned
-of-use s p alive = tt
-of-use s p (gone false deleted ps) = tt
-of-use s p (gone false moved ps) = tt
-of-use s p (gone false consumed ps) = tt
-of-use s p (gone true deleted ps) = tt
-of-use s p (gone true moved ps) = tt
-of-use s p (gone true consumed ps) = tt
-
-of-local : (s : List ℕ) (p : ℕ) (o : Option (Local State)) → Warned s (useOf p o)
-unfolding Warned
-of-local s p Option.none = tt
-of-local s p (some (local l a)) = of-use s p a
-
-of-effect : (s : List ℕ) (e : Effect) (σ : Stack State) → Warned s (reportOf e σ)
-unfolding Warned
-of-effect s (use′ n p) σ = of-local s p (lookup n σ)
-of-effect s (kill k n p) σ = tt
-of-effect s (hand n p) σ = tt
-of-effect s (badMove p h) σ = tt
-of-effect s (globalMove p g) σ = tt
-
 of-effects : (s : List ℕ) (es : List Effect) (σ : Stack State) → Warned s (reportAll es σ)
-unfolding Warned
-of-effects s [] σ = tt
-of-effects s (e ∷ es) σ = both s (reportOf e σ) (reportAll es (apply states e σ)) (of-effect s e σ) (of-effects s es (apply states e σ))
+of-effects s es σ = each-effects (AtCallee s) (λ k p h ps. tt) es σ
 
-of-left : (s : List ℕ) (p : ℕ) (ds : List Drop) → Warned s (leftBehind p ds)
-unfolding Warned
-of-left s p [] = tt
-of-left s p (dropOf q n t ∷ ds) = of-left s p ds
+none-warned : (Γ : Shape) → EachLocal (λ s. Unit {0}) Γ
+none-warned [] = tt
+none-warned (s ∷ Γ) = (tt, none-warned Γ)
+
+of-left : (T : Tables) (s : List ℕ) (p : ℕ) (w : Place) (σ : Stack State) → Warned s (leftBehind T p w σ)
+of-left T s p w σ = each-own (AtCallee s) p (left-own T p w σ) (none-warned (shape σ))
 
 is-call : (v : View) → isCall v ≡ true → (f : Expr) × (v ≡ aCall f)
 is-call (anIdent n p) e = false-true e
@@ -169,14 +140,13 @@ is-call (aCall f) e = (f, refl)
 is-call other e = false-true e
 
 of-unused : (s : List ℕ) (a : Bool) (p : ℕ) (e : Expr) (at q : ℕ) → Written s (at + 5) (encodeExpr e) q → Warned s (unused (a && isCall (view e)) p e at)
-unfolding Warned
 of-unused s a p e at q g = by-test (a && isCall (view e)) refl
   where
     by-test : (b : Bool) → (a && isCall (view e)) ≡ b → Warned s (unused b p e at)
     by-test true t =
         let c = is-call (view e) (and-true a (isCall (view e)) t .1) in
-        (record { call = e; callee = c .0; is = c .1; stands = callee-stands e (c .0) s (at + 5) q (c .1) g }, tt)
-    by-test false t = tt
+        each-more (AtCallee s) _ _ (record { call = e; callee = c .0; is = c .1; stands = callee-stands e (c .0) s (at + 5) q (c .1) g }) (each-none (AtCallee s))
+    by-test false t = each-none (AtCallee s)
 
 -- behind n bytes
 skip : {s : List ℕ} {p q : ℕ} (a b : List ℕ) (r : ℕ) → p + length a ≡ r → Written s p (a ++ b) q → Written s r b q
@@ -197,8 +167,7 @@ inside {at = at} p n b c r e g =
     (first b [] (being (sym (append-nil b)) k), skip (withCount p n b) c (r + length b) (omega arith) g)
 
 nothing : (s : List ℕ) → Warned s []
-unfolding Warned
-nothing s = tt
+nothing s = each-none (AtCallee s)
 
 -- what report says of statements that stand there
 pub report-warned : (T : Tables) (s : List ℕ) (c : Tree) (d : ℕ) (l : Option ℕ) (at q : ℕ) (σ : Stack State) → Written s at (encodeCode c) q → Warned s (report T c d l at σ)
@@ -206,51 +175,51 @@ unfolding encodeCode twoBytes
 report-warned T s (done x) d l at q σ g = nothing s
 report-warned T s (exprStmt p e y r) d l at q σ g =
     let w = behind 3 p (encodeExpr e ++ encodeCode r) g in
-    both s _ _ (of-effects s (exprStmtEffects T (shape σ) e) σ) (both s _ _ (of-unused s (auto T (tyOf e)) p e at _ (first (encodeExpr e) (encodeCode r) w))
+    each-both (AtCallee s) _ _ (of-effects s (exprStmtEffects T (shape σ) e) σ) (each-both (AtCallee s) _ _ (of-unused s (auto T (tyOf e)) p e at _ (first (encodeExpr e) (encodeCode r) w))
     (report-warned T s r d l (at + 5 + exprBytes e) q (afterExpr states T e σ) (skip (encodeExpr e) (encodeCode r) _ refl w)))
 report-warned T s (variable k p n t e r) d l at q σ g =
     let w = skip (twoBytes n ++ twoBytes t) (encodeExpr e ++ encodeCode r) (at + 9) (omega arith) (behind _ p _ g) in
-    both s _ _ (of-effects s (effects T (shape σ) e) σ) (report-warned T s r d l (at + 9 + exprBytes e) q (afterVariable states T d n t e σ) (skip (encodeExpr e) (encodeCode r) _ refl w))
+    each-both (AtCallee s) _ _ (of-effects s (effects T (shape σ) e) σ) (report-warned T s r d l (at + 9 + exprBytes e) q (afterVariable states T (declared d p n t) e σ) (skip (encodeExpr e) (encodeCode r) _ refl w))
 report-warned T s (assign p e v t x r) d l at q σ g =
     let w = behind 6 p (encodeExpr e ++ (encodeExpr v ++ (twoBytes t ++ encodeCode r))) g in
     let w1 = skip (encodeExpr e) (encodeExpr v ++ (twoBytes t ++ encodeCode r)) (at + 5 + exprBytes e) refl w in
     let w2 = skip (encodeExpr v) (twoBytes t ++ encodeCode r) (at + 5 + exprBytes e + exprBytes v) refl w1 in
     let w3 = skip (twoBytes t) (encodeCode r) (at + 7 + exprBytes e + exprBytes v) (omega arith) w2 in
-    both s _ _ (of-effects s (assignEffects T (shape σ) e v) σ) (report-warned T s r d l (at + 7 + exprBytes e + exprBytes v) q (afterAssign states T e v (beforeAssign states T e v σ)) w3)
+    each-both (AtCallee s) _ _ (of-effects s (assignEffects T (shape σ) e v) σ) (report-warned T s r d l (at + 7 + exprBytes e + exprBytes v) q (afterAssign states T e v (beforeAssign states T e v σ)) w3)
 report-warned T s (return p e t x r) d l at q σ g =
     let w = behind 2 p (1 ∷ (encodeExpr e ++ (twoBytes t ++ encodeCode r))) g in
     let w1 = skip (1 ∷ []) (encodeExpr e ++ (twoBytes t ++ encodeCode r)) (at + 6) (omega arith) w in
     let w2 = skip (encodeExpr e) (twoBytes t ++ encodeCode r) (at + 6 + exprBytes e) refl w1 in
     let w3 = skip (twoBytes t) (encodeCode r) (at + 8 + exprBytes e) (omega arith) w2 in
-    both s _ _ (of-effects s (effects T (shape σ) e) σ) (report-warned T s r d l (at + 8 + exprBytes e) q (evaluate states T e σ) w3)
+    each-both (AtCallee s) _ _ (of-effects s (effects T (shape σ) e) σ) (report-warned T s r d l (at + 8 + exprBytes e) q (evaluate states T e σ) w3)
 report-warned T s (bareReturn p t r) d l at q σ g =
     let w = behind 2 p (0 ∷ (twoBytes t ++ encodeCode r)) g in
     let w1 = skip (0 ∷ twoBytes t) (encodeCode r) (at + 8) (omega arith) w in
-    both s _ _ (of-left s p (returnDrops states T nobody σ)) (report-warned T s r d l (at + 8) q σ w1)
+    each-both (AtCallee s) _ _ (of-left T s p (atReturn nobody) σ) (report-warned T s r d l (at + 8) q σ w1)
 report-warned T s (block p b r) d l at q σ g =
     let w = skip (1 ∷ []) (withCount p (size b) (encodeCode b) ++ encodeCode r) (at + 1) refl g in
     let i = inside p (size b) (encodeCode b) (encodeCode r) (at + 7) (omega arith) w in
-    both s _ _ (report-warned T s b (suc d) l (at + 7) _ σ (i .0)) (report-warned T s r d l (at + 7 + codeBytes b) q (exit states T b (suc d) σ) (i .1))
+    each-both (AtCallee s) _ _ (report-warned T s b (suc d) l (at + 7) _ σ (i .0)) (report-warned T s r d l (at + 7 + codeBytes b) q (exit states T b (suc d) σ) (i .1))
 report-warned T s (ifElse p e tp t up u r) d l at q σ g =
     let w = behind 7 p (encodeExpr e ++ (withCount tp (size t) (encodeCode t) ++ (1 ∷ (withCount up (size u) (encodeCode u) ++ encodeCode r)))) g in
     let w1 = skip (encodeExpr e) (withCount tp (size t) (encodeCode t) ++ (1 ∷ (withCount up (size u) (encodeCode u) ++ encodeCode r))) (at + 5 + exprBytes e) refl w in
     let i = inside tp (size t) (encodeCode t) (1 ∷ (withCount up (size u) (encodeCode u) ++ encodeCode r)) (at + 11 + exprBytes e) (omega arith) w1 in
     let w2 = skip (1 ∷ []) (withCount up (size u) (encodeCode u) ++ encodeCode r) (at + 12 + exprBytes e + codeBytes t) (omega arith) (i .1) in
     let j = inside up (size u) (encodeCode u) (encodeCode r) (at + 18 + exprBytes e + codeBytes t) (omega arith) w2 in
-    both s _ _ (of-effects s (effects T (shape σ) e) σ) (both s _ _ (report-warned T s t (suc d) l (at + 11 + exprBytes e) _ (evaluate states T e σ) (i .0))
-    (both s _ _ (report-warned T s u (suc d) l (at + 18 + exprBytes e + codeBytes t) _ (evaluate states T e σ) (j .0)) (report-warned T s r d l (at + 18 + exprBytes e + codeBytes t + codeBytes u) q (behindIf states T e t u d σ) (j .1))))
+    each-both (AtCallee s) _ _ (of-effects s (effects T (shape σ) e) σ) (each-both (AtCallee s) _ _ (report-warned T s t (suc d) l (at + 11 + exprBytes e) _ (evaluate states T e σ) (i .0))
+    (each-both (AtCallee s) _ _ (report-warned T s u (suc d) l (at + 18 + exprBytes e + codeBytes t) _ (evaluate states T e σ) (j .0)) (report-warned T s r d l (at + 18 + exprBytes e + codeBytes t + codeBytes u) q (behindIf states T e t u d σ) (j .1))))
 report-warned T s (ifThen p e tp t r) d l at q σ g =
     let w = behind 7 p (encodeExpr e ++ (withCount tp (size t) (encodeCode t) ++ (0 ∷ encodeCode r))) g in
     let w1 = skip (encodeExpr e) (withCount tp (size t) (encodeCode t) ++ (0 ∷ encodeCode r)) (at + 5 + exprBytes e) refl w in
     let i = inside tp (size t) (encodeCode t) (0 ∷ encodeCode r) (at + 11 + exprBytes e) (omega arith) w1 in
     let w2 = skip (0 ∷ []) (encodeCode r) (at + 12 + exprBytes e + codeBytes t) (omega arith) (i .1) in
-    both s _ _ (of-effects s (effects T (shape σ) e) σ) (both s _ _ (report-warned T s t (suc d) l (at + 11 + exprBytes e) _ (evaluate states T e σ) (i .0)) (report-warned T s r d l (at + 12 + exprBytes e + codeBytes t) q (behindThen states T e t d σ) w2))
+    each-both (AtCallee s) _ _ (of-effects s (effects T (shape σ) e) σ) (each-both (AtCallee s) _ _ (report-warned T s t (suc d) l (at + 11 + exprBytes e) _ (evaluate states T e σ) (i .0)) (report-warned T s r d l (at + 12 + exprBytes e + codeBytes t) q (behindThen states T e t d σ) w2))
 report-warned T s (while p e tp t r) d l at q σ g =
     let w = behind 8 p (encodeExpr e ++ (withCount tp (size t) (encodeCode t) ++ encodeCode r)) g in
     let w1 = skip (encodeExpr e) (withCount tp (size t) (encodeCode t) ++ encodeCode r) (at + 5 + exprBytes e) refl w in
     let i = inside tp (size t) (encodeCode t) (encodeCode r) (at + 11 + exprBytes e) (omega arith) w1 in
-    both s _ _ (of-effects s (effects T (shape σ) e) σ) (both s _ _ (report-warned T s t (suc d) (some (suc d)) (at + 11 + exprBytes e) _ (evaluate states T e σ) (i .0)) (report-warned T s r d l (at + 11 + exprBytes e + codeBytes t) q (behindLoop states T e t d σ) (i .1)))
-report-warned T s (jump k p r) d l at q σ g = both s _ _ (of-left s p (loopDrops states T l σ)) (report-warned T s r d l (at + 5) q σ (behind _ p (encodeCode r) g))
+    each-both (AtCallee s) _ _ (of-effects s (effects T (shape σ) e) σ) (each-both (AtCallee s) _ _ (report-warned T s t (suc d) (some (suc d)) (at + 11 + exprBytes e) _ (evaluate states T e σ) (i .0)) (report-warned T s r d l (at + 11 + exprBytes e + codeBytes t) q (behindLoop states T e t d σ) (i .1)))
+report-warned T s (jump k p r) d l at q σ g = each-both (AtCallee s) _ _ (of-left T s p (atJump l) σ) (report-warned T s r d l (at + 5) q σ (behind _ p (encodeCode r) g))
 
 -- where a body's statements stand in an image's encoding
 code-written : (L : Limits) (i : Image) → Written (encode L i) (bodyStart i) (encodeCode (i .body .code)) (length (encode L i))

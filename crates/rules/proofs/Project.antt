@@ -14,7 +14,7 @@ use Rattle.rules.specs.Questions.{auto}
 use Rattle.rules.specs.Expr.{tyOf, view, Named, nobody, called, identIn, isCall}
 use Rattle.rules.specs.Stack.{Static, local, Stack, Shape, lookup, has}
 use Rattle.rules.specs.State.{Kind, State, alive, gone, isAlive, handState, kindEq, placesEq, combine, joinKind, joinState}
-use Rattle.rules.specs.Rules.{states, holding, Drop, dropOf, Decided, sureFrom, localsOf, joins, merge, Keeps, collect, dropNewest, dropNamed, evaluate, beforeAssign, afterAssign, exit, decide, Plain, Fresh, PlainIn, decideIn, PlainBody, decideBody}
+use Rattle.rules.specs.Rules.{states, holding, Drop, dropOf, Decided, sureFrom, localsOf, joins, merge, Keeps, collect, dropNewest, dropNamed, evaluate, beforeAssign, afterAssign, exit, decide, Plain, Fresh, PlainIn, decideIn, PlainBody, decideBody, declared, given}
 use Rattle.rules.specs.Run.{Demand3}
 use Rattle.rules.proofs.Relate.{Rel, empty, both, Hom, rel-shape, rel-pop, rel-register, rel-evaluate, rel-expr, rel-before, rel-after, rel-variable, rel-entered}
 use Rattle.rules.proofs.Demand.{demand-alive}
@@ -84,7 +84,7 @@ module _ (T : Tables) where
   pub exit-alike : {X Y : Type 0} (c : Code X Y) (d : ℕ) {σ : Stack State} {τ : Stack Bool} → Alike σ τ → Alike (exit states T c d σ) (exit holding T c d τ)
   exit-alike (done x) d r = rel-pop d r
   exit-alike (exprStmt s e y c) d r = exit-alike c d (rel-expr states holding alike-hom T e r)
-  exit-alike (variable k s n t e c) d r = exit-alike c d (rel-variable states holding alike-hom T d n t e r)
+  exit-alike (variable k s n t e c) d r = exit-alike c d (rel-variable states holding alike-hom T (declared d s n t) e r)
   exit-alike (assign s e v t x c) d r = exit-alike c d (assign-alike e v r)
   exit-alike (return s e t x c) d r = exit-alike c d (evaluate-alike e r)
   exit-alike (bareReturn s t c) d r = exit-alike c d r
@@ -97,7 +97,7 @@ module _ (T : Tables) where
   pub decide-alike : (c : Tree) (p d : ℕ) (f : Bool) {σ : Stack State} {τ : Stack Bool} → Alike σ τ → decide states T c p d f σ ≡ decide holding T c p d f τ
   decide-alike (done x) p d f r = ap (λ (x : List Drop). done (cond f [] x)) (collect-alike (λ s. eqb (s .depth) d) p r)
   decide-alike (exprStmt s e y c) p d f r = ap (λ (z : Decided). exprStmt s e (auto T (tyOf e) && isCall (view e)) z) (decide-alike c p d false (rel-expr states holding alike-hom T e r))
-  decide-alike (variable k s n t e c) p d f r = ap (λ (z : Decided). variable k s n t e z) (decide-alike c p d false (rel-variable states holding alike-hom T d n t e r))
+  decide-alike (variable k s n t e c) p d f r = ap (λ (z : Decided). variable k s n t e z) (decide-alike c p d false (rel-variable states holding alike-hom T (declared d s n t) e r))
   decide-alike (assign s e v t x c) p d f r =
       ap₂ (λ (x : List Drop) (z : Decided). assign s e v t x z) (named-alike s (identIn (view e)) (rel-before states holding alike-hom T e v r)) (decide-alike c p d false (assign-alike e v r))
   decide-alike (return s e t x c) p d f r =
@@ -122,7 +122,7 @@ module _ (T : Tables) where
   plain-alike (done x) d r pl = tt
   plain-alike (exprStmt s e y c) d r pl = plain-alike c d (rel-expr states holding alike-hom T e r) pl
   plain-alike (variable k s n t e c) d r pl =
-      (subst (λ (Γ : Shape). So (not (has n Γ))) (rel-shape r) (pl .0), plain-alike c d (rel-variable states holding alike-hom T d n t e r) (pl .1))
+      (subst (λ (Γ : Shape). So (not (has n Γ))) (rel-shape r) (pl .0), plain-alike c d (rel-variable states holding alike-hom T (declared d s n t) e r) (pl .1))
   plain-alike (assign s e v t x c) d r pl = plain-alike c d (assign-alike e v r) pl
   plain-alike (return s e t x c) d r pl = pl
   plain-alike (bareReturn s t c) d r pl = pl
@@ -146,7 +146,7 @@ module _ (T : Tables) where
 
   fresh-alike : (ps : List Param) {σ : Stack State} {τ : Stack Bool} → Alike σ τ → Fresh states T ps σ → Fresh holding T ps τ
   fresh-alike [] r fr = tt
-  fresh-alike (s ∷ ss) r fr = (subst (λ (Γ : Shape). So (not (has (s .name) Γ))) (rel-shape r) (fr .0), fresh-alike ss (rel-register states holding alike-hom (s .name) (s .ty) 0 r) (fr .1))
+  fresh-alike (s ∷ ss) r fr = (subst (λ (Γ : Shape). So (not (has (s .name) Γ))) (rel-shape r) (fr .0), fresh-alike ss (rel-register states holding alike-hom (given s) r) (fr .1))
 
   body-alike : (params : List Param) (p : ℕ) (body : Tree) → decideIn states T params p body ≡ decideIn holding T params p body
   body-alike params p body = decide-alike body p 1 false (rel-entered states holding alike-hom T params empty)

@@ -12,7 +12,7 @@ use Rattle.rules.specs.Expr.{view, Named, nobody, called, nameIn}
 use Rattle.rules.specs.Stack.{Static, local, Stack, Shape, shape, inFrame, mark, pop}
 use Rattle.rules.specs.State.{Kind}
 use Rattle.rules.specs.Effects.{Effect, use′, kill, hand, badMove, globalMove, effects, exprStmtEffects, takeOver, assignEffects, assignTakes}
-use Rattle.rules.specs.Rules.{Alg, holding, apply, applyAll, doing, revived, register, evaluate, afterExpr, afterVariable, beforeAssign, afterAssign, entered}
+use Rattle.rules.specs.Rules.{Alg, holding, apply, applyAll, doing, revived, register, evaluate, afterExpr, afterVariable, beforeAssign, afterAssign, entered, given}
 
 pub data Rel {A B : Type 0} (R : ℕ → A → B → Type 0) : Stack A → Stack B → Type 0 where
   empty : Rel R [] []
@@ -67,8 +67,8 @@ module _ {A B : Type 0} {R : ℕ → A → B → Type 0} where
     rel-revived nobody r = r
     rel-revived (called n s) r = rel-mark n (λ a. 𝓐 .new) (λ a. 𝓑 .new) (λ m a b x. hom .new m) r
 
-    pub rel-register : (n t d : ℕ) {σ : Stack A} {τ : Stack B} → Rel R σ τ → Rel R (register 𝓐 n t d σ) (register 𝓑 n t d τ)
-    rel-register n t d r = both (hom .new n) (rel-frame n d (λ a. 𝓐 .new) (λ a. 𝓑 .new) (λ m a b x. hom .new m) r)
+    pub rel-register : (s : Static) {σ : Stack A} {τ : Stack B} → Rel R σ τ → Rel R (register 𝓐 s σ) (register 𝓑 s τ)
+    rel-register s r = both (hom .new (s .name)) (rel-frame (s .name) (s .depth) (λ a. 𝓐 .new) (λ a. 𝓑 .new) (λ m a b x. hom .new m) r)
 
     module _ (T : Tables) where
       pub rel-evaluate : (e : Expr) {σ : Stack A} {τ : Stack B} → Rel R σ τ → Rel R (evaluate 𝓐 T e σ) (evaluate 𝓑 T e τ)
@@ -85,14 +85,14 @@ module _ {A B : Type 0} {R : ℕ → A → B → Type 0} where
           subst (λ (Γ : Shape). Rel R (afterAssign 𝓐 T e v σ) (applyAll 𝓑 (assignTakes T Γ e v) (revived 𝓑 (nameIn (view e)) τ))) (rel-shape r)
           (rel-applyAll (assignTakes T (shape σ) e v) (rel-revived (nameIn (view e)) r))
 
-      pub rel-variable : (d n t : ℕ) (e : Expr) {σ : Stack A} {τ : Stack B} → Rel R σ τ → Rel R (afterVariable 𝓐 T d n t e σ) (afterVariable 𝓑 T d n t e τ)
-      rel-variable d n t e {σ} {τ} r =
-          subst (λ (Γ : Shape). Rel R (afterVariable 𝓐 T d n t e σ) (applyAll 𝓑 (takeOver T Γ n t e) (register 𝓑 n t d (evaluate 𝓑 T e τ)))) (rel-shape r)
-          (rel-applyAll (takeOver T (shape σ) n t e) (rel-register n t d (rel-evaluate e r)))
+      pub rel-variable : (s : Static) (e : Expr) {σ : Stack A} {τ : Stack B} → Rel R σ τ → Rel R (afterVariable 𝓐 T s e σ) (afterVariable 𝓑 T s e τ)
+      rel-variable s e {σ} {τ} r =
+          subst (λ (Γ : Shape). Rel R (afterVariable 𝓐 T s e σ) (applyAll 𝓑 (takeOver T Γ (s .name) (s .ty) e) (register 𝓑 s (evaluate 𝓑 T e τ)))) (rel-shape r)
+          (rel-applyAll (takeOver T (shape σ) (s .name) (s .ty) e) (rel-register s (rel-evaluate e r)))
 
       pub rel-entered : (ps : List Param) {σ : Stack A} {τ : Stack B} → Rel R σ τ → Rel R (entered 𝓐 T ps σ) (entered 𝓑 T ps τ)
       rel-entered [] r = r
-      rel-entered (s ∷ ss) r = rel-entered ss (rel-register (s .name) (s .ty) 0 r)
+      rel-entered (x ∷ xs) r = rel-entered xs (rel-register (given x) r)
 
 -- any reflexive relation on held or not
 pub reflexive-hom : (R : ℕ → Bool → Bool → Type 0) → ((m : ℕ) (a : Bool) → R m a a) → Hom holding holding R

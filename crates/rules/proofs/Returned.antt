@@ -9,7 +9,7 @@ use Rattle.tables.specs.Tables.{Tables}
 use Rattle.image_body.specs.Stmt.{Tree, Block, done, exprStmt, variable, assign, return, bareReturn, block, ifElse, ifThen, while, jump}
 use Rattle.rules.specs.Expr.{view, nameIn}
 use Rattle.rules.specs.Stack.{Stack}
-use Rattle.rules.specs.Rules.{Alg, states, Drop, dropOf, sureFrom, localsOf, joins, merge, tailDrops, returnDrops, assignDrops, evaluate, afterExpr, afterVariable, beforeAssign, afterAssign, exit, decide, entered}
+use Rattle.rules.specs.Rules.{Alg, states, Drop, dropOf, sureFrom, localsOf, joins, merge, tailDrops, returnDrops, assignDrops, evaluate, afterExpr, afterVariable, beforeAssign, afterAssign, exit, decide, entered, declared}
 use Rattle.rules.specs.Report.{inserts, flatten, returnedBody}
 
 sure-inserts : (x : List Drop) (c : Tree) (b : Bool) → (sureFrom c false ≡ sureFrom c b) → sureFrom (inserts x c) b ≡ sureFrom c b
@@ -25,7 +25,7 @@ module _ {A : Type 0} (𝓐 : Alg A) (T : Tables) where
   pub sure-returned : (c : Tree) (p d : ℕ) (f : Bool) (σ : Stack A) → sureFrom (flatten (decide 𝓐 T c p d f σ)) f ≡ sureFrom c f
   sure-returned (done x) p d f σ = sure-done f (tailDrops 𝓐 T d p σ)
   sure-returned (exprStmt s e y r) p d f σ = sure-returned r p d false (afterExpr 𝓐 T e σ)
-  sure-returned (variable k s n t e r) p d f σ = sure-returned r p d false (afterVariable 𝓐 T d n t e σ)
+  sure-returned (variable k s n t e r) p d f σ = sure-returned r p d false (afterVariable 𝓐 T (declared d s n t) e σ)
   sure-returned (assign s e v t x r) p d f σ = sure-inserts (assignDrops 𝓐 T s e (beforeAssign 𝓐 T e v σ)) (assign s e v t tt (flatten (decide 𝓐 T r p d false (afterAssign 𝓐 T e v (beforeAssign 𝓐 T e v σ))))) f refl ∙ sure-returned r p d false (afterAssign 𝓐 T e v (beforeAssign 𝓐 T e v σ))
   sure-returned (return s e t x r) p d f σ = sure-inserts (returnDrops 𝓐 T (nameIn (view e)) (evaluate 𝓐 T e σ)) (return s e t tt (flatten (decide 𝓐 T r p d true (evaluate 𝓐 T e σ)))) f refl ∙ sure-returned r p d true (evaluate 𝓐 T e σ)
   sure-returned (bareReturn s t r) p d f σ = sure-returned r p d true σ

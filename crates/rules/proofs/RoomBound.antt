@@ -15,7 +15,7 @@ use Rattle.rules.specs.Questions.{auto}
 use Rattle.rules.specs.Expr.{tyOf, view, Named, nobody, called, identIn, nameIn, isCall}
 use Rattle.rules.specs.Stack.{Static, Local, local, Stack, Shape, shape, lookup}
 use Rattle.rules.specs.Effects.{effects, exprStmtEffects, assignEffects}
-use Rattle.rules.specs.Rules.{Alg, states, Drop, dropOf, sureFrom, excludes, localsOf, register, joins, merge, collect, tailDrops, returnDrops, dropNewest, dropNamed, evaluate, afterExpr, afterVariable, beforeAssign, afterAssign, exit, decide, entered, decideIn, decideBody}
+use Rattle.rules.specs.Rules.{Alg, states, Drop, dropOf, sureFrom, excludes, localsOf, register, joins, merge, collect, tailDrops, returnDrops, dropNewest, dropNamed, evaluate, afterExpr, afterVariable, beforeAssign, afterAssign, exit, decide, entered, decideIn, decideBody, declared, given}
 use Rattle.rules.specs.Room.{added, sizeOf, regsOf, roomBound}
 use Rattle.rules.proofs.Bools.{leb-refl, below≢, eqb-self}
 use Rattle.rules.proofs.Shapes.{Within, within-suc, shape-frame, shape-doing, shape-joins, shape-merge, shape-assign, shape-variable, shape-inner}
@@ -25,8 +25,8 @@ abbrev ownIn : ℕ → Shape → ℕ
 ownIn d [] = 0
 ownIn d (s ∷ Γ) = cond (eqb (s .depth) d) (suc (ownIn d Γ)) (ownIn d Γ)
 
-own-new : (n t d : ℕ) (Γ : Shape) → ownIn d (record { name = n; ty = t; depth = d } ∷ Γ) ≡ suc (ownIn d Γ)
-own-new n t d Γ = ap (λ (b : Bool). cond b (suc (ownIn d Γ)) (ownIn d Γ)) (eqb-self d)
+own-new : (s n t d : ℕ) (Γ : Shape) → ownIn d (declared d s n t ∷ Γ) ≡ suc (ownIn d Γ)
+own-new s n t d Γ = ap (λ (b : Bool). cond b (suc (ownIn d Γ)) (ownIn d Γ)) (eqb-self d)
 
 own-none : (d : ℕ) (Γ : Shape) → Within d Γ → ownIn (suc d) Γ ≡ 0
 own-none d [] w = refl
@@ -86,9 +86,9 @@ module _ {A : Type 0} (𝓐 : Alg A) (T : Tables) where
       let h = wrap-le (auto T (tyOf e) && isCall (view e)) in
       omega arith
   added-le (variable k s n t e r) p d f σ Γ g w =
-      let ih = added-le r p d false (afterVariable 𝓐 T d n t e σ) (record { name = n; ty = t; depth = d } ∷ Γ)
-      (shape-variable 𝓐 T d n t e σ ∙ ap (λ (Δ : Shape). record { name = n; ty = t; depth = d } ∷ Δ) g) (leb-refl d, w) in
-      let h = own-new n t d Γ in
+      let ih = added-le r p d false (afterVariable 𝓐 T (declared d s n t) e σ) (declared d s n t ∷ Γ)
+      (shape-variable 𝓐 T (declared d s n t) e σ ∙ ap (λ (Δ : Shape). declared d s n t ∷ Δ) g) (leb-refl d, w) in
+      let h = own-new s n t d Γ in
       omega arith
   added-le (assign s e v t x r) p d f σ Γ g w =
       let ih = added-le r p d false (afterAssign 𝓐 T e v (beforeAssign 𝓐 T e v σ)) Γ (shape-assign 𝓐 T e v (beforeAssign 𝓐 T e v σ) ∙ (shape-doing 𝓐 (λ Γ. assignEffects T Γ e v) σ ∙ g)) w in
@@ -141,12 +141,12 @@ module _ {A : Type 0} (𝓐 : Alg A) (T : Tables) where
 
   entered-within : (ps : List Param) (σ : Stack A) → Within 0 (shape σ) → Within 0 (shape (entered 𝓐 T ps σ))
   entered-within [] σ w = w
-  entered-within (s ∷ ss) σ w = entered-within ss (register 𝓐 (s .name) (s .ty) 0 σ) (leb-refl 0, subst (λ (Δ : Shape). Within 0 Δ) (sym (shape-frame (s .name) 0 (λ a. 𝓐 .new) σ)) w)
+  entered-within (s ∷ ss) σ w = entered-within ss (register 𝓐 (given s) σ) (leb-refl 0, subst (λ (Δ : Shape). Within 0 Δ) (sym (shape-frame (s .name) 0 (λ a. 𝓐 .new) σ)) w)
 
   entered-length : (ps : List Param) (σ : Stack A) → length (shape (entered 𝓐 T ps σ)) ≡ length ps + length (shape σ)
   entered-length [] σ = omega arith
   entered-length (s ∷ ss) σ =
-      let ih = entered-length ss (register 𝓐 (s .name) (s .ty) 0 σ) in
+      let ih = entered-length ss (register 𝓐 (given s) σ) in
       let h = ap length (shape-frame (s .name) 0 (λ a. 𝓐 .new) σ) in
       omega arith
 

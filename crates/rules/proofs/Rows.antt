@@ -55,7 +55,7 @@ asIs ps c rs σ = row ps c c rs σ
 abbrev pub corners : List Row
 corners =
     -- K1: no delete, `v` left behind
-    asIs (param 1 ∷ []) (bareReturn 20 0 end) (left 20 1 ∷ []) (alive ∷ [])
+    asIs (param 1 ∷ []) (bareReturn 20 0 end) (left 20 1 0 ∷ []) (alive ∷ [])
     -- K2: parameters are not of the body's frame
     ∷ asIs (param 1 ∷ []) end [] (alive ∷ [])
     -- K3: `w` is deleted before the return, with span 0
@@ -74,10 +74,10 @@ corners =
     -- K5: two equal states
     ∷ asIs (param 1 ∷ []) (ifElse 21 literal 22 (moving 25 (v 26) end) 27 (moving 25 (v 26) end) end) [] (gone false moved (26 ∷ []) ∷ [])
     -- K6: both branches return
-    ∷ asIs (param 1 ∷ []) (ifElse 21 literal 22 (moving 25 (v 26) (bareReturn 27 0 end)) 28 (bareReturn 29 0 end) end) (left 29 1 ∷ []) (alive ∷ [])
+    ∷ asIs (param 1 ∷ []) (ifElse 21 literal 22 (moving 25 (v 26) (bareReturn 27 0 end)) 28 (bareReturn 29 0 end) end) (left 29 1 0 ∷ []) (alive ∷ [])
     -- K6: what stays is the state after the condition
     ∷ asIs (param 1 ∷ []) (ifElse 21 (move 40 (one (v 41))) 22 (assign 42 (v 43) literal 1 tt (bareReturn 27 0 end)) 28 (bareReturn 29 0 end) end)
-    (error 2 43 0 (41 ∷ []) ∷ left 27 1 ∷ []) (gone false moved (41 ∷ []) ∷ [])
+    (error 2 43 0 (41 ∷ []) ∷ left 27 1 0 ∷ []) (gone false moved (41 ∷ []) ∷ [])
     -- K7: a loop joins, even if its body returns
     ∷ asIs (param 1 ∷ []) (while 21 literal 22 (moving 25 (v 26) end) end) [] (gone true moved (26 ∷ []) ∷ [])
     ∷ asIs (param 1 ∷ []) (while 21 literal 22 (moving 25 (v 26) (bareReturn 27 0 end)) end) [] (gone true moved (26 ∷ []) ∷ [])
@@ -162,7 +162,7 @@ further =
     ∷ asIs (param 1 ∷ []) (ifElse 21 literal 22 (deletes 26 end) 24 (deletes 23 end) (stmt 27 (v 28) end)) (error 1 28 0 (26 ∷ []) ∷ []) (gone false deleted (26 ∷ 23 ∷ []) ∷ [])
     -- a branch that returns is not joined
     ∷ asIs (param 1 ∷ []) (ifThen 21 literal 22 (moving 23 (v 24) (bareReturn 25 0 end)) end) [] (alive ∷ [])
-    ∷ asIs (param 1 ∷ []) (ifElse 21 literal 22 (bareReturn 25 0 end) 23 (moving 24 (v 26) end) end) (left 25 1 ∷ []) (gone false moved (26 ∷ []) ∷ [])
+    ∷ asIs (param 1 ∷ []) (ifElse 21 literal 22 (bareReturn 25 0 end) 23 (moving 24 (v 26) end) end) (left 25 1 0 ∷ []) (gone false moved (26 ∷ []) ∷ [])
     -- the innermost frame that has the name is marked; a block's end deletes its own frame, with its span
     ∷ asIs (param 1 ∷ []) (block 21 (variable false 22 1 1 literal (moving 23 (v 24) end)) end) [] (alive ∷ [])
     ∷ row (param 1 ∷ []) (block 21 (variable false 22 1 1 literal end) end) (block 21 (variable false 22 1 1 literal (deletion 21 1 end)) end) [] (alive ∷ [])
@@ -174,7 +174,7 @@ further =
     ∷ asIs (param 1 ∷ []) (return 21 (nodeOf 14 22 0 4 none (one (v 23))) 0 tt end) [] (gone false moved (23 ∷ []) ∷ [])
     ∷ row (param 0 ∷ param 1 ∷ []) (return 21 (this 22) 1 tt end) (deletion 0 1 (return 21 (this 22) 1 tt end)) [] (alive ∷ alive ∷ [])
     -- what is left behind, newest first; code after a return is walked
-    ∷ asIs (param 1 ∷ param 2 ∷ []) (bareReturn 21 0 (bareReturn 22 0 end)) (left 21 2 ∷ left 21 1 ∷ left 22 2 ∷ left 22 1 ∷ []) (alive ∷ alive ∷ [])
+    ∷ asIs (param 1 ∷ param 2 ∷ []) (bareReturn 21 0 (bareReturn 22 0 end)) (left 21 2 0 ∷ left 21 1 0 ∷ left 22 2 0 ∷ left 22 1 0 ∷ []) (alive ∷ alive ∷ [])
     ∷ []
 
 pub other-corners : map answer further ≡ further
@@ -193,28 +193,52 @@ leaving =
     -- in a loop the loop's body and what is inside it, newest first; neither the frames outside nor a closed block's
     ∷ row (param 2 ∷ []) (while 20 literal 21 (new 22 1 (block 23 (new 24 5 (ifThen 25 literal 26 (jump false 27 end) end)) (jump true 28 end))) end)
     (while 20 literal 21 (new 22 1 (block 23 (new 24 5 (ifThen 25 literal 26 (jump false 27 end) (deletion 23 5 end))) (jump true 28 (deletion 21 1 end)))) end)
-    (left 27 5 ∷ left 27 1 ∷ left 28 1 ∷ []) (alive ∷ [])
+    (left 27 5 24 ∷ left 27 1 22 ∷ left 28 1 22 ∷ []) (alive ∷ [])
     -- the nearest loop; behind it the outer one again
     ∷ row [] (while 20 literal 21 (new 22 1 (while 23 literal 24 (new 25 2 (jump true 26 end)) (jump false 27 end))) end)
     (while 20 literal 21 (new 22 1 (while 23 literal 24 (new 25 2 (jump true 26 (deletion 24 2 end))) (jump false 27 (deletion 21 1 end)))) end)
-    (left 26 2 ∷ left 27 1 ∷ []) []
+    (left 26 2 25 ∷ left 27 1 22 ∷ []) []
     -- each branch has its own
     ∷ row [] (while 20 literal 21 (new 22 1 (ifElse 23 literal 24 (jump false 25 end) 26 (new 27 2 (jump true 28 end)) end)) end)
     (while 20 literal 21 (new 22 1 (ifElse 23 literal 24 (jump false 25 end) 26 (new 27 2 (jump true 28 (deletion 26 2 end))) (deletion 21 1 end))) end)
-    (left 25 1 ∷ left 28 2 ∷ left 28 1 ∷ []) []
+    (left 25 1 22 ∷ left 28 2 27 ∷ left 28 1 22 ∷ []) []
     -- what is Alive only; behind a closed loop nothing, though `w` is held there
     ∷ row [] (new 19 2 (while 20 literal 21 (new 22 1 (moving 23 (v 24) (jump false 25 end))) (jump false 26 end)))
     (new 19 2 (while 20 literal 21 (new 22 1 (moving 23 (v 24) (jump false 25 end))) (jump false 26 (deletion 10 2 end)))) [] []
     -- K4 in a loop: two locals of one name, revived, two entries
     ∷ row [] (while 20 literal 21 (new 22 1 (moving 23 (v 24) (new 25 1 (jump false 26 end)))) end)
     (while 20 literal 21 (new 22 1 (moving 23 (v 24) (new 25 1 (jump false 26 (deletion 21 1 (deletion 21 1 end)))))) end)
-    (left 26 1 ∷ left 26 1 ∷ []) []
+    (left 26 1 25 ∷ left 26 1 22 ∷ []) []
     -- each one that the walk comes to, among the entries of bare returns, also where no run comes
     ∷ row [] (while 20 literal 21 (new 22 1 (jump true 23 (bareReturn 24 0 (jump false 25 end)))) end)
     (while 20 literal 21 (new 22 1 (jump true 23 (bareReturn 24 0 (jump false 25 (deletion 21 1 end))))) end)
-    (left 23 1 ∷ left 24 1 ∷ left 25 1 ∷ []) []
+    (left 23 1 22 ∷ left 24 1 22 ∷ left 25 1 22 ∷ []) []
     ∷ []
 
 pub left-by-jumps : map answer leaving ≡ leaving
 unfolding member sameBytes startsWith firstFrom andThen orElse inside structNamed structShaped structOfGeneric structOfTy structOf hasDestructor shouldAutoDelete classOfTy classOf modifierIn modifierOf isConsuming globalOf countWidth through auto isTempOf isMoveOf consumes globalIn takes handed finish effects exprStmtEffects takeOver assignEffects assignTakes
 left-by-jumps = refl
+
+-- Where a local was born (02, d)
+abbrev pub births : List Row
+births =
+    -- two locals of one name have each their own birth; a parameter's is 0
+    asIs (param 1 ∷ []) (new 21 1 (new 22 1 (bareReturn 23 0 end))) (left 23 1 22 ∷ left 23 1 21 ∷ left 23 1 0 ∷ []) (alive ∷ [])
+    -- branches, joins, loops and assignments leave it as it is
+    ∷ asIs []
+    (new 21 2 (ifElse 22 literal 23 (moving 24 (w 25) (assign 26 (w 27) literal 1 tt end)) 28 end
+    (while 29 literal 30 (moving 31 (w 32) (assign 33 (w 34) literal 1 tt end)) (bareReturn 35 0 end))))
+    (error 2 27 0 (25 ∷ []) ∷ error 2 34 0 (32 ∷ []) ∷ left 35 2 21 ∷ []) []
+    -- one name in nested blocks; behind the block the outer one alone; `this`
+    ∷ row (param 0 ∷ []) (new 21 1 (block 22 (new 23 1 (bareReturn 24 0 end)) (block 25 (new 26 1 end) (new 27 2 (bareReturn 28 0 end)))))
+    (new 21 1 (block 22 (new 23 1 (bareReturn 24 0 end)) (block 25 (new 26 1 (deletion 25 1 end)) (new 27 2 (bareReturn 28 0 end)))))
+    (left 24 1 23 ∷ left 24 1 21 ∷ left 24 0 0 ∷ left 28 2 27 ∷ left 28 1 21 ∷ left 28 0 0 ∷ []) (alive ∷ [])
+    -- moved and registered again, both locals of the name live
+    ∷ asIs [] (new 21 1 (moving 22 (v 23) (new 24 1 (bareReturn 25 0 end)))) (left 25 1 24 ∷ left 25 1 21 ∷ []) []
+    -- a Const, in a loop
+    ∷ row [] (while 20 literal 21 (variable true 22 1 1 literal (jump true 23 end)) end) (while 20 literal 21 (variable true 22 1 1 literal (jump true 23 (deletion 21 1 end))) end) (left 23 1 22 ∷ []) []
+    ∷ []
+
+pub born-where : map answer births ≡ births
+unfolding member sameBytes startsWith firstFrom andThen orElse inside structNamed structShaped structOfGeneric structOfTy structOf hasDestructor shouldAutoDelete classOfTy classOf modifierIn modifierOf isConsuming globalOf countWidth through auto isTempOf isMoveOf consumes globalIn takes handed finish effects exprStmtEffects takeOver assignEffects assignTakes
+born-where = refl

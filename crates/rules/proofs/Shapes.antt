@@ -11,7 +11,7 @@ use Rattle.image_body.specs.Stmt.{Code, done, exprStmt, variable, assign, retur
 use Rattle.rules.specs.Expr.{view, Named, nobody, called, nameIn}
 use Rattle.rules.specs.Stack.{Static, local, Stack, Shape, shape, inFrame, mark, pop, has}
 use Rattle.rules.specs.Effects.{Effect, use′, kill, hand, badMove, globalMove, effects, exprStmtEffects, takeOver, assignEffects, assignTakes}
-use Rattle.rules.specs.Rules.{Alg, sureFrom, apply, applyAll, doing, revived, register, joins, merge, evaluate, afterExpr, afterVariable, beforeAssign, afterAssign, exit}
+use Rattle.rules.specs.Rules.{Alg, sureFrom, apply, applyAll, doing, revived, register, joins, merge, evaluate, afterExpr, afterVariable, beforeAssign, afterAssign, exit, declared}
 use Rattle.rules.proofs.Bools.{leb-refl, leb-suc, below≢, eqb-self}
 
 abbrev pub popS : ℕ → Shape → Shape
@@ -94,18 +94,18 @@ module _ {A : Type 0} where
       pub shape-assign : (e v : Expr) (σ : Stack A) → shape (afterAssign 𝓐 T e v σ) ≡ shape σ
       shape-assign e v σ = shape-all (assignTakes T (shape σ) e v) (revived 𝓐 (nameIn (view e)) σ) ∙ shape-revived (nameIn (view e)) σ
 
-      pub shape-variable : (d n t : ℕ) (e : Expr) (σ : Stack A) → shape (afterVariable 𝓐 T d n t e σ) ≡ record { name = n; ty = t; depth = d } ∷ shape σ
-      shape-variable d n t e σ =
-          shape-all (takeOver T (shape σ) n t e) (register 𝓐 n t d (evaluate 𝓐 T e σ))
-          ∙ ap (λ (Γ : Shape). record { name = n; ty = t; depth = d } ∷ Γ) (shape-frame n d _ (evaluate 𝓐 T e σ) ∙ shape-doing (λ Γ. effects T Γ e) σ)
+      pub shape-variable : (s : Static) (e : Expr) (σ : Stack A) → shape (afterVariable 𝓐 T s e σ) ≡ s ∷ shape σ
+      shape-variable s e σ =
+          shape-all (takeOver T (shape σ) (s .name) (s .ty) e) (register 𝓐 s (evaluate 𝓐 T e σ))
+          ∙ ap (λ (Γ : Shape). s ∷ Γ) (shape-frame (s .name) (s .depth) _ (evaluate 𝓐 T e σ) ∙ shape-doing (λ Γ. effects T Γ e) σ)
 
       pub shape-exit : {X Y : Type 0} (c : Code X Y) (d : ℕ) (σ : Stack A) → Within d (shape σ) → shape (exit 𝓐 T c d σ) ≡ popS d (shape σ)
       shape-exit (done x) d σ w = shape-pop d σ
       shape-exit (exprStmt s e y r) d σ w = carry d (shape-doing (λ Γ. exprStmtEffects T Γ e) σ) (shape-exit r d (afterExpr 𝓐 T e σ)) w
       shape-exit (variable k s n t e r) d σ w =
-          let q = shape-variable d n t e σ in
-          shape-exit r d (afterVariable 𝓐 T d n t e σ) (subst (λ (Γ : Shape). Within d Γ) (sym q) (leb-refl d, w))
-          ∙ (ap (popS d) q ∙ ap (λ (b : Bool). cond b (popS d (shape σ)) (record { name = n; ty = t; depth = d } ∷ popS d (shape σ))) (eqb-self d))
+          let q = shape-variable (declared d s n t) e σ in
+          shape-exit r d (afterVariable 𝓐 T (declared d s n t) e σ) (subst (λ (Γ : Shape). Within d Γ) (sym q) (leb-refl d, w))
+          ∙ (ap (popS d) q ∙ ap (λ (b : Bool). cond b (popS d (shape σ)) (declared d s n t ∷ popS d (shape σ))) (eqb-self d))
       shape-exit (assign s e v t x r) d σ w = carry d (shape-assign e v (beforeAssign 𝓐 T e v σ) ∙ shape-doing (λ Γ. assignEffects T Γ e v) σ) (shape-exit r d (afterAssign 𝓐 T e v (beforeAssign 𝓐 T e v σ))) w
       shape-exit (return s e t x r) d σ w = carry d (shape-doing (λ Γ. effects T Γ e) σ) (shape-exit r d (evaluate 𝓐 T e σ)) w
       shape-exit (bareReturn s t r) d σ w = shape-exit r d σ w

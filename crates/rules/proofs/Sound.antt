@@ -12,7 +12,7 @@ use Rattle.image_body.specs.Expr.{Expr}
 use Rattle.image_body.specs.Stmt.{Code, Tree, done, exprStmt, variable, assign, return, bareReturn, block, ifElse, ifThen, while, jump}
 use Rattle.rules.specs.Expr.{view, Named, identIn, nameIn}
 use Rattle.rules.specs.Stack.{Stack, Shape, shape, pop, staticOf}
-use Rattle.rules.specs.Rules.{holding, Drop, dropOf, Decided, sureFrom, excludes, joins, merge, tailDrops, returnDrops, assignDrops, evaluate, afterExpr, afterVariable, beforeAssign, afterAssign, exit, decide, Plain}
+use Rattle.rules.specs.Rules.{holding, Drop, dropOf, Decided, sureFrom, excludes, joins, merge, tailDrops, returnDrops, assignDrops, evaluate, afterExpr, afterVariable, beforeAssign, afterAssign, exit, decide, Plain, declared}
 use Rattle.rules.specs.Run.{Dir, next, into, second, Path, Task, code, returning, assigning, deleting, closing, assigned, Config, at, givenUp, choose, stepCode, stepTask, step, Steps, arrived, onward, start, holds, admits}
 use Rattle.rules.proofs.Spots.{dropsAt}
 use Rattle.rules.proofs.Bools.{and-l, and-r}
@@ -279,15 +279,15 @@ module _ (T : Tables) (params : List Param) (root : Decided) where
         );
       }
   code-step (variable k s m t e r) q p d f σ K H cs ok u w =
-      let σ′ = afterVariable holding T d m t e σ in
+      let σ′ = afterVariable holding T (declared d s m t) e σ in
       record {
         atasks = acode (q ++ (next ∷ [])) p d false r σ′ ∷ K;
-        held = afterVariable holding T d m t e H;
+        held = afterVariable holding T (declared d s m t) e H;
         choices = cs;
         is = refl;
         wf = (
-          straight q p d f (variable k s m t e r) r σ σ′ (λ H. afterVariable holding T d m t e H) (λ cs. cs) ok (fit-variable T d m t e σ (ok .fit) (ok .plain .0)) (ok .plain .1) (λ z. refl) (λ K H cs. onward (arrived refl)) (λ n H o. rel-variable holding holding (over-hom n) T d m t e o),
-          rel-variable holding holding under-hom T d m t e u,
+          straight q p d f (variable k s m t e r) r σ σ′ (λ H. afterVariable holding T (declared d s m t) e H) (λ cs. cs) ok (fit-variable T d s m t e σ (ok .fit) (ok .plain .0)) (ok .plain .1) (λ z. refl) (λ K H cs. onward (arrived refl)) (λ n H o. rel-variable holding holding (over-hom n) T (declared d s m t) e o),
+          rel-variable holding holding under-hom T (declared d s m t) e u,
           w,
         );
       }

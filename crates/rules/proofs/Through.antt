@@ -11,7 +11,7 @@ use Rattle.image_body.specs.Expr.{Expr}
 use Rattle.image_body.specs.Stmt.{Code, Tree, done, exprStmt, variable, assign, return, bareReturn, block, ifElse, ifThen, while, jump}
 use Rattle.rules.specs.Stack.{Stack, Shape, shape, pop, has}
 use Rattle.rules.specs.Effects.{effects, exprStmtEffects, assignEffects}
-use Rattle.rules.specs.Rules.{holding, Drop, dropOf, Decided, sureFrom, isDone, joins, merge, Keeps, tailDrops, assignDrops, evaluate, afterExpr, afterVariable, beforeAssign, afterAssign, exit, decide, Plain}
+use Rattle.rules.specs.Rules.{holding, Drop, dropOf, Decided, sureFrom, isDone, joins, merge, Keeps, tailDrops, assignDrops, evaluate, afterExpr, afterVariable, beforeAssign, afterAssign, exit, decide, Plain, declared}
 use Rattle.rules.specs.Report.{first}
 use Rattle.rules.specs.Run.{next, into, second, Path, Task, code, deleting, closing, assigned, Config, at, givenUp, choose, Steps, arrived, onward}
 use Rattle.rules.proofs.Bools.{leb-refl}
@@ -64,8 +64,8 @@ module _ (T : Tables) where
   steps-trans {c = c} (arrived e) q = subst (λ (x : Config). Steps T x c) (sym e) q
   steps-trans (onward p) q = onward (steps-trans p q)
 
-  pub fit-variable : (d n t : ℕ) (e : Expr) (σ : Stack Bool) → Fit d (shape σ) → So (not (has n (shape σ))) → Fit d (shape (afterVariable holding T d n t e σ))
-  fit-variable d n t e σ f fresh = fit-by d (shape-variable holding T d n t e σ) ((leb-refl d, f .0), (fresh, f .1))
+  pub fit-variable : (d s n t : ℕ) (e : Expr) (σ : Stack Bool) → Fit d (shape σ) → So (not (has n (shape σ))) → Fit d (shape (afterVariable holding T (declared d s n t) e σ))
+  fit-variable d s n t e σ f fresh = fit-by d (shape-variable holding T (declared d s n t) e σ) ((leb-refl d, f .0), (fresh, f .1))
 
   pub shape-evaluate : (e : Expr) (σ : Stack Bool) → shape (evaluate holding T e σ) ≡ shape σ
   shape-evaluate e σ = shape-doing holding (λ Γ. effects T Γ e) σ
@@ -164,7 +164,7 @@ module _ (T : Tables) where
       let x = passing r p d false (afterExpr holding T e σ) (afterExpr holding T e H) pl (fit-by d (shape-expr e σ) fit) n (rel-expr holding holding (over-hom n) T e o) ns in
       record { chosen = x .chosen; held = x .held; over = x .over; steps = λ q K cs. onward (x .steps (q ++ (next ∷ [])) K cs) }
   passing (variable k s m t e r) p d f σ H pl fit n o ns =
-      let x = passing r p d false (afterVariable holding T d m t e σ) (afterVariable holding T d m t e H) (pl .1) (fit-variable d m t e σ fit (pl .0)) n (rel-variable holding holding (over-hom n) T d m t e o) ns in
+      let x = passing r p d false (afterVariable holding T (declared d s m t) e σ) (afterVariable holding T (declared d s m t) e H) (pl .1) (fit-variable d s m t e σ fit (pl .0)) n (rel-variable holding holding (over-hom n) T (declared d s m t) e o) ns in
       record { chosen = x .chosen; held = x .held; over = x .over; steps = λ q K cs. onward (x .steps (q ++ (next ∷ [])) K cs) }
   passing (assign s e v t y r) p d f σ H pl fit n o ns =
       let ds = assignDrops holding T s e (beforeAssign holding T e v σ) in

@@ -13,10 +13,10 @@ use Rattle.image_encoding.specs.Body.{encodeExpr, encodeCode}
 use Rattle.image.specs.Image.{Image}
 use Rattle.rules.specs.Questions.{auto}
 use Rattle.rules.specs.Expr.{nobody, view, isCall, tyOf, calleeAt}
-use Rattle.rules.specs.Stack.{Local, local, Stack, shape, lookup}
+use Rattle.rules.specs.Stack.{Static, Local, local, Stack, shape, lookup}
 use Rattle.rules.specs.State.{State, alive, gone, deleted, moved, consumed}
 use Rattle.rules.specs.Effects.{Effect, use′, kill, hand, badMove, globalMove, effects, exprStmtEffects, assignEffects}
-use Rattle.rules.specs.Rules.{Drop, dropOf, Decided, states, apply, returnDrops, loopDrops, evaluate, afterExpr, afterVariable, beforeAssign, afterAssign, exit, behindIf, behindThen, behindLoop, entered, localsOf, decideBody}
+use Rattle.rules.specs.Rules.{Drop, dropOf, Decided, states, apply, Place, atReturn, atJump, concerns, gather, declared, evaluate, afterExpr, afterVariable, beforeAssign, afterAssign, exit, behindIf, behindThen, behindLoop, entered, localsOf, decideBody}
 
 -- a Delete, of type 0
 abbrev pub deleteNode : ℕ → Expr → Expr
@@ -75,11 +75,11 @@ abbrev pub returnedImage : Image → Image
 returnedImage i = withCode i (flatten (decideBody (i .tables) (i .entry) (i .body)))
 
 -- An error: kind, place, hint, other places. A warning: the statement's span, and where the callee's tag stands in the image. A
--- left-behind entry: the span of the return, Break or Continue, and the name
+-- left-behind entry: the span of the return, Break or Continue, the name, and the span of the statement that registered it (02, d)
 pub data Report : Type 0 where
   error : ℕ → ℕ → ℕ → List ℕ → Report
   warning : ℕ → ℕ → Report
-  left : ℕ → ℕ → Report
+  left : ℕ → ℕ → ℕ → Report
 
 abbrev pub first : List ℕ → List ℕ
 first [] = []
@@ -115,19 +115,22 @@ reportAll (e ∷ es) σ = reportOf e σ ++ reportAll es (apply states e σ)
 abbrev pub unused : Bool → ℕ → Expr → ℕ → List Report
 unused b s e at = cond b (warning s (calleeAt e (at + 5)) ∷ []) []
 
--- entries for what is left behind: at a return without a value, what one with a value that excludes no name would delete; at a Break or
--- Continue, what the frames out to the loop's body have (02, c)
-abbrev pub leftBehind : ℕ → List Drop → List Report
-leftBehind s [] = []
-leftBehind s (dropOf p n t ∷ x) = left s n ∷ leftBehind s x
-
 abbrev pub exprBytes : Expr → ℕ
 exprBytes e = length (encodeExpr e)
 
 abbrev pub codeBytes : Tree → ℕ
 codeBytes c = length (encodeCode c)
 
+-- the entry of a local that is left behind there
+abbrev pub leftAt : ℕ → Static → Report
+leftAt p s = left p (s .name) (s .born)
+
 module _ (T : Tables) where
+  -- What a place leaves behind, span and place: at a return without a value, what one with a value that excludes no name would delete;
+  -- at a Break or Continue, what the frames out to the loop's body have (02, c)
+  abbrev pub leftBehind : ℕ → Place → Stack State → List Report
+  leftBehind p w σ = gather states T (λ s. concerns w s) (leftAt p) σ
+
   -- transform_block: what is reported of the statements of a block of depth d that stand at a position, in walking order; l is the
   -- depth of the nearest loop's body, if they are in a loop
   abbrev pub report : Tree → ℕ → Option ℕ → ℕ → Stack State → List Report
@@ -136,12 +139,12 @@ module _ (T : Tables) where
       reportAll (exprStmtEffects T (shape σ) e) σ
       ++ (unused (auto T (tyOf e) && isCall (view e)) s e at ++ report r d l (at + 5 + exprBytes e) (afterExpr states T e σ))
   report (variable k s n t e r) d l at σ =
-      reportAll (effects T (shape σ) e) σ ++ report r d l (at + 9 + exprBytes e) (afterVariable states T d n t e σ)
+      reportAll (effects T (shape σ) e) σ ++ report r d l (at + 9 + exprBytes e) (afterVariable states T (declared d s n t) e σ)
   report (assign s e v t x r) d l at σ =
       reportAll (assignEffects T (shape σ) e v) σ
       ++ report r d l (at + 7 + exprBytes e + exprBytes v) (afterAssign states T e v (beforeAssign states T e v σ))
   report (return s e t x r) d l at σ = reportAll (effects T (shape σ) e) σ ++ report r d l (at + 8 + exprBytes e) (evaluate states T e σ)
-  report (bareReturn s t r) d l at σ = leftBehind s (returnDrops states T nobody σ) ++ report r d l (at + 8) σ
+  report (bareReturn s t r) d l at σ = leftBehind s (atReturn nobody) σ ++ report r d l (at + 8) σ
   report (block s c r) d l at σ = report c (suc d) l (at + 7) σ ++ report r d l (at + 7 + codeBytes c) (exit states T c (suc d) σ)
   report (ifElse s e ts t us u r) d l at σ =
       reportAll (effects T (shape σ) e) σ
@@ -156,7 +159,7 @@ module _ (T : Tables) where
       reportAll (effects T (shape σ) e) σ
       ++ (report t (suc d) (some (suc d)) (at + 11 + exprBytes e) (evaluate states T e σ)
       ++ report r d l (at + 11 + exprBytes e + codeBytes t) (behindLoop states T e t d σ))
-  report (jump k s r) d l at σ = leftBehind s (loopDrops states T l σ) ++ report r d l (at + 5) σ
+  report (jump k s r) d l at σ = leftBehind s (atJump l) σ ++ report r d l (at + 5) σ
 
 -- where the body's first statement stands: behind length and version, the tables, the entry, the block's span and count
 abbrev pub bodyStart : Image → ℕ
@@ -171,16 +174,16 @@ abbrev pub errors : List Report → List Report
 errors [] = []
 errors (error k p h ps ∷ rs) = error k p h ps ∷ errors rs
 errors (warning s o ∷ rs) = errors rs
-errors (left s n ∷ rs) = errors rs
+errors (left s n b ∷ rs) = errors rs
 
 abbrev pub warnings : List Report → List Report
 warnings [] = []
 warnings (error k p h ps ∷ rs) = warnings rs
 warnings (warning s o ∷ rs) = warning s o ∷ warnings rs
-warnings (left s n ∷ rs) = warnings rs
+warnings (left s n b ∷ rs) = warnings rs
 
 abbrev pub lefts : List Report → List Report
 lefts [] = []
 lefts (error k p h ps ∷ rs) = lefts rs
 lefts (warning s o ∷ rs) = lefts rs
-lefts (left s n ∷ rs) = left s n ∷ lefts rs
+lefts (left s n b ∷ rs) = left s n b ∷ lefts rs

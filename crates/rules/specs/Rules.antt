@@ -36,6 +36,10 @@ holding = record { new = true; killed = λ k p a. false; handedOver = λ p a. fa
 pub data Drop : Type 0 where
   dropOf : ℕ → ℕ → ℕ → Drop
 
+-- that of a local
+abbrev pub deleteAt : ℕ → Static → Drop
+deleteAt p s = dropOf p (s .name) (s .ty)
+
 -- A tree with the pass's decisions: the deletes put in at a block's end, before an assignment and before a return with a value,
 -- and whether an expression statement's unused result is deleted
 abbrev pub Decided : Type 0
@@ -91,6 +95,14 @@ concerns (atJump none) s = false
 concerns (atJump (some l)) s = leb l (s .depth)
 concerns (atAssign n) s = excludes n (s .name)
 
+-- the local of a Let or Const in a block of depth d: the statement's span, name and type
+abbrev pub declared : ℕ → ℕ → ℕ → ℕ → Static
+declared d s n t = record { name = n; ty = t; depth = d; born = s }
+
+-- that of a parameter or `this`
+abbrev pub given : Param → Static
+given x = record { name = x .name; ty = x .ty; depth = 0; born = 0 }
+
 -- the locals a body is entered with: `this` after the entry bytes 2 to 4, then the parameters
 abbrev pub localsOf : Entry → List Param
 localsOf x = cond (ltb (x .receiver) 2) (x .params) (record { name = 0; ty = x .this } ∷ x .params)
@@ -116,8 +128,8 @@ module _ {A : Type 0} (𝓐 : Alg A) where
   revived (called n s) σ = mark n (λ a. 𝓐 .new) σ
 
   -- register_local: the frame says the same of all its locals of one name
-  abbrev pub register : ℕ → ℕ → ℕ → Stack A → Stack A
-  register n t d σ = local (record { name = n; ty = t; depth = d }) (𝓐 .new) ∷ inFrame n d (λ a. 𝓐 .new) σ
+  abbrev pub register : Static → Stack A → Stack A
+  register s σ = local s (𝓐 .new) ∷ inFrame (s .name) (s .depth) (λ a. 𝓐 .new) σ
 
   -- the join of two branches, local by local
   abbrev pub joins : Stack A → Stack A → Stack A
@@ -139,11 +151,14 @@ module _ {A : Type 0} (𝓐 : Alg A) where
   Keeps (local s a ∷ σ) (local t b ∷ τ) = (So (𝓐 .lives a) → So (𝓐 .lives b)) × Keeps σ τ
 
   module _ (T : Tables) where
-    -- the deletes of the living locals that q admits and whose type has a destructor, newest first
+    -- what f says of the living locals that q admits and whose type has a destructor, newest first
+    abbrev pub gather : {B : Type 0} → (Static → Bool) → (Static → B) → Stack A → List B
+    gather q f [] = []
+    gather q f (local s a ∷ σ) = cond (q s && 𝓐 .lives a && auto T (s .ty)) (f s ∷ gather q f σ) (gather q f σ)
+
+    -- their deletes
     abbrev pub collect : (Static → Bool) → ℕ → Stack A → List Drop
-    collect q p [] = []
-    collect q p (local s a ∷ σ) =
-        cond (q s && 𝓐 .lives a && auto T (s .ty)) (dropOf p (s .name) (s .ty) ∷ collect q p σ) (collect q p σ)
+    collect q p σ = gather q (deleteAt p) σ
 
     -- transform_block's tail_drops: the block's own frame, with the block's span
     abbrev pub tailDrops : ℕ → ℕ → Stack A → List Drop
@@ -152,10 +167,6 @@ module _ {A : Type 0} (𝓐 : Alg A) where
     -- collect_scope_drops: every frame, but not the returned name, with span 0
     abbrev pub returnDrops : Named → Stack A → List Drop
     returnDrops n σ = collect (λ s. concerns (atReturn n) s) 0 σ
-
-    -- what a Break or Continue leaves behind (02, c), in the order of a return
-    abbrev pub loopDrops : Option ℕ → Stack A → List Drop
-    loopDrops l σ = collect (λ s. concerns (atJump l) s) 0 σ
 
     abbrev pub dropNewest : ℕ → ℕ → Option (Local A) → List Drop
     dropNewest p n none = []
@@ -177,9 +188,9 @@ module _ {A : Type 0} (𝓐 : Alg A) where
     abbrev pub afterExpr : Expr → Stack A → Stack A
     afterExpr e σ = doing (λ Γ. exprStmtEffects T Γ e) σ
 
-    -- a Let or Const in a block of depth d: its value, then its local is registered, then a temporary is taken over
-    abbrev pub afterVariable : ℕ → ℕ → ℕ → Expr → Stack A → Stack A
-    afterVariable d n t e σ = applyAll (takeOver T (shape σ) n t e) (register n t d (evaluate e σ))
+    -- a Let or Const: its value, then its local is registered, then a temporary is taken over
+    abbrev pub afterVariable : Static → Expr → Stack A → Stack A
+    afterVariable s e σ = applyAll (takeOver T (shape σ) (s .name) (s .ty) e) (register s (evaluate e σ))
 
     -- an assignment's destination and value, where its delete is decided on
     abbrev pub beforeAssign : Expr → Expr → Stack A → Stack A
@@ -193,7 +204,7 @@ module _ {A : Type 0} (𝓐 : Alg A) where
     abbrev pub exit : {X Y : Type 0} → Code X Y → ℕ → Stack A → Stack A
     exit (done x) d σ = pop d σ
     exit (exprStmt s e y r) d σ = exit r d (afterExpr e σ)
-    exit (variable k s n t e r) d σ = exit r d (afterVariable d n t e σ)
+    exit (variable k s n t e r) d σ = exit r d (afterVariable (declared d s n t) e σ)
     exit (assign s e v t x r) d σ = exit r d (afterAssign e v (beforeAssign e v σ))
     exit (return s e t x r) d σ = exit r d (evaluate e σ)
     exit (bareReturn s t r) d σ = exit r d σ
@@ -219,7 +230,7 @@ module _ {A : Type 0} (𝓐 : Alg A) where
     abbrev pub decide : Tree → ℕ → ℕ → Bool → Stack A → Decided
     decide (done x) p d f σ = done (cond f [] (tailDrops d p σ))
     decide (exprStmt s e y r) p d f σ = exprStmt s e (auto T (tyOf e) && isCall (view e)) (decide r p d false (afterExpr e σ))
-    decide (variable k s n t e r) p d f σ = variable k s n t e (decide r p d false (afterVariable d n t e σ))
+    decide (variable k s n t e r) p d f σ = variable k s n t e (decide r p d false (afterVariable (declared d s n t) e σ))
     decide (assign s e v t x r) p d f σ =
         assign s e v t (assignDrops s e (beforeAssign e v σ)) (decide r p d false (afterAssign e v (beforeAssign e v σ)))
     decide (return s e t x r) p d f σ = return s e t (returnDrops (nameIn (view e)) (evaluate e σ)) (decide r p d true (evaluate e σ))
@@ -239,7 +250,7 @@ module _ {A : Type 0} (𝓐 : Alg A) where
     abbrev pub Plain : Tree → ℕ → Stack A → Type 0
     Plain (done x) d σ = Unit {0}
     Plain (exprStmt s e y r) d σ = Plain r d (afterExpr e σ)
-    Plain (variable k s n t e r) d σ = So (not (has n (shape σ))) × Plain r d (afterVariable d n t e σ)
+    Plain (variable k s n t e r) d σ = So (not (has n (shape σ))) × Plain r d (afterVariable (declared d s n t) e σ)
     Plain (assign s e v t x r) d σ = Plain r d (afterAssign e v (beforeAssign e v σ))
     Plain (return s e t x r) d σ = So (isDone r)
     Plain (bareReturn s t r) d σ = So (isDone r)
@@ -256,12 +267,12 @@ module _ {A : Type 0} (𝓐 : Alg A) where
     -- run_ownership_for_method_body, run_ownership_for_body: the locals a body is entered with, registered in the outermost frame
     abbrev pub entered : List Param → Stack A → Stack A
     entered [] σ = σ
-    entered (x ∷ xs) σ = entered xs (register (x .name) (x .ty) 0 σ)
+    entered (x ∷ xs) σ = entered xs (register (given x) σ)
 
     -- no name among them twice
     abbrev pub Fresh : List Param → Stack A → Type 0
     Fresh [] σ = Unit {0}
-    Fresh (x ∷ xs) σ = So (not (has (x .name) (shape σ))) × Fresh xs (register (x .name) (x .ty) 0 σ)
+    Fresh (x ∷ xs) σ = So (not (has (x .name) (shape σ))) × Fresh xs (register (given x) σ)
 
     abbrev pub PlainIn : List Param → Tree → Type 0
     PlainIn params body = Fresh params [] × Plain body 1 (entered params [])

@@ -13,7 +13,7 @@ use Rattle.image_body.specs.Stmt.{done, exprStmt, variable, assign, return, bar
 use Rattle.rules.specs.Questions.{auto}
 use Rattle.rules.specs.Expr.{view, Named, identIn, nameIn}
 use Rattle.rules.specs.Stack.{Static, Local, local, Stack, shape, mark, lookup, pop, staticOf, has}
-use Rattle.rules.specs.Rules.{holding, Drop, dropOf, Decided, Place, atEnd, atReturn, atAssign, concerns, evaluate, afterExpr, afterVariable, beforeAssign, afterAssign, entered}
+use Rattle.rules.specs.Rules.{holding, Drop, dropOf, Decided, Place, atEnd, atReturn, atAssign, concerns, declared, evaluate, afterExpr, afterVariable, beforeAssign, afterAssign, entered}
 
 -- A path to a statement list: past a statement, into its block, into its second block (else)
 pub data Dir : Type 0 where
@@ -51,7 +51,7 @@ module _ (T : Tables) where
   abbrev pub stepCode : Decided → Path → ℕ → List Task → Stack Bool → List Bool → Config
   stepCode (done x) p d K H cs = at (deleting x ∷ closing d ∷ K) H cs
   stepCode (exprStmt s e y r) p d K H cs = at (code (p ++ (next ∷ [])) d r ∷ K) (afterExpr holding T e H) cs
-  stepCode (variable k s n t e r) p d K H cs = at (code (p ++ (next ∷ [])) d r ∷ K) (afterVariable holding T d n t e H) cs
+  stepCode (variable k s n t e r) p d K H cs = at (code (p ++ (next ∷ [])) d r ∷ K) (afterVariable holding T (declared d s n t) e H) cs
   stepCode (assign s e v t x r) p d K H cs = at (assigning p d e v x r ∷ K) (beforeAssign holding T e v H) cs
   stepCode (return s e t x r) p d K H cs = at (returning p (nameIn (view e)) x ∷ []) (evaluate holding T e H) cs
   stepCode (bareReturn s t r) p d K H cs = at [] H cs

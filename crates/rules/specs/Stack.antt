@@ -5,11 +5,13 @@ use mathlib.Core.List.{List, [], _∷_}
 use mathlib.Core.Option.{Option, none, some}
 use lib.Dec.{eqb}
 
--- LocalVar, and the block depth of its frame: 0 for parameters and `this`, 1 for the body block
+-- LocalVar; the block depth of its frame, 0 for parameters and `this`, 1 for the body block; and the span of the statement that
+-- registered it, 0 for parameters and `this` (02, d)
 pub record Static : Type 0 where
   pub name : ℕ
   pub ty : ℕ
   pub depth : ℕ
+  pub born : ℕ
 
 -- a local, and what is said of it: its state, or whether it is held
 pub data Local (A : Type 0) : Type 0 where

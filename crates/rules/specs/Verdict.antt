@@ -25,7 +25,7 @@ pub record Lent : Type 0 where
 abbrev pub entryOf : Limits → Report → List ℕ
 entryOf L (error k p h ps) = k ∷ p ∷ h ∷ length ps ∷ take (L .places) (ps ++ replicate (L .places) 0)
 entryOf L (warning s o) = s ∷ o ∷ []
-entryOf L (left s n) = s ∷ n ∷ []
+entryOf L (left s n b) = s ∷ n ∷ b ∷ []
 
 abbrev pub entriesOf : Limits → List Report → List ℕ
 entriesOf L [] = []

@@ -13,7 +13,7 @@ use Rattle.image_body.specs.Stmt.{Tree, done, exprStmt, variable, assign, retur
 use Rattle.image.specs.Image.{Image}
 use Rattle.rules.specs.Stack.{Local, local, Stack}
 use Rattle.rules.specs.State.{State, alive, gone}
-use Rattle.rules.specs.Rules.{states, joins, sureFrom, evaluate, afterExpr, afterVariable, beforeAssign, afterAssign, exit, behindIf, behindThen, behindLoop, entered, localsOf}
+use Rattle.rules.specs.Rules.{states, joins, sureFrom, declared, evaluate, afterExpr, afterVariable, beforeAssign, afterAssign, exit, behindIf, behindThen, behindLoop, entered, localsOf}
 
 abbrev pub placesOf : State → List ℕ
 placesOf alive = []
@@ -38,7 +38,7 @@ module _ (L : Limits) where
     unfoldable pub walkFault : Tree → ℕ → Stack State → Option ℕ
     walkFault (done x) d σ = Option.none
     walkFault (exprStmt s e y r) d σ = walkFault r d (afterExpr states T e σ)
-    walkFault (variable k s n t e r) d σ = orElse (tooMany (afterVariable states T d n t e σ)) (walkFault r d (afterVariable states T d n t e σ))
+    walkFault (variable k s n t e r) d σ = orElse (tooMany (afterVariable states T (declared d s n t) e σ)) (walkFault r d (afterVariable states T (declared d s n t) e σ))
     walkFault (assign s e v t x r) d σ = walkFault r d (afterAssign states T e v (beforeAssign states T e v σ))
     walkFault (return s e t x r) d σ = walkFault r d (evaluate states T e σ)
     walkFault (bareReturn s t r) d σ = walkFault r d σ

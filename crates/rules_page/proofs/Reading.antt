@@ -125,7 +125,7 @@ kindOf : List ℕ → ℕ
 kindOf x = kindIn (kindNames ++ (bytes "unused result" ∷ bytes "left behind" ∷ [])) 1 x
 
 reportAs : ℕ → ℕ → List ℕ → Report
-reportAs k p ps = cond (leb k 8) (error k p 0 ps) (cond (eqb k 9) (warning p (getD ps 0 0)) (left p (getD ps 0 0)))
+reportAs k p ps = cond (leb k 8) (error k p 0 ps) (cond (eqb k 9) (warning p (getD ps 0 0)) (left p (getD ps 0 0) (getD ps 1 0)))
 
 -- lines read from the last on: the places of continuation lines that stand first, and the reports behind them
 abbrev Read : Type 0
@@ -237,13 +237,13 @@ kind-read (suc (suc (suc (suc (suc (suc (suc (suc (suc k))))))))) l h = absurd (
 abbrev pub small : Report → Bool
 small (error k p h ps) = (ltb 0 k && leb k 8) && (number p && all number ps)
 small (warning s o) = number s && number o
-small (left s n) = number s && number n
+small (left s n b) = number s && (number n && number b)
 
 -- what a page shows of a report: all but the hint
 abbrev pub told : Report → Report
 told (error k p h ps) = error k p 0 ps
 told (warning s o) = warning s o
-told (left s n) = left s n
+told (left s n b) = left s n b
 
 as-error : (k p : ℕ) (ps : List ℕ) → k ≤ 8 → reportAs k p ps ≡ error k p 0 ps
 unfolding reportAs
@@ -253,9 +253,9 @@ as-warning : (s o : ℕ) → reportAs (kindOf (leftIn 24 (bytes "unused result")
 unfolding reportAs kindOf kindIn kindNames bytes leftIn blanks sameBytes
 as-warning s o = refl
 
-as-left : (s n : ℕ) → reportAs (kindOf (leftIn 24 (bytes "left behind"))) s (n ∷ []) ≡ left s n
+as-left : (s n b : ℕ) → reportAs (kindOf (leftIn 24 (bytes "left behind"))) s (n ∷ b ∷ []) ≡ left s n b
 unfolding reportAs kindOf kindIn kindNames bytes leftIn blanks sameBytes
-as-left s n = refl
+as-left s n b = refl
 
 report-read : (r : Report) → So (small r) → (ls : List (List ℕ)) (es : List Report) → readLines ls ≡ ([], es) → readLines (entry r ++ ls) ≡ ([], told r ∷ es)
 unfolding entry
@@ -269,9 +269,11 @@ report-read (error k p h ps) t ls es e =
 report-read (warning s o) t ls es e =
     entry-read ls es e (bytes "unused result") s (o ∷ []) warning-fit (and-l (number s) (number o) t) (and-i (number o) true (and-r (number s) (number o) t) tt)
     ∙ rw (as-warning s o)
-report-read (left s n) t ls es e =
-    entry-read ls es e (bytes "left behind") s (n ∷ []) left-fit (and-l (number s) (number n) t) (and-i (number n) true (and-r (number s) (number n) t) tt)
-    ∙ rw (as-left s n)
+report-read (left s n b) t ls es e =
+    let q = and-r (number s) (number n && number b) t in
+    entry-read ls es e (bytes "left behind") s (n ∷ b ∷ []) left-fit (and-l (number s) (number n && number b) t)
+    (and-i (number n) (number b && true) (and-l (number n) (number b) q) (and-i (number b) true (and-r (number n) (number b) q) tt))
+    ∙ rw (as-left s n b)
 
 entries-read : (rs : List Report) → So (all small rs) → (ls : List (List ℕ)) (es : List Report) → readLines ls ≡ ([], es) →
     readLines (flatMap entry rs ++ ls) ≡ ([], map told rs ++ es)
@@ -288,7 +290,7 @@ errors-small (error k p h ps ∷ rs) t =
     let r = small (error k p h ps) in
     and-i r (all small (errors rs)) (and-l r (all small rs) t) (errors-small rs (and-r r (all small rs) t))
 errors-small (warning s o ∷ rs) t = errors-small rs (and-r (small (warning s o)) (all small rs) t)
-errors-small (left s n ∷ rs) t = errors-small rs (and-r (small (left s n)) (all small rs) t)
+errors-small (left s n b ∷ rs) t = errors-small rs (and-r (small (left s n b)) (all small rs) t)
 
 warnings-small : (rs : List Report) → So (all small rs) → So (all small (warnings rs))
 warnings-small [] t = tt
@@ -296,14 +298,14 @@ warnings-small (error k p h ps ∷ rs) t = warnings-small rs (and-r (small (erro
 warnings-small (warning s o ∷ rs) t =
     let r = small (warning s o) in
     and-i r (all small (warnings rs)) (and-l r (all small rs) t) (warnings-small rs (and-r r (all small rs) t))
-warnings-small (left s n ∷ rs) t = warnings-small rs (and-r (small (left s n)) (all small rs) t)
+warnings-small (left s n b ∷ rs) t = warnings-small rs (and-r (small (left s n b)) (all small rs) t)
 
 lefts-small : (rs : List Report) → So (all small rs) → So (all small (lefts rs))
 lefts-small [] t = tt
 lefts-small (error k p h ps ∷ rs) t = lefts-small rs (and-r (small (error k p h ps)) (all small rs) t)
 lefts-small (warning s o ∷ rs) t = lefts-small rs (and-r (small (warning s o)) (all small rs) t)
-lefts-small (left s n ∷ rs) t =
-    let r = small (left s n) in
+lefts-small (left s n b ∷ rs) t =
+    let r = small (left s n b) in
     and-i r (all small (lefts rs)) (and-l r (all small rs) t) (lefts-small rs (and-r r (all small rs) t))
 
 -- the three lists, without hints

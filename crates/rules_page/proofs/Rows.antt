@@ -38,8 +38,8 @@ rows =
     "global moved                      48           9                        \n" ∷ [])
     ∷ row (warning 21 350 ∷ []) (
     "unused result                     21         350                        \n" ∷ [])
-    ∷ row (left 23 6 ∷ []) (
-    "left behind                       23           6                        \n" ∷ [])
+    ∷ row (left 23 6 21 ∷ []) (
+    "left behind                       23           6          21            \n" ∷ [])
     -- nothing to report: no byte
     ∷ row [] []
     -- 0, 1, 2, 3, 4, 6, 7 and 8 other places
@@ -72,13 +72,13 @@ rows =
     "deleted                            0           9          10          99\n" ∷
     "potentially moved                100  1000000000                        \n" ∷ [])
     -- errors, warnings, left-behind entries
-    ∷ row (left 30 2 ∷ warning 11 400 ∷ error 2 7 0 (5 ∷ []) ∷ left 30 1 ∷ error 7 9 1 [] ∷ warning 12 500 ∷ []) (
+    ∷ row (left 30 2 28 ∷ warning 11 400 ∷ error 2 7 0 (5 ∷ []) ∷ left 30 1 0 ∷ error 7 9 1 [] ∷ warning 12 500 ∷ []) (
     "moved                              7           5                        \n" ∷
     "bad move                           9                                    \n" ∷
     "unused result                     11         400                        \n" ∷
     "unused result                     12         500                        \n" ∷
-    "left behind                       30           2                        \n" ∷
-    "left behind                       30           1                        \n" ∷ [])
+    "left behind                       30           2          28            \n" ∷
+    "left behind                       30           1           0            \n" ∷ [])
     ∷ []
 
 rows-hold : map (λ r. pageOf (r .reports)) rows ≡ map (λ r. flatMap bytes (r .page)) rows

@@ -185,7 +185,7 @@ entry-lines : (r : Report) → Lines (entry r)
 unfolding entry
 entry-lines (error k p h ps) = lines-are _ _ (head-begins _ _ (kind-fit k))
 entry-lines (warning s o) = lines-are _ _ (head-begins _ _ warning-fit)
-entry-lines (left s n) = lines-are _ _ (head-begins _ _ left-fit)
+entry-lines (left s n b) = lines-are _ _ (head-begins _ _ left-fit)
 
 entries-lines : (rs : List Report) → Lines (flatMap entry rs)
 unfolding flatMap

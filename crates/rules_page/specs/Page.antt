@@ -41,7 +41,7 @@ lastDigits (suc k) n = cond (ltb n 10) [] (lastDigits k (n / 10)) ++ ((48 + n % 
 unfoldable pub digits : ℕ → List ℕ
 digits n = lastDigits 10 n
 
--- a place, an offset or a name's number
+-- a place, an offset, a name's number or a birth
 unfoldable pub column : ℕ → List ℕ
 column n = rightIn 12 (digits n)
 
@@ -61,11 +61,11 @@ lines h (a ∷ b ∷ []) = line h (a ∷ b ∷ []) ∷ []
 lines h (a ∷ b ∷ c ∷ []) = line h (a ∷ b ∷ c ∷ []) ∷ []
 lines h (a ∷ b ∷ c ∷ d ∷ ps) = line h (a ∷ b ∷ c ∷ []) ∷ lines (blanks 36) (d ∷ ps)
 
--- the place or span first, the offset or the name's number as an other place; no hint is shown
+-- the place or span first; as other places an error's, a warning's offset, the name's number and the birth of what is left behind (02, d); no hint is shown
 unfoldable pub entry : Report → List (List ℕ)
 entry (error k p h ps) = lines (head (kindName k) p) ps
 entry (warning s o) = lines (head (bytes "unused result") s) (o ∷ [])
-entry (left s n) = lines (head (bytes "left behind") s) (n ∷ [])
+entry (left s n b) = lines (head (bytes "left behind") s) (n ∷ b ∷ [])
 
 -- errors, warnings and left-behind entries, each in walking order
 unfoldable pub pageLines : List Report → List (List ℕ)

@@ -20,7 +20,7 @@ use Rattle.tables_lookup.specs.Lent.{Lent, Says}
 use Rattle.rules.specs.Questions.{auto}
 use Rattle.rules.specs.State.{State as Status}
 use Rattle.rules.specs.Stack.{shape, Stack as Scope}
-use Rattle.rules.specs.Rules.{states, register, entered, localsOf}
+use Rattle.rules.specs.Rules.{declared, given, states, register, entered, localsOf}
 use Rattle.scope_stack.specs.declared.Locals.{Locals}
 use Rattle.scope_stack.specs.declared.States.{States}
 use Rattle.scope_stack.specs.View.{view, aliveAt, Kept, Drops, Nested, Named, Grows}
@@ -30,11 +30,11 @@ use Rattle.scope_entered.specs.Entered.{paramsIn, Fresh, Adds, Enters}
 
 entered-both : (T : Tables) (ps qs : List Param) (σ : Scope Status) → entered states T (ps ++ qs) σ ≡ entered states T qs (entered states T ps σ)
 entered-both T [] qs σ = refl
-entered-both T (p ∷ ps) qs σ = entered-both T ps qs (register states (p .name) (p .ty) 0 σ)
+entered-both T (p ∷ ps) qs σ = entered-both T ps qs (register states (given p) σ)
 
 nested-entered : (T : Tables) (ps : List Param) (σ : Scope Status) → Nested 0 (shape σ) → Nested 0 (shape (entered states T ps σ))
 nested-entered T [] σ h = h
-nested-entered T (p ∷ ps) σ h = nested-entered T ps (register states (p .name) (p .ty) 0 σ) (nested-register (p .name) (p .ty) 0 σ h)
+nested-entered T (p ∷ ps) σ h = nested-entered T ps (register states (given p) σ) (nested-register (p .name) (p .ty) 0 0 σ h)
 
 -- no parameter, and one more
 pub params-none : (s : List ℕ) (at : ℕ) → paramsIn s 0 at ≡ []
@@ -55,14 +55,14 @@ module _ (tb : List ℕ) where
   pub adds-none : (l : Locals) → Kept l → Adds tb [] l l
   adds-none l k = record { kept = k; count = omega arith; drops = λ s T lent says d. d; is = λ T t f rows cur width. refl }
 
-  pub adds-one : (l r : Locals) (name ty : ℕ) (dtor : Bool) → l .count < 64 → ((s : List ℕ) (T : Tables) → Lent s tb → Says s tb T → dtor ≡ shouldAutoDelete (T .types) (T .structs) ty) → Grows l name ty 0 dtor r
+  pub adds-one : (l r : Locals) (name ty : ℕ) (dtor : Bool) → l .count < 64 → ((s : List ℕ) (T : Tables) → Lent s tb → Says s tb T → dtor ≡ shouldAutoDelete (T .types) (T .structs) ty) → Grows l (declared 0 0 name ty) dtor r
       → Adds tb (record { name = name; ty = ty } ∷ []) l r
   unfolding auto
   adds-one l r name ty dtor low e g = record {
     kept = g .kept;
     count = g .count;
     drops = λ s T lent says d. g .drops T (e s T lent says) d;
-    is = λ T t f rows cur width. registers-fresh l r name ty 0 dtor g t rows cur width (rowed-none (l .count) t rows cur width f) (calm t f) (omega arith);
+    is = λ T t f rows cur width. registers-fresh l r name ty 0 0 dtor g t rows cur width (rowed-none (l .count) t rows cur width f) (calm t f) (omega arith);
   }
     where
       calm : (t : States) → Fresh t → (i : ℕ) → i < 64 → aliveAt t i ≡ false → Named (r .names) (r .depths) name 0 i → ⊥

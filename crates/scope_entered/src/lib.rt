@@ -13,7 +13,7 @@ fn register(tb: &[u32], l: Locals, name: u16, ty: u16) -> Locals
     ensures { λ r. ⌜ Adds (now (tb .entry)) (record { name = name; ty = ty } ∷ []) l r ⌝ }
 {
     let dtor = tables_lookup::auto_deleted(tb, ty as usize);
-    l.register_local(name, ty, 0, dtor)
+    l.register_local(name, ty, 0, 0, dtor)
 }
 
 // So many parameters from a position on, registered in the outermost frame after `this`, if there is one.

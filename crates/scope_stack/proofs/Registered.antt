@@ -14,7 +14,7 @@ use Rattle.image_fields.proofs.Tests.{less}
 use Rattle.tables.specs.Tables.{Tables}
 use Rattle.rules.specs.State.{State as Status, alive, isAlive}
 use Rattle.rules.specs.Stack.{Static, local, Stack as Scope}
-use Rattle.rules.specs.Rules.{states, register}
+use Rattle.rules.specs.Rules.{declared, states, register}
 use Rattle.scope_state.proofs.Stacked.{stacked-more, framed}
 use Rattle.scope_stack.specs.declared.Locals.{Locals}
 use Rattle.scope_stack.specs.declared.States.{States}
@@ -39,17 +39,17 @@ same-states (suc n) f f′ g h e i l =
     (λ (q : n ≤ i). let z : i ≡ n = omega arith in rw z (ap (newest-state alive) e))
     (less i n)
 
-module _ (l r : Locals) (name ty depth : ℕ) (dtor : Bool) (g : Grows l name ty depth dtor r) (t u : States) (rows : List ℕ) (cur width : ℕ)
-    (is : view r u rows cur width ≡ register states name ty depth (view l t rows cur width)) where
+module _ (l r : Locals) (name ty depth born : ℕ) (dtor : Bool) (g : Grows l (declared depth born name ty) dtor r) (t u : States) (rows : List ℕ) (cur width : ℕ)
+    (is : view r u rows cur width ≡ register states (declared depth born name ty) (view l t rows cur width)) where
   -- what the frame of the new local says of those before it
   abbrev framed-at : ℕ → Status
   framed-at i = cond (eqb (getD (l .names) i 0) name && eqb (getD (l .depths) i 0) depth) alive (stateAt t rows cur width i)
 
   both : local (staticAt r (l .count)) (stateAt u rows cur width (l .count)) ∷ stacked (l .count) (staticAt r) (stateAt u rows cur width)
-      ≡ local (record { name = name; ty = ty; depth = depth }) alive ∷ stacked (l .count) (staticAt l) framed-at
+      ≡ local (declared depth born name ty) alive ∷ stacked (l .count) (staticAt l) framed-at
   both =
       sym (ap (λ (n : ℕ). stacked n (staticAt r) (stateAt u rows cur width)) (g .count) ∙ stacked-more (staticAt r) (stateAt u rows cur width) (l .count)) ∙ is
-      ∙ ap (λ (σ : Scope Status). local (record { name = name; ty = ty; depth = depth }) alive ∷ σ) (framed name depth (λ (a : Status). alive) (staticAt l) (stateAt t rows cur width) (l .count))
+      ∙ ap (λ (σ : Scope Status). local (declared depth born name ty) alive ∷ σ) (framed name depth (λ (a : Status). alive) (staticAt l) (stateAt t rows cur width) (l .count))
 
   revived-at : (i : ℕ) → i < r .count → Named (r .names) (r .depths) name depth i → stateAt u rows cur width i ≡ alive
   revived-at i li named =

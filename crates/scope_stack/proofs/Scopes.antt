@@ -15,7 +15,7 @@ use Rattle.tables.specs.Tables.{Tables}
 use Rattle.rules.specs.Questions.{auto}
 use Rattle.rules.specs.State.{State as Status, deleted, moved, consumed, alive, handState}
 use Rattle.rules.specs.Stack.{Static, local, shape, mark, pop, Stack as Scope}
-use Rattle.rules.specs.Rules.{states, register}
+use Rattle.rules.specs.Rules.{declared, states, register}
 use Rattle.rules.proofs.Bools.{eqb-self}
 use Rattle.scope_state.specs.Kinds.{said, put}
 use Rattle.scope_stack.specs.declared.Locals.{Locals}
@@ -86,17 +86,17 @@ module _ {P : Tables → Type 0} where
   sound-mark l t r name f rows cur width s h m = sound-states l t r rows rows cur cur width s h (m .rowed rows cur width (s .rowed))
 
 -- fault 12 is decided by the count, whatever is registered
-pub register-length : (l : Locals) (name ty depth : ℕ) (t : States) (rows : List ℕ) (cur width : ℕ)
-    → length (register states name ty depth (view l t rows cur width)) ≡ l .count + 1
-register-length l name ty depth t rows cur width =
+pub register-length : (l : Locals) (name ty depth born : ℕ) (t : States) (rows : List ℕ) (cur width : ℕ)
+    → length (register states (declared depth born name ty) (view l t rows cur width)) ≡ l .count + 1
+register-length l name ty depth born t rows cur width =
     let z : suc (l .count) ≡ l .count + 1 = omega arith in
     ap suc (ap length (framed name depth (λ (a : Status). alive) (staticAt l) (stateAt t rows cur width) (l .count)) ∙ length-stacked (staticAt l) _ (l .count)) ∙ z
 
 -- a registration: the new local is Alive, and so are the others of its name in its frame, or they are marked so
-module _ (l r : Locals) (name ty depth : ℕ) (dtor : Bool) (g : Grows l name ty depth dtor r) (t : States) (rows : List ℕ) (cur width : ℕ)
+module _ (l r : Locals) (name ty depth born : ℕ) (dtor : Bool) (g : Grows l (declared depth born name ty) dtor r) (t : States) (rows : List ℕ) (cur width : ℕ)
     (h : Rowed (l .count) t rows cur width) where
   abbrev here : Static
-  here = record { name = name; ty = ty; depth = depth }
+  here = declared depth born name ty
 
   pub new-view : view r t rows cur width ≡ local here alive ∷ view l t rows cur width
   new-view =
@@ -111,7 +111,7 @@ module _ (l r : Locals) (name ty depth : ℕ) (dtor : Bool) (g : Grows l name ty
   pub sound-register : {P : Tables → Type 0} → Held t → ((T : Tables) → P T → Drops T l) → ((T : Tables) → P T → dtor ≡ auto T ty) → Sound P r t rows cur width
   sound-register held d asked = sound-of r t rows cur width (g .kept) held rowed-more (λ T p. g .drops T (asked T p) (d T p))
 
-  pub registers-marked : (p : ℕ) (u : States) → Marks r name (put false (said 0 (p ∷ []))) t u → view r u rows cur width ≡ register states name ty depth (view l t rows cur width)
+  pub registers-marked : (p : ℕ) (u : States) → Marks r name (put false (said 0 (p ∷ []))) t u → view r u rows cur width ≡ register states (declared depth born name ty) (view l t rows cur width)
   registers-marked p u m = m .is rows cur width rowed-more ∙ ap (mark name (λ (a : Status). alive)) new-view ∙ rw (eqb-self name)
 
   frame-alive : ((i : ℕ) → i < 64 → aliveAt t i ≡ false → Named (r .names) (r .depths) name depth i → ⊥) → l .count ≤ 64 → (i : ℕ) → i < l .count → (b : Bool)
@@ -127,7 +127,7 @@ module _ (l r : Locals) (name ty depth : ℕ) (dtor : Bool) (g : Grows l name ty
       (split (aliveAt t i))
 
   pub registers-fresh : ((i : ℕ) → i < 64 → aliveAt t i ≡ false → Named (r .names) (r .depths) name depth i → ⊥) → l .count ≤ 64
-      → view r t rows cur width ≡ register states name ty depth (view l t rows cur width)
+      → view r t rows cur width ≡ register states (declared depth born name ty) (view l t rows cur width)
   registers-fresh calm small =
       new-view ∙ ap (λ (σ : Scope Status). local here alive ∷ σ)
       (agree (l .count) (staticAt l) (staticAt l) (stateAt t rows cur width)
@@ -144,8 +144,8 @@ pub record Extends (d : ℕ) (l m : Locals) : Type 0 where
 pub extends-none : (d : ℕ) (l : Locals) → Extends d l l
 extends-none d l = record { most = omega arith; older = λ i li. refl; newer = λ i a b. absurd (omega arith) }
 
-pub extends-more : (d : ℕ) (l m r : Locals) (name ty : ℕ) (dtor : Bool) → Extends d l m → Grows m name ty d dtor r → Extends d l r
-extends-more d l m r name ty dtor e g = record {
+pub extends-more : (d : ℕ) (l m r : Locals) (name ty born : ℕ) (dtor : Bool) → Extends d l m → Grows m (declared d born name ty) dtor r → Extends d l r
+extends-more d l m r name ty born dtor e g = record {
   most = omega (arith, e .most, g .count);
   older = λ i li. g .older i (omega (arith, e .most)) ∙ e .older i li;
   newer = λ i a b. ⊎-elim

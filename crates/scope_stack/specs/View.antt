@@ -19,7 +19,7 @@ use Rattle.scope_stack.specs.declared.Entry.{Entry}
 use Rattle.scope_stack.specs.Word.{wordAt}
 
 abbrev pub staticAt : Locals → ℕ → Static
-staticAt l = staticIn (l .names) (l .types) (l .depths)
+staticAt l = staticIn (l .names) (l .types) (l .depths) (l .births)
 
 abbrev pub entryAt : States → ℕ → Entry
 entryAt t i = record { kind = getD (t .kinds) i 0; first = getD (t .firsts) i 0 }
@@ -36,7 +36,7 @@ stateAt t = stateIn (t .kinds) (t .firsts)
 
 -- the rules' stack
 abbrev pub view : Locals → States → List ℕ → ℕ → ℕ → Scope Status
-view l t rows cur width = lent (l .names) (l .types) (l .depths) (stateAt t rows cur width) (l .count)
+view l t rows cur width = lent (l .names) (l .types) (l .depths) (l .births) (stateAt t rows cur width) (l .count)
 
 -- a row of two places or more, all within the rows
 pub record Row (rows : List ℕ) (width at : ℕ) : Type 0 where
@@ -56,6 +56,7 @@ pub record Kept (l : Locals) : Type 0 where
   pub nameRoom : length (l .names) ≡ 64
   pub typeRoom : length (l .types) ≡ 64
   pub depthRoom : length (l .depths) ≡ 64
+  pub birthRoom : length (l .births) ≡ 64
   pub dtorRoom : l .dtors < 2 ^ (l .count)
 
 -- the arrays of states: a bit of alive is set where the local is Alive
@@ -107,12 +108,12 @@ depthOf n [] = 0
 depthOf n (local s a ∷ σ) = cond (eqb (s .name) n) (s .depth) (depthOf n σ)
 
 -- one local more
-pub record Grows (l : Locals) (name ty depth : ℕ) (dtor : Bool) (r : Locals) : Type 0 where
+pub record Grows (l : Locals) (s : Static) (dtor : Bool) (r : Locals) : Type 0 where
   pub kept : Kept r
   pub count : r .count ≡ l .count + 1
-  pub new : staticAt r (l .count) ≡ record { name = name; ty = ty; depth = depth }
+  pub new : staticAt r (l .count) ≡ s
   pub older : (i : ℕ) → i < l .count → staticAt r i ≡ staticAt l i
-  pub drops : (T : Tables) → dtor ≡ auto T ty → Drops T l → Drops T r
+  pub drops : (T : Tables) → dtor ≡ auto T (s .ty) → Drops T l → Drops T r
 
 -- the innermost frame that has the name does f on what it says of it, wherever the rows stand
 pub record Marks (l : Locals) (name : ℕ) (f : Status → Status) (t r : States) : Type 0 where

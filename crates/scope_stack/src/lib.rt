@@ -13,18 +13,21 @@ ghost use Rattle.scope_stack.specs.declared.Locals.{Locals};
 ghost use Rattle.scope_stack.specs.declared.States.{States};
 ghost use Rattle.scope_stack.specs.Word.{slot, wordAt, Top, Newest};
 ghost use Rattle.scope_stack.specs.View.{stacked, staticAt, depthOf, Kept, Held, Drops, Grows, Marks, Named, Leaves, markOf};
+use scope_state::Births;
 use scope_state::Depths;
 use scope_state::Firsts;
 use scope_state::Kinds;
 use scope_state::Names;
 use scope_state::Types;
 
-// The locals registered, oldest first: the first count of each array. A bit of dtors for each whose type has a destructor.
+// The locals registered, oldest first: the first count of each array. A birth is the span of the statement that registered the local, 0 for
+// a parameter or `this`. A bit of dtors for each whose type has a destructor.
 pub struct Locals {
     pub count: usize,
     pub names: Names,
     pub types: Types,
     pub depths: Depths,
+    pub births: Births,
     pub dtors: u64,
 }
 
@@ -144,19 +147,21 @@ impl Locals {
             names: [0; 64],
             types: [0; 64],
             depths: [0; 64],
+            births: [0; 64],
             dtors: 0,
         }
     }
 
     // One local more; its state, past the locals, is Alive already.
-    pub fn register_local(mut self, name: u16, ty: u16, depth: u8, dtor: bool) -> Locals
+    pub fn register_local(mut self, name: u16, ty: u16, depth: u8, born: u32, dtor: bool) -> Locals
         requires { ⌜ Kept self × (self .count < 64) ⌝ }
-        ensures { λ r. ⌜ Grows self name ty depth dtor r ⌝ }
+        ensures { λ r. ⌜ Grows self (record { name = name; ty = ty; depth = depth; born = born }) dtor r ⌝ }
     {
         let n = self.count;
         self.names[n] = name;
         self.types[n] = ty;
         self.depths[n] = depth;
+        self.births[n] = born;
         self.count = n + 1;
         if dtor {
             self.dtors = self.dtors + bit(n);

@@ -18,12 +18,12 @@ stacked zero f g = []
 stacked (suc n) f g = local (f n) (g n) ∷ stacked n f g
 
 -- the local of a number
-abbrev pub staticIn : List ℕ → List ℕ → List ℕ → ℕ → Static
-staticIn names types depths i = record { name = getD names i 0; ty = getD types i 0; depth = getD depths i 0 }
+abbrev pub staticIn : List ℕ → List ℕ → List ℕ → List ℕ → ℕ → Static
+staticIn names types depths births i = record { name = getD names i 0; ty = getD types i 0; depth = getD depths i 0; born = getD births i 0 }
 
 -- the stack of the first n locals of lent arrays, with what is said of their numbers
-abbrev pub lent : List ℕ → List ℕ → List ℕ → (ℕ → Status) → ℕ → Scope Status
-lent names types depths at n = stacked n (staticIn names types depths) at
+abbrev pub lent : List ℕ → List ℕ → List ℕ → List ℕ → (ℕ → Status) → ℕ → Scope Status
+lent names types depths births at n = stacked n (staticIn names types depths births) at
 
 -- where the row of local i begins in the rows that begin at cur
 abbrev pub rowOf : ℕ → ℕ → ℕ → ℕ
@@ -46,11 +46,11 @@ Below Nothing n = Unit {0}
 Below (At i) n = i < n
 
 -- the local that was found
-abbrev pub foundIn : List ℕ → List ℕ → List ℕ → (ℕ → Status) → Found → Option (Local Status)
-foundIn names types depths at Nothing = none
-foundIn names types depths at (At i) = some (local (staticIn names types depths i) (at i))
+abbrev pub foundIn : List ℕ → List ℕ → List ℕ → List ℕ → (ℕ → Status) → Found → Option (Local Status)
+foundIn names types depths births at Nothing = none
+foundIn names types depths births at (At i) = some (local (staticIn names types depths births i) (at i))
 
 -- the number of the newest of the first n locals of a name, whatever else is said of them
 pub record Finds (names : List ℕ) (n name : ℕ) (r : Found) : Type 0 where
   pub below : Below r n
-  pub is : (types depths : List ℕ) (at : ℕ → Status) → lookup name (lent names types depths at n) ≡ foundIn names types depths at r
+  pub is : (types depths births : List ℕ) (at : ℕ → Status) → lookup name (lent names types depths births at n) ≡ foundIn names types depths births at r

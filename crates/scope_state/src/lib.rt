@@ -19,6 +19,8 @@ pub type Types = [u16; 64];
 
 pub type Depths = [u8; 64];
 
+pub type Births = [u32; 64];
+
 pub type Kinds = [u8; 64];
 
 pub type Firsts = [u32; 64];

@@ -30,19 +30,20 @@ use Rattle.rules.specs.Questions.{auto}
 use Rattle.rules.specs.Expr.{view as viewed, identIn, nameIn, isCall, tyOf, calleeAt}
 use Rattle.rules.specs.Expr as rules
 use Rattle.rules.specs.State.{State as Status}
-use Rattle.rules.specs.Stack.{shape, Stack as Scope}
+use Rattle.rules.specs.Stack.{Static, shape, Stack as Scope}
 use Rattle.rules.specs.Effects.{takeOver, assignTakes}
-use Rattle.rules.specs.Rules.{Drop, dropOf, states, applyAll, collect, dropNamed, assignDrops, returnDrops, loopDrops}
-use Rattle.rules.specs.Report.{warning, left as leaves, errors, warnings, lefts, deleteNode, unused, leftBehind}
+use Rattle.rules.specs.Rules.{atJump, states, applyAll, gather, collect, dropNamed, assignDrops, returnDrops}
+use Rattle.rules.specs.Report.{Report, warning, errors, warnings, lefts, deleteNode, unused, leftBehind, leftAt}
 use Rattle.rules.specs.Verdict.{entriesOf}
 use Rattle.image_body.proofs.Walking.{within}
 use Rattle.image_writing.specs.Stored.{Stored}
 use Rattle.image_writing.proofs.Stores.{both-stored, none-stored, stored-length}
-use Rattle.image_lines.specs.Lined.{shownAll, Cursors, cursors}
+use Rattle.image_lines.specs.Lined.{shownAll, cursors}
 use Rattle.image_lines.specs.Told.{Listed, Lined}
 use Rattle.image_lines.proofs.Cursors.{shown-none}
 use Rattle.image_lines.proofs.Told.{past, lined-same, lined-warnings, lined-lefts}
 use Rattle.statements_steps.specs.Drops.{deleteBytes}
+use Rattle.statements_steps.proofs.Lists.{only-left}
 use Rattle.statements_acts.specs.Drops.{admitted}
 use Rattle.statements_acts.specs.declared.Which.{Which}
 use Rattle.statements_acts.specs.declared.Which.the-variants.{All}
@@ -71,18 +72,6 @@ stored-from {xs} {ys} {zs} {u} {i} {j} e s = subst (λ x. Stored x i u zs j) e s
 sparing-is : (T : Tables) (σ : Scope Status) (which : Which) (n : rules.Named) → which ≡ sparing n → collect states T (admitted which) 0 σ ≡ returnDrops states T n σ
 sparing-is T σ which rules.nobody e = ap (λ w. collect states T (admitted w) 0 σ) e
 sparing-is T σ which (rules.called n p) e = ap (λ w. collect states T (admitted w) 0 σ) e
-
-no-warnings : (p : ℕ) (ds : List Drop) → warnings (leftBehind p ds) ≡ []
-no-warnings p [] = refl
-no-warnings p (dropOf q n t ∷ ds) = no-warnings p ds
-
-no-errors : (p : ℕ) (ds : List Drop) → errors (leftBehind p ds) ≡ []
-no-errors p [] = refl
-no-errors p (dropOf q n t ∷ ds) = no-errors p ds
-
-all-lefts : (p : ℕ) (ds : List Drop) → lefts (leftBehind p ds) ≡ leftBehind p ds
-all-lefts p [] = refl
-all-lefts p (dropOf q n t ∷ ds) = ap (λ l. leaves p n ∷ l) (all-lefts p ds)
 
 -- what is stored stays small
 pub room-of : {s : List ℕ} {p : Place} → Within s p
@@ -188,23 +177,24 @@ module _ (s : List ℕ) (small : Bytes s) (p : Place) (to : ℕ) (g : FrontThere
       let e = none-put-is p ep in
       grows-of w (omega arith) (r .1) (omega arith) (omega arith)
 
-  pub variable-acts : (put : Put) → put ≡ noPut p → {out out′ : List ℕ} (q : Place) → Copied s p put to out q out′ → (T : Tables) (σ : Scope Status) (n ty : ℕ) (taken : Named)
-      → n ≡ two s (p .at + 5) → ty ≡ two s (p .at + 7)
+  pub variable-acts : (put : Put) → put ≡ noPut p → {out out′ : List ℕ} (q : Place) → Copied s p put to out q out′ → (T : Tables) (σ : Scope Status) (n ty born : ℕ) (taken : Named)
+      → n ≡ two s (p .at + 5) → ty ≡ two s (p .at + 7) → born ≡ four s (p .at + 1)
       → ((e : Expr) (next : ℕ) → Stands e s (p .at + 9) next → (τ : Scope Status) → takenIn taken τ ≡ applyAll states (takeOver T (shape σ) n ty e) τ)
-      → (warns left : List ℕ) (loop : Option ℕ) → ActsThere T s loop σ p out warns left (record { place = q; change = Register n ty; taken = taken }) out′ warns left
-  variable-acts put ep {out} {out′} q w T σ n ty taken en et tk warns left loop = record {
+      → (warns left : List ℕ) (loop : Option ℕ) → ActsThere T s loop σ p out warns left (record { place = q; change = Register n ty born; taken = taken }) out′ warns left
+  variable-acts put ep {out} {out′} q w T σ n ty born taken en et eb tk warns left loop = record {
     acts = λ f t x next r deep read.
         let v = front-variable T s small (p .at) to g f t x next read low high r in
-        subst (λ c. Acts T c loop σ p out warns left (record { place = q; change = Register n ty; taken = taken }) out′ warns left) (sym (v .is))
-        (acts-of T σ p _ (noPut p) q (Register n ty) taken (subst (λ z. Copied s p z to out q out′) ep w) (none-stored out (p .written)) refl (v .front) loop refl
+        subst (λ c. Acts T c loop σ p out warns left (record { place = q; change = Register n ty born; taken = taken }) out′ warns left) (sym (v .is))
+        (acts-of T σ p _ (noPut p) q (Register n ty born) taken (subst (λ z. Copied s p z to out q out′) ep w) (none-stored out (p .written)) refl (v .front) loop refl
         (λ d. settled d (v .e) (tk (v .e) (v .q) (v .stands))));
   }
     where
       settled : (d : ℕ) (e : Expr) → ((τ : Scope Status) → takenIn taken τ ≡ applyAll states (takeOver T (shape σ) n ty e) τ)
-          → takenIn taken (changeIn d (Register n ty) σ)
-          ≡ applyAll states (takeOver T (shape σ) (two s (p .at + 5)) (two s (p .at + 7)) e) (changeIn d (Register (two s (p .at + 5)) (two s (p .at + 7))) σ)
-      settled d e h = h (changeIn d (Register n ty) σ) ∙ ap (λ m. applyAll states (takeOver T (shape σ) m ty e) (changeIn d (Register m ty) σ)) en
-          ∙ ap (λ m. applyAll states (takeOver T (shape σ) (two s (p .at + 5)) m e) (changeIn d (Register (two s (p .at + 5)) m) σ)) et
+          → takenIn taken (changeIn d (Register n ty born) σ)
+          ≡ applyAll states (takeOver T (shape σ) (two s (p .at + 5)) (two s (p .at + 7)) e) (changeIn d (Register (two s (p .at + 5)) (two s (p .at + 7)) (four s (p .at + 1))) σ)
+      settled d e h = h (changeIn d (Register n ty born) σ) ∙ ap (λ m. applyAll states (takeOver T (shape σ) m ty e) (changeIn d (Register m ty born) σ)) en
+          ∙ ap (λ m. applyAll states (takeOver T (shape σ) (two s (p .at + 5)) m e) (changeIn d (Register (two s (p .at + 5)) m born) σ)) et
+          ∙ ap (λ m. applyAll states (takeOver T (shape σ) (two s (p .at + 5)) (two s (p .at + 7)) e) (changeIn d (Register (two s (p .at + 5)) (two s (p .at + 7)) m) σ)) eb
 
 -- the delete before an assignment
 module _ (T : Tables) (σ : Scope Status) (span : ℕ) (e : Expr) where
@@ -279,9 +269,9 @@ module _ (s : List ℕ) (small : Bytes s) (p : Place) (end : ℕ) (g : FrontTher
   }
 
 -- a statement of so many bytes that puts nothing in, changes nothing and leaves locals behind
-pub record Lists (T : Tables) (c : Tree) (loop : Option ℕ) (at : ℕ) (σ : Scope Status) (span : ℕ) (ds : List Drop) : Type 0 where
+pub record Lists (T : Tables) (c : Tree) (loop : Option ℕ) (at : ℕ) (σ : Scope Status) (rs : List Report) : Type 0 where
   pub drops : frontDrops T c σ ≡ []
-  pub reports : frontReports T c loop at σ ≡ leftBehind span ds
+  pub reports : frontReports T c loop at σ ≡ rs
   pub settles : (d : ℕ) → settle T c d σ ≡ σ
 
 module _ (s : List ℕ) (small : Bytes s) (p : Place) (size : ℕ) (few : 5 ≤ size) (reach : p .at + size ≤ length s) where
@@ -301,27 +291,28 @@ module _ (s : List ℕ) (small : Bytes s) (p : Place) (size : ℕ) (few : 5 ≤ 
         let z = c .lefts in
         record { on = omega arith; inside = subst (λ m. m ≤ length s) (sym a) reach; written = omega arith; errors = omega arith; warnings = omega arith; lefts = omega arith; inserted = omega arith }
 
-    pub lists-acts : (T : Tables) (σ : Scope Status) (c : Tree) (loop : Option ℕ) (ds : List Drop) → Front T s (p .at) (p .at + size) c → Lists T c loop (p .at) σ (four s (p .at + 1)) ds
-        → (span : ℕ) → span ≡ four s (p .at + 1) → {left left′ : List ℕ} → {out₀ : List ℕ} → Listed (p .paged) (leftBehind span ds) left out₀ (p .lefts) left′ out n
+    pub lists-acts : (T : Tables) (σ : Scope Status) (c : Tree) (loop : Option ℕ) (q′ : Static → Bool) (τ : Scope Status) → Front T s (p .at) (p .at + size) c
+        → Lists T c loop (p .at) σ (gather states T q′ (leftAt (four s (p .at + 1))) τ) → (span : ℕ) → span ≡ four s (p .at + 1) → {left left′ : List ℕ} → {out₀ : List ℕ} → Listed (p .paged) (gather states T q′ (leftAt span) τ) left out₀ (p .lefts) left′ out n
         → (warns : List ℕ) → Acts T c loop σ p out₀ warns left (record { place = q; change = Nothing; taken = Nobody }) out′ warns left′
-    lists-acts T σ c loop ds front is span es {left} {left′} {out₀} st warns =
+    lists-acts T σ c loop q′ τ front is span es {left} {left′} {out₀} st warns =
         let k = copied in
         let b = subst (λ x. Stored out (p .written) x out′ (q .written)) (written-slice (front .written)) (k .bytes) in
         let none : frontBytes T c σ ≡ ownBytes T c = ap (λ x. deleteBytes x ++ ownBytes T c) (is .drops) in
         let here = four s (p .at + 1) in
-        let l : Listed (p .paged) (leftBehind here ds) left out₀ (p .lefts) left′ out n = subst (λ m. Listed (p .paged) (leftBehind m ds) left out₀ (p .lefts) left′ out n) es st in
+        let only = only-left T q′ here τ in
+        let l : Listed (p .paged) (gather states T q′ (leftAt here) τ) left out₀ (p .lefts) left′ out n = subst (λ m. Listed (p .paged) (gather states T q′ (leftAt m) τ) left out₀ (p .lefts) left′ out n) es st in
         record {
           bytes = λ e. subst (λ x. Stored out₀ (p .written) x out′ (q .written)) (sym none) (stored-from (l .numbers e .0) b);
-          warned = λ e. subst (λ z. Stored warns (p .warnings) (entriesOf version1 z) warns (q .warnings)) (sym (ap warnings (is .reports) ∙ no-warnings here ds)) (none-at warns (k .warnings));
+          warned = λ e. subst (λ z. Stored warns (p .warnings) (entriesOf version1 z) warns (q .warnings)) (sym (ap warnings (is .reports) ∙ only .1)) (none-at warns (k .warnings));
           listed = λ e. subst (Stored left (p .lefts) _ left′) (sym (k .lefts))
-              (subst (λ z. Stored left (p .lefts) (entriesOf version1 z) left′ n) (sym (ap lefts (is .reports) ∙ all-lefts here ds)) (l .numbers e .1));
+              (subst (λ z. Stored left (p .lefts) (entriesOf version1 z) left′ n) (sym (ap lefts (is .reports) ∙ only .2)) (l .numbers e .1));
           lines = λ e h.
               let x = l .lines e in
               let y : out′ ≡ out = past b (let z = stored-length x in omega arith) .0 in
               subst (λ z. Lined (cursorsAt p) z out₀ (cursorsAt q) out′) (sym (is .reports))
-              (subst (λ z. Lined (cursorsAt p) (leftBehind here ds) out₀ z out′) (rw (k .errors, k .warnings, k .lefts))
-              (subst (λ z. Lined (cursorsAt p) (leftBehind here ds) out₀ (cursors (p .errors) (p .warnings) n) z) (sym y)
-              (lined-lefts (p .errors) (p .warnings) (p .lefts) (no-errors here ds) (no-warnings here ds) (all-lefts here ds) x)));
+              (subst (λ z. Lined (cursorsAt p) (gather states T q′ (leftAt here) τ) out₀ z out′) (rw (k .errors, k .warnings, k .lefts))
+              (subst (λ z. Lined (cursorsAt p) (gather states T q′ (leftAt here) τ) out₀ (cursors (p .errors) (p .warnings) n) z) (sym y)
+              (lined-lefts (p .errors) (p .warnings) (p .lefts) (only .0) (only .1) (only .2) x)));
           long = b .place ∙ ap (λ x. p .written + length x) (sym none);
           paged = k .paged;
           errors = k .errors;
@@ -344,13 +335,13 @@ module _ (s : List ℕ) (small : Bytes s) (p : Place) {end : ℕ} (g : FrontTher
     bare-grows = lists-grows s small p 8 (omega arith) bare-reach n p′ e′ put ep q w
 
     pub bare-acts : (T : Tables) (σ : Scope Status) (span : ℕ) → span ≡ four s (p .at + 1) → {left left′ : List ℕ}
-        → {out₀ : List ℕ} → Listed (p .paged) (leftBehind span (collect states T (admitted All) 0 σ)) left out₀ (p .lefts) left′ out n
+        → {out₀ : List ℕ} → Listed (p .paged) (gather states T (admitted All) (leftAt span) σ) left out₀ (p .lefts) left′ out n
         → (warns : List ℕ) (loop : Option ℕ) → ActsThere T s loop σ p out₀ warns left (record { place = q; change = Nothing; taken = Nobody }) out′ warns left′
     bare-acts T σ span es {left} {left′} {out₀} st warns loop = record {
       acts = λ f t x next r deep read.
           let v = front-bare T s small (p .at) f t x next read k o r in
           subst (λ c. Acts T c loop σ p out₀ warns left (record { place = q; change = Nothing; taken = Nobody }) out′ warns left′) (sym (v .0))
-          (lists-acts s small p 8 (omega arith) bare-reach n p′ e′ put ep q w T σ _ loop (collect states T (admitted All) 0 σ) (v .1)
+          (lists-acts s small p 8 (omega arith) bare-reach n p′ e′ put ep q w T σ _ loop (admitted All) σ (v .1)
           (record { drops = refl; reports = refl; settles = λ d. refl }) span es st warns);
     }
 
@@ -365,15 +356,15 @@ module _ (s : List ℕ) (small : Bytes s) (p : Place) {end : ℕ} (g : FrontTher
     pub jump-grows : n ≤ p .lefts + 4672 → Grows s p q
     jump-grows = lists-grows s small p 5 (omega arith) jump-reach n p′ e′ put ep q w
 
-    pub jump-acts : (T : Tables) (σ : Scope Status) (loop : Option ℕ) (ds : List Drop) → ds ≡ loopDrops states T loop σ → (span : ℕ) → span ≡ four s (p .at + 1) → {left left′ : List ℕ}
-        → {out₀ : List ℕ} → Listed (p .paged) (leftBehind span ds) left out₀ (p .lefts) left′ out n
+    pub jump-acts : (T : Tables) (σ : Scope Status) (loop : Option ℕ) (τ : Scope Status) → ((m : ℕ) → gather states T (admitted All) (leftAt m) τ ≡ leftBehind T m (atJump loop) σ) → (span : ℕ) → span ≡ four s (p .at + 1) → {left left′ : List ℕ}
+        → {out₀ : List ℕ} → Listed (p .paged) (gather states T (admitted All) (leftAt span) τ) left out₀ (p .lefts) left′ out n
         → (warns : List ℕ) → ActsThere T s loop σ p out₀ warns left (record { place = q; change = Nothing; taken = Nobody }) out′ warns left′
-    jump-acts T σ loop ds ed span es {left} {left′} {out₀} st warns = record {
+    jump-acts T σ loop τ ed span es {left} {left′} {out₀} st warns = record {
       acts = λ f t x next r deep read.
           let v = front-jump T s small (p .at) f t x next read k r in
           subst (λ c. Acts T c loop σ p out₀ warns left (record { place = q; change = Nothing; taken = Nobody }) out′ warns left′) (sym (v .1))
-          (lists-acts s small p 5 (omega arith) jump-reach n p′ e′ put ep q w T σ _ loop ds (v .2)
-          (record { drops = refl; reports = ap (leftBehind (four s (p .at + 1))) (sym ed); settles = λ d. refl }) span es st warns);
+          (lists-acts s small p 5 (omega arith) jump-reach n p′ e′ put ep q w T σ _ loop (admitted All) τ (v .2)
+          (record { drops = refl; reports = sym (ed (four s (p .at + 1))); settles = λ d. refl }) span es st warns);
     }
 
 -- an expression statement

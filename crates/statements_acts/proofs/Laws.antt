@@ -46,27 +46,27 @@ module _ (old : List ℕ) (at : ℕ) (x : List Drop) where
       (subst (λ (v : List ℕ). Stored old at v new next) (sym (ap deleteBytes e ∙ append-nil (3 ∷ (fourBytes p ++ encodeExpr (deleteNode p (identNode p t n)))))) a, sym (ap length e))
 
 -- what is still to be stored for the deletes left gives what was to be stored for all of them
-pub record Rest (f : List Drop → List ℕ) (old : List ℕ) (at : ℕ) (all : List Drop) (out : List ℕ) (place : ℕ) (left : List Drop) : Type 0 where
+pub record Rest {B : Type 0} (f : List B → List ℕ) (old : List ℕ) (at : ℕ) (all : List B) (out : List ℕ) (place : ℕ) (left : List B) : Type 0 where
   pub is : (ys : List ℕ) (k : ℕ) → Stored out place (f left) ys k → Stored old at (f all) ys k
 
-module _ (f : List Drop → List ℕ) (old : List ℕ) (at : ℕ) (all : List Drop) where
+module _ {B : Type 0} (f : List B → List ℕ) (old : List ℕ) (at : ℕ) (all : List B) where
   pub rest-start : Rest f old at all old at all
   rest-start = record { is = λ ys k s. s }
 
-  module _ (out : List ℕ) (place : ℕ) (left : List Drop) (h : Rest f old at all out place left) where
-    pub rest-step : (b : List ℕ) (more : List Drop) (new : List ℕ) (next : ℕ) → f left ≡ b ++ f more → Stored out place b new next → Rest f old at all new next more
+  module _ (out : List ℕ) (place : ℕ) (left : List B) (h : Rest f old at all out place left) where
+    pub rest-step : (b : List ℕ) (more : List B) (new : List ℕ) (next : ℕ) → f left ≡ b ++ f more → Stored out place b new next → Rest f old at all new next more
     rest-step b more new next e a = record { is = λ ys k s. h .is ys k (rw e (both-stored a s)) }
 
-    pub rest-end : (same : List Drop) → all ≡ same → f left ≡ [] → Stored old at (f same) out place
-    rest-end same ea e = subst (λ (x : List Drop). Stored old at (f x) out place) ea (h .is out place (rw e (none-stored out place)))
+    pub rest-end : (same : List B) → all ≡ same → f left ≡ [] → Stored old at (f same) out place
+    rest-end same ea e = subst (λ (x : List B). Stored old at (f x) out place) ea (h .is out place (rw e (none-stored out place)))
 
 -- one delete less is left
-pub count-step : (m put : ℕ) (left more : List Drop) (d : Drop) → put + length left ≡ m → left ≡ d ∷ more → put + 1 + length more ≡ m
+pub count-step : {B : Type 0} (m put : ℕ) (left more : List B) (d : B) → put + length left ≡ m → left ≡ d ∷ more → put + 1 + length more ≡ m
 count-step m put left more d h e =
     let l : length left ≡ suc (length more) = ap length e in
     omega arith
 
-pub count-end : (m put : ℕ) (left : List Drop) → put + length left ≡ m → left ≡ [] → put ≡ m
+pub count-end : {B : Type 0} (m put : ℕ) (left : List B) → put + length left ≡ m → left ≡ [] → put ≡ m
 count-end m put left h e =
     let l : length left ≡ 0 = ap length e in
     omega arith

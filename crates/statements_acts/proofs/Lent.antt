@@ -26,14 +26,14 @@ unfolding saidOf
 static-in n [] = refl
 static-in n (local s a ∷ σ) = pick (eqb (s .name) n) s a (staticOf n (shape σ)) (lookup n σ) (static-in n σ)
 
-module _ {names : List ℕ} {k n : ℕ} {r : Found} (f : Finds names k n r) (types depths : List ℕ) (g : ℕ → Status) where
-  pub found-as : {x : Found} → r ≡ x → lookup n (lent names types depths g k) ≡ foundIn names types depths g x
-  found-as e = f .is types depths g ∙ ap (foundIn names types depths g) e
+module _ {names : List ℕ} {k n : ℕ} {r : Found} (f : Finds names k n r) (types depths births : List ℕ) (g : ℕ → Status) where
+  pub found-as : {x : Found} → r ≡ x → lookup n (lent names types depths births g k) ≡ foundIn names types depths births g x
+  found-as e = f .is types depths births g ∙ ap (foundIn names types depths births g) e
 
-  pub static-none : r ≡ Nothing → staticOf n (shape (lent names types depths g k)) ≡ none
+  pub static-none : r ≡ Nothing → staticOf n (shape (lent names types depths births g k)) ≡ none
   unfolding saidOf
-  static-none e = static-in n (lent names types depths g k) ∙ ap saidOf (found-as e)
+  static-none e = static-in n (lent names types depths births g k) ∙ ap saidOf (found-as e)
 
-  pub static-some : {i : ℕ} → r ≡ At i → staticOf n (shape (lent names types depths g k)) ≡ some (staticIn names types depths i)
+  pub static-some : {i : ℕ} → r ≡ At i → staticOf n (shape (lent names types depths births g k)) ≡ some (staticIn names types depths births i)
   unfolding saidOf
-  static-some e = static-in n (lent names types depths g k) ∙ ap saidOf (found-as e)
+  static-some e = static-in n (lent names types depths births g k) ∙ ap saidOf (found-as e)

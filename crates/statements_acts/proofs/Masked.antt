@@ -11,7 +11,7 @@ use Rattle.tables.specs.Tables.{Tables}
 use Rattle.rules.specs.Questions.{auto}
 use Rattle.rules.specs.State.{State as Status, gone, deleted, isAlive}
 use Rattle.rules.specs.Stack.{Static}
-use Rattle.rules.specs.Rules.{states, collect}
+use Rattle.rules.specs.Rules.{states, gather}
 use Rattle.scope_stack.specs.Word.{wordAt}
 use Rattle.scope_stack.proofs.Words.{word-same}
 use Rattle.scope_state.specs.Locals.{stacked}
@@ -38,12 +38,12 @@ module _ (T : Tables) (types : List ℕ) (g : ℕ → Status) (base : ℕ) where
       e ∙ word-same n (λ i. leb base i && dropIn T types g i) (dropIn T types (stateSince base g)) (λ i l. lives-since (leb base i) (auto T (getD types i 0)) (g i))
 
   -- and by it those locals are deleted, and no others, whatever tells them apart
-  module _ (names depths : List ℕ) (q : Static → Bool) (p : ℕ) where
-    pub since-drops : (n : ℕ) → ((i : ℕ) → i < n → q (staticIn names types depths i) ≡ leb base i)
-        → collect states T (admitted All) p (lent names types depths (stateSince base g) n) ≡ collect states T q p (lent names types depths g n)
+  module _ {B : Type 0} (names depths births : List ℕ) (q : Static → Bool) (says : Static → B) where
+    pub since-drops : (n : ℕ) → ((i : ℕ) → i < n → q (staticIn names types depths births i) ≡ leb base i)
+        → gather states T (admitted All) says (lent names types depths births (stateSince base g) n) ≡ gather states T q says (lent names types depths births g n)
     unfolding stacked
     since-drops zero h = refl
     since-drops (suc n) h =
         let ih = since-drops n (λ i l. h i (omega arith)) in
-        let e : q (staticIn names types depths n) ≡ leb base n = h n (omega arith) in
+        let e : q (staticIn names types depths births n) ≡ leb base n = h n (omega arith) in
         rw (picked (leb base n) (g n), e, ih)

@@ -13,7 +13,7 @@ use Rattle.image_body.specs.Stmt.{Tree, Block, Stmt, before, stmtAt}
 use Rattle.rules.specs.Expr as rules
 use Rattle.rules.specs.State.{State as Status, alive, deleted}
 use Rattle.rules.specs.Stack.{mark, Stack as Scope}
-use Rattle.rules.specs.Rules.{states, register}
+use Rattle.rules.specs.Rules.{declared, states, register}
 use Rattle.rules.specs.Report.{warnings, lefts}
 use Rattle.rules.specs.Verdict.{entriesOf}
 use Rattle.statements_returns.specs.Front.{frontAt}
@@ -36,7 +36,7 @@ namedOf (Called n p) = rules.called n p
 abbrev pub changeIn : ℕ → Change → Scope Status → Scope Status
 changeIn d Nothing σ = σ
 changeIn d (Delete n p) σ = mark n (states .killed deleted p) σ
-changeIn d (Register n t) σ = register states n t d σ
+changeIn d (Register n t p) σ = register states (declared d p n t) σ
 changeIn d (Revive n) σ = mark n (λ a. alive) σ
 
 abbrev pub takenIn : Named → Scope Status → Scope Status
@@ -78,8 +78,8 @@ pub record Grows (s : List ℕ) (p q : Place) : Type 0 where
 abbrev pub cursorsAt : Place → Cursors
 cursorsAt p = cursors (p .errors) (p .warnings) (p .lefts)
 
--- the statement c up to its blocks, in a loop whose body has that depth, if any, walked from a place: what is stored, where the walk stands then, and how the locals change; where a
--- page is made, the output ends no later than the place, and no byte is stored but its lines
+-- The statement c up to its blocks, in a loop whose body has that depth, if any, walked from a place: what is stored, where the walk stands
+-- then, and how the locals change. Where a page is made, the output ends no later than the place, and no byte is stored but its lines
 pub record Acts (T : Tables) (c : Tree) (loop : Option ℕ) (σ : Scope Status) (p : Place) (out warns left : List ℕ) (a : Act) (out′ warns′ left′ : List ℕ) : Type 0 where
   pub bytes : p .paged ≡ false → Stored out (p .written) (frontBytes T c σ) out′ (a .place .written)
   pub warned : p .paged ≡ false → Stored warns (p .warnings) (entriesOf version1 (warnings (frontReports T c loop (p .at) σ))) warns′ (a .place .warnings)

@@ -1,4 +1,4 @@
--- Which locals are deleted.
+-- Which locals are deleted or left behind.
 use mathlib.Core.Bool.{Bool, true, not}
 use lib.Dec.{eqb}
 use Rattle.rules.specs.Stack.{Static}

@@ -19,4 +19,4 @@ pub record EndsThere (s : List ℕ) (at to : ℕ) : Type 0 where
 -- of n locals, at most 64, those from base on, and no others, are of the frames that a Break or Continue leaves in this loop; outside any, none is
 pub record Looped (depths : List ℕ) (loop : Option ℕ) (base n : ℕ) : Type 0 where
   pub few : n ≤ 64
-  pub own : (names types : List ℕ) (i : ℕ) → i < n → concerns (atJump loop) (staticIn names types depths i) ≡ leb base i
+  pub own : (names types births : List ℕ) (i : ℕ) → i < n → concerns (atJump loop) (staticIn names types depths births i) ≡ leb base i

@@ -20,8 +20,8 @@ ghost use Rattle.rules.specs.Expr.{view as viewed, nameIn, called, isCall, tyOf
 ghost use Rattle.rules.specs.State.{State as Status};
 ghost use Rattle.rules.specs.Stack.{Static, shape, staticOf, Stack as Scope};
 ghost use Rattle.rules.specs.Effects.{takeOver, takeFrom, assignTakes};
-ghost use Rattle.rules.specs.Rules.{states, applyAll, collect, dropNamed, assignDrops};
-ghost use Rattle.rules.specs.Report.{warning, left, leftBehind};
+ghost use Rattle.rules.specs.Rules.{states, applyAll, gather, collect, dropNamed, assignDrops};
+ghost use Rattle.rules.specs.Report.{warning, left, leftAt};
 ghost use Rattle.image_writing.specs.Stored.{Stored};
 ghost use Rattle.rules_page.specs.Page.{blanks};
 ghost use Rattle.image_lines.specs.Told.{Listed, leftBegin};
@@ -35,6 +35,7 @@ use expressions_effects::name_at;
 use expressions_effects::span_at;
 use image_body::Node;
 use image_fields::peek;
+use scope_state::Births;
 use scope_state::Names;
 use scope_state::Types;
 use tables_lookup::Found;
@@ -45,12 +46,12 @@ pub enum Named {
     Called(u16, u32),
 }
 
-// How a statement changes the stack once its values are evaluated: a name is deleted at a place, a local of a name and type is
+// How a statement changes the stack once its values are evaluated: a name is deleted at a place, a local of a name, type and birth is
 // registered, a name is alive again.
 pub enum Change {
     Nothing,
     Delete(u16, u32),
-    Register(u16, u16),
+    Register(u16, u16, u32),
     Revive(u16),
 }
 
@@ -146,7 +147,7 @@ fn takes<'a>(
 ) -> bool
     requires { ⌜ AllWithin (now s) (now ns) × (n ≤ 64) ⌝ }
     ensures { λ r. ⌜ ((T : Tables) → map (nameOf (now (s .entry))) (now (ns .entry)) ≡ T .names
-        → (ld : List ℕ) (g : ℕ → Status) → r ≡ takesOver T (shape (lent (now (ln .entry)) (now (lt .entry)) ld g n)) temp name ty) ⌝ }
+        → (ld births : List ℕ) (g : ℕ → Status) → r ≡ takesOver T (shape (lent (now (ln .entry)) (now (lt .entry)) ld births g n)) temp name ty) ⌝ }
 {
     if temp == name {
         return false;
@@ -177,8 +178,8 @@ fn consumed_compiler_temp_from_value<'a>(
 ) -> Named
     requires { ⌜ AllWithin (now s) (now ns) × (n ≤ 64) ⌝ }
     ensures { λ r. ⌜ ((T : Tables) → map (nameOf (now (s .entry))) (now (ns .entry)) ≡ T .names
-        → (ld : List ℕ) (g : ℕ → Status) → (e : Expr) (next : ℕ) → Stands e (now (s .entry)) value next
-        → (σ : Scope Status) → takenIn r σ ≡ applyAll states (takeOver T (shape (lent (now (ln .entry)) (now (lt .entry)) ld g n)) name ty e) σ) ⌝ }
+        → (ld births : List ℕ) (g : ℕ → Status) → (e : Expr) (next : ℕ) → Stands e (now (s .entry)) value next
+        → (σ : Scope Status) → takenIn r σ ≡ applyAll states (takeOver T (shape (lent (now (ln .entry)) (now (lt .entry)) ld births g n)) name ty e) σ) ⌝ }
 {
     let named = name_in(s, value);
     let Named::Called(temp, _) = named else {
@@ -202,8 +203,8 @@ fn consumed_compiler_temp_from_assign<'a>(
 ) -> Named
     requires { ⌜ AllWithin (now s) (now ns) × (n ≤ 64) ⌝ }
     ensures { λ r. ⌜ ((T : Tables) → map (nameOf (now (s .entry))) (now (ns .entry)) ≡ T .names
-        → (ld : List ℕ) (g : ℕ → Status) → (e : Expr) (next : ℕ) → Stands e (now (s .entry)) value next
-        → (σ : Scope Status) → takenIn r σ ≡ applyAll states (takeFrom T (shape (lent (now (ln .entry)) (now (lt .entry)) ld g n)) name (staticOf name (shape (lent (now (ln .entry)) (now (lt .entry)) ld g n))) e) σ) ⌝ }
+        → (ld births : List ℕ) (g : ℕ → Status) → (e : Expr) (next : ℕ) → Stands e (now (s .entry)) value next
+        → (σ : Scope Status) → takenIn r σ ≡ applyAll states (takeFrom T (shape (lent (now (ln .entry)) (now (lt .entry)) ld births g n)) name (staticOf name (shape (lent (now (ln .entry)) (now (lt .entry)) ld births g n))) e) σ) ⌝ }
 {
     let found = scope_state::find_local(ln, n, name);
     let Found::At(i) = found else {
@@ -361,10 +362,11 @@ fn variable_statement<'a>(
     requires { ⌜ AllWithin (now s) (now ns) × (n ≤ 64) × Within (now s) p × FrontThere (now s) (p .at) end
         × (3 < getD (now s) (p .at) 0) × (getD (now s) (p .at) 0 < 6) ⌝ }
     ensures { λ a. ⌜ ((T : Tables) → map (nameOf (now (s .entry))) (now (ns .entry)) ≡ T .names
-        → (ld : List ℕ) (g : ℕ → Status) → (warns left : List ℕ) (loop : Option ℕ)
-        → ActsThere T (now (s .entry)) loop (lent (now (ln .entry)) (now (lt .entry)) ld g n) p (now (out .entry)) warns left a (now (out .exit)) warns left) ⌝ }
+        → (ld births : List ℕ) (g : ℕ → Status) → (warns left : List ℕ) (loop : Option ℕ)
+        → ActsThere T (now (s .entry)) loop (lent (now (ln .entry)) (now (lt .entry)) ld births g n) p (now (out .entry)) warns left a (now (out .exit)) warns left) ⌝ }
     ensures { λ a. ⌜ Grows (now (s .entry)) p (a .place) ⌝ }
 {
+    let born = span_at(s, p.at + 1);
     let name = name_at(s, p.at + 5);
     let ty = name_at(s, p.at + 7);
     let value = p.at + 9;
@@ -372,7 +374,7 @@ fn variable_statement<'a>(
     let place = behind(s, p, nothing_put(p), end, out);
     Act {
         place: place,
-        change: Change::Register(name, ty),
+        change: Change::Register(name, ty, born),
         taken: taken,
     }
 }
@@ -398,8 +400,8 @@ fn taken_by<'a>(
 ) -> Named
     requires { ⌜ AllWithin (now s) (now ns) × (n ≤ 64) × Walkable (now s) 24 destination ⌝ }
     ensures { λ r. ⌜ ((T : Tables) → map (nameOf (now (s .entry))) (now (ns .entry)) ≡ T .names
-        → (ld : List ℕ) (g : ℕ → Status) → (e v : Expr) (p q : ℕ) → Stands e (now (s .entry)) destination p → Stands v (now (s .entry)) p q
-        → (σ : Scope Status) → takenIn r σ ≡ applyAll states (assignTakes T (shape (lent (now (ln .entry)) (now (lt .entry)) ld g n)) e v) σ) ⌝ }
+        → (ld births : List ℕ) (g : ℕ → Status) → (e v : Expr) (p q : ℕ) → Stands e (now (s .entry)) destination p → Stands v (now (s .entry)) p q
+        → (σ : Scope Status) → takenIn r σ ≡ applyAll states (assignTakes T (shape (lent (now (ln .entry)) (now (lt .entry)) ld births g n)) e v) σ) ⌝ }
 {
     let named = name_in(s, destination);
     let Named::Called(name, _) = named else {
@@ -435,9 +437,9 @@ pub fn put_drops<'a>(
     at: usize,
 ) -> Put
     requires { ⌜ at < 4294900000 ⌝ }
-    ensures { λ r. ⌜ (r .at ≤ at + 1344) × (r .count ≤ 64) × ((T : Tables) (depths : List ℕ) (g : ℕ → Status) (n : ℕ) → Marked T (now (tys .entry)) g n mark
-        → Stored (now (out .entry)) at (deleteBytes (collect states T (admitted which) span (lent (now (names .entry)) (now (tys .entry)) depths g n))) (now (out .exit)) (r .at)
-        × (r .count ≡ length (collect states T (admitted which) span (lent (now (names .entry)) (now (tys .entry)) depths g n)))) ⌝ }
+    ensures { λ r. ⌜ (r .at ≤ at + 1344) × (r .count ≤ 64) × ((T : Tables) (depths births : List ℕ) (g : ℕ → Status) (n : ℕ) → Marked T (now (tys .entry)) g n mark
+        → Stored (now (out .entry)) at (deleteBytes (collect states T (admitted which) span (lent (now (names .entry)) (now (tys .entry)) depths births g n))) (now (out .exit)) (r .at)
+        × (r .count ≡ length (collect states T (admitted which) span (lent (now (names .entry)) (now (tys .entry)) depths births g n)))) ⌝ }
 {
     let mut m = mark;
     let mut place = at;
@@ -467,7 +469,7 @@ fn begin_lefts(paged: bool, span: u32, text: &mut [u8; 73])
     }
 }
 
-// A local left behind: two numbers, or a line.
+// A local left behind: three numbers, or a line.
 fn put_left(
     paged: bool,
     text: &[u8; 73],
@@ -476,19 +478,21 @@ fn put_left(
     at: usize,
     span: u32,
     name: u32,
+    born: u32,
 ) -> usize
     requires { ⌜ (at < 4294900000) × («paged» ≡ true → now text ≡ leftBegin span) ⌝ }
-    ensures { λ r. ⌜ Listed «paged» (left span name ∷ []) (now (lefts .entry)) (now (out .entry)) at (now (lefts .exit)) (now (out .exit)) r × (r ≤ at + 73) ⌝ }
+    ensures { λ r. ⌜ Listed «paged» (left span name born ∷ []) (now (lefts .entry)) (now (out .entry)) at (now (lefts .exit)) (now (out .exit)) r × (r ≤ at + 73) ⌝ }
 {
     if paged {
-        return image_lines::put_left_line(text, out, at, name);
+        return image_lines::put_left_line(text, out, at, name, born);
     }
-    image_writing::put_pair(lefts, at, span, name)
+    image_writing::put_triple(lefts, at, span, name, born)
 }
 
-// What a return without a value, a Break or a Continue leaves behind: the locals that a mark has, newest first, each as the span and the name.
-pub fn list_left(
-    names: &Names,
+// What a return without a value, a Break or a Continue leaves behind: the locals that a mark has, newest first, each as the span, the name and the birth.
+pub fn list_left<'a>(
+    names: &'a Names,
+    births: &'a Births,
     mark: u64,
     span: u32,
     paged: bool,
@@ -498,7 +502,7 @@ pub fn list_left(
 ) -> usize
     requires { ⌜ n < 4294800000 ⌝ }
     ensures { λ r. ⌜ (r ≤ n + 4672) × ((T : Tables) (tys depths : List ℕ) (g : ℕ → Status) (k : ℕ) → Marked T tys g k mark
-        → Listed «paged» (leftBehind span (collect states T (admitted All) 0 (lent (now (names .entry)) tys depths g k))) (now (lefts .entry)) (now (out .entry)) n (now (lefts .exit)) (now (out .exit)) r) ⌝ }
+        → Listed «paged» (gather states T (admitted All) (leftAt span) (lent (now (names .entry)) tys depths (now (births .entry)) g k)) (now (lefts .entry)) (now (out .entry)) n (now (lefts .exit)) (now (out .exit)) r) ⌝ }
 {
     let mut text = [32u8; 73];
     begin_lefts(paged, span, &mut text);
@@ -506,7 +510,16 @@ pub fn list_left(
     let mut at = n;
     while 0 < rest {
         let i = scope_stack::newest(rest);
-        at = put_left(paged, &text, out, lefts, at, span, number(names[i]));
+        at = put_left(
+            paged,
+            &text,
+            out,
+            lefts,
+            at,
+            span,
+            number(names[i]),
+            births[i],
+        );
         rest = scope_stack::without(rest, i);
     }
     at
@@ -524,9 +537,9 @@ pub fn put_assign_drop<'a>(
     at: usize,
 ) -> Put
     requires { ⌜ (count ≤ 64) × (at < 4294900000) ⌝ }
-    ensures { λ r. ⌜ (r .at ≤ at + 21) × (r .count ≤ 1) × ((T : Tables) (depths : List ℕ) (g : ℕ → Status) → Marked T (now (tys .entry)) g count mark
-        → Stored (now (out .entry)) at (deleteBytes (dropNamed states T span (called name 0) (lent (now (names .entry)) (now (tys .entry)) depths g count))) (now (out .exit)) (r .at)
-        × (r .count ≡ length (dropNamed states T span (called name 0) (lent (now (names .entry)) (now (tys .entry)) depths g count)))) ⌝ }
+    ensures { λ r. ⌜ (r .at ≤ at + 21) × (r .count ≤ 1) × ((T : Tables) (depths births : List ℕ) (g : ℕ → Status) → Marked T (now (tys .entry)) g count mark
+        → Stored (now (out .entry)) at (deleteBytes (dropNamed states T span (called name 0) (lent (now (names .entry)) (now (tys .entry)) depths births g count))) (now (out .exit)) (r .at)
+        × (r .count ≡ length (dropNamed states T span (called name 0) (lent (now (names .entry)) (now (tys .entry)) depths births g count)))) ⌝ }
 {
     let Found::At(i) = scope_state::find_local(names, count, name) else {
         return Put { at: at, count: 0 };
@@ -559,8 +572,8 @@ fn return_statement<'a>(
     out: &mut [u8],
 ) -> Act
     requires { ⌜ Within (now s) p × FrontThere (now s) (p .at) end × (getD (now s) (p .at) 0 ≡ 2) × (getD (now s) (p .at + 5) 0 ≡ 1) ⌝ }
-    ensures { λ a. ⌜ ((T : Tables) (ld : List ℕ) (g : ℕ → Status) (n : ℕ) → Marked T (now (lt .entry)) g n mark → (warns left : List ℕ) (loop : Option ℕ)
-        → ActsThere T (now (s .entry)) loop (lent (now (ln .entry)) (now (lt .entry)) ld g n) p (now (out .entry)) warns left a (now (out .exit)) warns left) ⌝ }
+    ensures { λ a. ⌜ ((T : Tables) (ld births : List ℕ) (g : ℕ → Status) (n : ℕ) → Marked T (now (lt .entry)) g n mark → (warns left : List ℕ) (loop : Option ℕ)
+        → ActsThere T (now (s .entry)) loop (lent (now (ln .entry)) (now (lt .entry)) ld births g n) p (now (out .entry)) warns left a (now (out .exit)) warns left) ⌝ }
     ensures { λ a. ⌜ Grows (now (s .entry)) p (a .place) × EndsThere (now (s .entry)) (p .at) (a .place .at) ⌝ }
 {
     let which = returned_identifier_name(s, p.at + 6);
@@ -591,14 +604,22 @@ fn listed(p: Place, lefts: usize) -> Place
 }
 
 // A Return without a value: what is left behind is listed.
-fn bare_return(s: &[u8], ln: &Names, mark: u64, p: Place, out: &mut [u8], lefts: &mut [u32]) -> Act
+fn bare_return<'a>(
+    s: &[u8],
+    ln: &'a Names,
+    lb: &'a Births,
+    mark: u64,
+    p: Place,
+    out: &mut [u8],
+    lefts: &mut [u32],
+) -> Act
     requires { ⌜ Within (now s) p × FrontThere (now s) (p .at) (p .at + 6) × (getD (now s) (p .at) 0 ≡ 2) × (getD (now s) (p .at + 5) 0 ≡ 0) ⌝ }
     ensures { λ a. ⌜ ((T : Tables) (lt ld : List ℕ) (g : ℕ → Status) (n : ℕ) → Marked T lt g n mark → (warns : List ℕ) (loop : Option ℕ)
-        → ActsThere T (now (s .entry)) loop (lent (now (ln .entry)) lt ld g n) p (now (out .entry)) warns (now (lefts .entry)) a (now (out .exit)) warns (now (lefts .exit))) ⌝ }
+        → ActsThere T (now (s .entry)) loop (lent (now (ln .entry)) lt ld (now (lb .entry)) g n) p (now (out .entry)) warns (now (lefts .entry)) a (now (out .exit)) warns (now (lefts .exit))) ⌝ }
     ensures { λ a. ⌜ Grows (now (s .entry)) p (a .place) × EndsThere (now (s .entry)) (p .at) (a .place .at) ⌝ }
 {
     let span = span_at(s, p.at + 1);
-    let left = list_left(ln, mark, span, p.paged, out, lefts, p.lefts);
+    let left = list_left(ln, lb, mark, span, p.paged, out, lefts, p.lefts);
     let place = behind(s, listed(p, left), nothing_put(p), p.at + 8, out);
     Act {
         place: place,
@@ -608,9 +629,10 @@ fn bare_return(s: &[u8], ln: &Names, mark: u64, p: Place, out: &mut [u8], lefts:
 }
 
 // A Break or Continue: what the frames out to the nearest loop's body leave behind is listed, that is the locals from base on.
-fn jump_statement(
+fn jump_statement<'a>(
     s: &[u8],
-    ln: &Names,
+    ln: &'a Names,
+    lb: &'a Births,
     mark: u64,
     base: usize,
     p: Place,
@@ -619,12 +641,12 @@ fn jump_statement(
 ) -> Act
     requires { ⌜ Within (now s) p × FrontThere (now s) (p .at) (p .at + 5) × (8 < getD (now s) (p .at) 0) × (base ≤ 64) ⌝ }
     ensures { λ a. ⌜ ((T : Tables) (lt ld : List ℕ) (g : ℕ → Status) (n : ℕ) → Marked T lt g n mark → (loop : Option ℕ) → Looped ld loop base n → (warns : List ℕ)
-        → ActsThere T (now (s .entry)) loop (lent (now (ln .entry)) lt ld g n) p (now (out .entry)) warns (now (lefts .entry)) a (now (out .exit)) warns (now (lefts .exit))) ⌝ }
+        → ActsThere T (now (s .entry)) loop (lent (now (ln .entry)) lt ld (now (lb .entry)) g n) p (now (out .entry)) warns (now (lefts .entry)) a (now (out .exit)) warns (now (lefts .exit))) ⌝ }
     ensures { λ a. ⌜ Grows (now (s .entry)) p (a .place) × EndsThere (now (s .entry)) (p .at) (a .place .at) ⌝ }
 {
     let span = span_at(s, p.at + 1);
     let own = scope_stack::since(mark, base);
-    let left = list_left(ln, own, span, p.paged, out, lefts, p.lefts);
+    let left = list_left(ln, lb, own, span, p.paged, out, lefts, p.lefts);
     let place = behind(s, listed(p, left), nothing_put(p), p.at + 5, out);
     Act {
         place: place,
@@ -638,6 +660,7 @@ fn either_return<'a>(
     s: &[u8],
     ln: &'a Names,
     lt: &'a Types,
+    lb: &'a Births,
     mark: u64,
     p: Place,
     end: usize,
@@ -646,13 +669,13 @@ fn either_return<'a>(
 ) -> Act
     requires { ⌜ Within (now s) p × FrontThere (now s) (p .at) end × (getD (now s) (p .at) 0 ≡ 2) ⌝ }
     ensures { λ a. ⌜ ((T : Tables) (ld : List ℕ) (g : ℕ → Status) (n : ℕ) → Marked T (now (lt .entry)) g n mark → (warns : List ℕ) (loop : Option ℕ)
-        → ActsThere T (now (s .entry)) loop (lent (now (ln .entry)) (now (lt .entry)) ld g n) p (now (out .entry)) warns (now (lefts .entry)) a (now (out .exit)) warns (now (lefts .exit))) ⌝ }
+        → ActsThere T (now (s .entry)) loop (lent (now (ln .entry)) (now (lt .entry)) ld (now (lb .entry)) g n) p (now (out .entry)) warns (now (lefts .entry)) a (now (out .exit)) warns (now (lefts .exit))) ⌝ }
     ensures { λ a. ⌜ Grows (now (s .entry)) p (a .place) × EndsThere (now (s .entry)) (p .at) (a .place .at) ⌝ }
 {
     if peek(s, p.at + 5) == 1 {
         return return_statement(s, ln, lt, mark, p, end, out);
     }
-    bare_return(s, ln, mark, p, out, lefts)
+    bare_return(s, ln, lb, mark, p, out, lefts)
 }
 
 // pre_delete_before_assign: the destination at a position is an Ident, not a ThisLiteral.
@@ -668,10 +691,10 @@ fn pre_delete_before_assign<'a>(
     at: usize,
 ) -> Put
     requires { ⌜ (n ≤ 64) × (at < 4294900000) ⌝ }
-    ensures { λ r. ⌜ (r .at ≤ at + 21) × (r .count ≤ 1) × ((T : Tables) (ld : List ℕ) (g : ℕ → Status) → Marked T (now (lt .entry)) g n mark
+    ensures { λ r. ⌜ (r .at ≤ at + 21) × (r .count ≤ 1) × ((T : Tables) (ld births : List ℕ) (g : ℕ → Status) → Marked T (now (lt .entry)) g n mark
         → (e : Expr) (next : ℕ) → Stands e (now (s .entry)) destination next
-        → Stored (now (out .entry)) at (deleteBytes (assignDrops states T span e (lent (now (ln .entry)) (now (lt .entry)) ld g n))) (now (out .exit)) (r .at)
-        × (r .count ≡ length (assignDrops states T span e (lent (now (ln .entry)) (now (lt .entry)) ld g n)))) ⌝ }
+        → Stored (now (out .entry)) at (deleteBytes (assignDrops states T span e (lent (now (ln .entry)) (now (lt .entry)) ld births g n))) (now (out .exit)) (r .at)
+        × (r .count ≡ length (assignDrops states T span e (lent (now (ln .entry)) (now (lt .entry)) ld births g n)))) ⌝ }
 {
     let p = image_body::strip_noop_unary(s, destination);
     let Node::Ident(_) = image_body::node_at(s, p) else {
@@ -695,8 +718,8 @@ fn assign_statement<'a>(
 ) -> Act
     requires { ⌜ AllWithin (now s) (now ns) × (n ≤ 64) × Within (now s) p × FrontThere (now s) (p .at) end × (getD (now s) (p .at) 0 ≡ 6) ⌝ }
     ensures { λ a. ⌜ ((T : Tables) → map (nameOf (now (s .entry))) (now (ns .entry)) ≡ T .names
-        → (ld : List ℕ) (g : ℕ → Status) → Marked T (now (lt .entry)) g n mark → (warns left : List ℕ) (loop : Option ℕ)
-        → ActsThere T (now (s .entry)) loop (lent (now (ln .entry)) (now (lt .entry)) ld g n) p (now (out .entry)) warns left a (now (out .exit)) warns left) ⌝ }
+        → (ld births : List ℕ) (g : ℕ → Status) → Marked T (now (lt .entry)) g n mark → (warns left : List ℕ) (loop : Option ℕ)
+        → ActsThere T (now (s .entry)) loop (lent (now (ln .entry)) (now (lt .entry)) ld births g n) p (now (out .entry)) warns left a (now (out .exit)) warns left) ⌝ }
     ensures { λ a. ⌜ Grows (now (s .entry)) p (a .place) × EndsThere (now (s .entry)) (p .at) (a .place .at) ⌝ }
 {
     let span = span_at(s, p.at + 1);
@@ -727,6 +750,7 @@ pub fn statement<'a>(
     tb: &[u32],
     ln: &'a Names,
     lt: &'a Types,
+    lb: &'a Births,
     n: usize,
     mark: u64,
     base: usize,
@@ -739,19 +763,19 @@ pub fn statement<'a>(
     requires { ⌜ Lent (now s) (now tb) × (n ≤ 64) × (base ≤ 64) × Within (now s) p × FrontThere (now s) (p .at) end ⌝ }
     ensures { λ a. ⌜ ((T : Tables) → Says (now (s .entry)) (now (tb .entry)) T
         → (ld : List ℕ) (g : ℕ → Status) → Marked T (now (lt .entry)) g n mark → (loop : Option ℕ) → Looped ld loop base n
-        → ActsThere T (now (s .entry)) loop (lent (now (ln .entry)) (now (lt .entry)) ld g n) p (now (out .entry)) (now (warns .entry)) (now (lefts .entry)) a (now (out .exit)) (now (warns .exit)) (now (lefts .exit))) ⌝ }
+        → ActsThere T (now (s .entry)) loop (lent (now (ln .entry)) (now (lt .entry)) ld (now (lb .entry)) g n) p (now (out .entry)) (now (warns .entry)) (now (lefts .entry)) a (now (out .exit)) (now (warns .exit)) (now (lefts .exit))) ⌝ }
     ensures { λ a. ⌜ Grows (now (s .entry)) p (a .place) × EndsThere (now (s .entry)) (p .at) (a .place .at) ⌝ }
 {
     let at = p.at;
     let tag = s[at];
     if tag == 2 {
-        return either_return(s, ln, lt, mark, p, end, out, lefts);
+        return either_return(s, ln, lt, lb, mark, p, end, out, lefts);
     }
     if tag == 3 {
         return expr_statement(s, tb, p, end, out, warns);
     }
     if 8 < tag {
-        return jump_statement(s, ln, mark, base, p, out, lefts);
+        return jump_statement(s, ln, lb, mark, base, p, out, lefts);
     }
     let names = 8 + tb[0] as usize;
     let ns = &tb[8..names];

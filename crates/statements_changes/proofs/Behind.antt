@@ -37,7 +37,7 @@ use Rattle.image_lines.specs.Told.{Listed}
 use Rattle.image_lines.proofs.Told.{lined-retold}
 use Rattle.statements_steps.proofs.Lists.{front-errors}
 use Rattle.statements_changes.specs.declared.Cursor.{Cursor}
-use Rattle.rules.specs.Rules.{states, register}
+use Rattle.rules.specs.Rules.{declared, states, register}
 use Rattle.rules.proofs.Shapes.{shape-mark}
 use Rattle.statements_acts.specs.declared.Change.{Change}
 use Rattle.statements_acts.specs.declared.Change.the-variants as change
@@ -196,8 +196,8 @@ module _ (T : Tables) (s : List ℕ) (small : Bytes s) (left : ℕ) (loop : Opti
   by-change false (change.Delete n p) eb ec r er =
       rw er (stands (mark n (states .killed deleted p) σ) (acted-leads eb (takenIn (a .taken) (mark n (states .killed deleted p) σ))
       (ap (λ (x : Change). takenIn (a .taken) (changeIn (12 - left) x σ)) (sym ec)) (taken-few (mark n (states .killed deleted p) σ) (length-marked n (states .killed deleted p) σ))))
-  by-change false (change.Register n t) eb ec r er =
-      let τ = register states n t (12 - left) σ in
+  by-change false (change.Register n t p) eb ec r er =
+      let τ = register states (declared (12 - left) p n t) σ in
       let is : takenIn (a .taken) τ ≡ takenIn (a .taken) (changeIn (12 - left) (a .change) σ) = ap (λ (x : Change). takenIn (a .taken) (changeIn (12 - left) x σ)) (sym ec) in
       let m : tooMany version1 (takenIn (a .taken) τ) ≡ tooMany version1 τ = same-many (takenIn (a .taken) τ) τ (length-taken (a .taken) τ) in
       rw er (

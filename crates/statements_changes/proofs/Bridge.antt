@@ -28,7 +28,7 @@ low-of k h s =
 
 module _ (l : Locals) (t : States) (rows : List ℕ) (cur width : ℕ) where
   pub lends-view : {P : Tables → Type 0} → Sound P l t rows cur width → (T : Tables) → P T → (mark : ℕ) → mark ≡ markOf l t
-      → (loop : Option ℕ) (base : ℕ) → Looped (l .depths) loop base (l .count) → Lends T mark loop base (l .names) (l .types) (l .depths) (stateAt t rows cur width) (l .count) (view l t rows cur width)
+      → (loop : Option ℕ) (base : ℕ) → Looped (l .depths) loop base (l .count) → Lends T mark loop base (l .names) (l .types) (l .depths) (l .births) (stateAt t rows cur width) (l .count) (view l t rows cur width)
   lends-view s T p mark e loop base j = record { held = refl; marked = e ∙ s .marked T p; jumps = j }
 
   -- what the walk asks of states and rows

@@ -155,7 +155,7 @@ module _ (s : List ℕ) (left : ℕ) (c : Cursor) (st : SomeSteady s left c) (on
         rw er (λ ns. (tag-there s small (read-there .t) (read-there .deep) left (c .place .at) (here .x) (here .next) (here .read) behind walked eb, as-within (c .place .errors) few-errors, eb, refl), omega arith, refl, grows-behind)
     fit-by false change.Nothing eb r er = let l = go-on .some in rw er (λ ns. steady-plain eb (a .taken) ns, omega arith, refl, grows-behind)
     fit-by false (change.Delete n p) eb r er = let l = go-on .some in rw er (λ ns. (steady-plain eb (a .taken) ns, omega arith), omega arith, refl, grows-behind)
-    fit-by false (change.Register n t) eb r er = let l = go-on .some in rw er (λ ns. steady-plain eb (a .taken) ns, omega arith, refl, grows-behind)
+    fit-by false (change.Register n t p) eb r er = let l = go-on .some in rw er (λ ns. steady-plain eb (a .taken) ns, omega arith, refl, grows-behind)
     fit-by false (change.Revive n) eb r er = let l = go-on .some in rw er (λ ns. (steady-plain eb (a .taken) ns, omega arith), omega arith, refl, grows-behind)
 
     pub fit-came : (r : Came) → r ≡ cameOf (getD s (c .place .at) 0) (c .left - 1) behind (a .change) (a .taken)

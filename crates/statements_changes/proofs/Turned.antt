@@ -178,14 +178,14 @@ pub marks-something : (c : Cursor) (n k p : ℕ) (o : Bool) (r : Came) → r ≡
 marks-something c n k p o r er e = no-mark n k p o (sym (ap (λ (x : Came). x .turn) er) ∙ e)
 
 -- what the loop over statements keeps
-module _ (s tb : List ℕ) (left : ℕ) (ln lt : List ℕ) (at : ℕ → Status) (n mark base : ℕ) (ns₀ : List ℕ) (c₀ : Cursor) (out₀ errs₀ warns₀ lefts₀ : List ℕ) where
+module _ (s tb : List ℕ) (left : ℕ) (ln lt lb : List ℕ) (at : ℕ → Status) (n mark base : ℕ) (ns₀ : List ℕ) (c₀ : Cursor) (out₀ errs₀ warns₀ lefts₀ : List ℕ) where
   pub record Turning (ns : List ℕ) (c : Cursor) (out errs warns lefts : List ℕ) : Type 0 where
     pub steady : Steady s left ns c
     pub room : length ns ≡ 26
     pub less : ahead s c ≤ ahead s c₀
     pub grown : Grows s (retold (c₀ .place) 0) (retold (c .place) 0)
     pub lent : (length out ≡ length out₀) × (length errs ≡ length errs₀) × (length warns ≡ length warns₀) × (length lefts ≡ length lefts₀)
-    pub stood : (T : Tables) → Says s tb T → (ld : List ℕ) (σ : Scope Status) (loop : Option ℕ) → Lends T mark loop base ln lt ld at n σ → (all : ℕ) (σ₀ : Scope Status) (p₀ : Place) (m₀ : Memory)
+    pub stood : (T : Tables) → Says s tb T → (ld : List ℕ) (σ : Scope Status) (loop : Option ℕ) → Lends T mark loop base ln lt ld lb at n σ → (all : ℕ) (σ₀ : Scope Status) (p₀ : Place) (m₀ : Memory)
         → Stood T s left (12 - left) loop all σ₀ p₀ m₀ ns₀ c₀ σ (memory out₀ errs₀ warns₀ lefts₀) → Stood T s left (12 - left) loop all σ₀ p₀ m₀ ns c σ (memory out errs warns lefts)
 
   pub turning-start : Steady s left ns₀ c₀ → length ns₀ ≡ 26 → Turning ns₀ c₀ out₀ errs₀ warns₀ lefts₀

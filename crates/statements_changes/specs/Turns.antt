@@ -11,7 +11,7 @@ use Rattle.image_body.specs.Expr.{Scope as Reading, Exprs}
 use Rattle.image_body.specs.Stmt.{Tree, stmtsAt}
 use Rattle.rules.specs.State.{State as Status}
 use Rattle.rules.specs.Stack.{mark, Stack as Scope}
-use Rattle.rules.specs.Rules.{states, register}
+use Rattle.rules.specs.Rules.{declared, states, register}
 use Rattle.rules.specs.Walk.{tooMany, walkFault}
 use Rattle.expressions_steps.specs.Scan.{Stage, Stacked, Ready, fuel, rootOf, topOf}
 use Rattle.expressions_steps.specs.declared.Open.{Open}
@@ -35,8 +35,8 @@ use Rattle.statements_changes.specs.declared.Cursor.{Cursor}
 use Rattle.statements_changes.specs.declared.Came.{Came}
 
 -- the stack is that of the first n locals of lent arrays, the mark is its mark, and those from base on are the nearest loop's
-pub record Lends (T : Tables) (mark : ℕ) (loop : Option ℕ) (base : ℕ) (names types depths : List ℕ) (at : ℕ → Status) (n : ℕ) (σ : Scope Status) : Type 0 where
-  pub held : σ ≡ lent names types depths at n
+pub record Lends (T : Tables) (mark : ℕ) (loop : Option ℕ) (base : ℕ) (names types depths births : List ℕ) (at : ℕ → Status) (n : ℕ) (σ : Scope Status) : Type 0 where
+  pub held : σ ≡ lent names types depths births at n
   pub marked : Marked T types at n mark
   pub jumps : Looped depths loop base n
 
@@ -55,7 +55,7 @@ withinOf left nodes at p = record { left = left; begun = true; nodes = nodes; at
 abbrev pub turnOf : Change → Turn
 turnOf change.Nothing = Nothing
 turnOf (change.Delete n p) = Mark n 1 p false
-turnOf (change.Register n t) = Register n t
+turnOf (change.Register n t p) = Register n t p
 turnOf (change.Revive n) = Mark n 0 0 false
 
 abbrev pub cameOf : ℕ → ℕ → Place → Change → Named → Came
@@ -89,9 +89,9 @@ module _ (T : Tables) (s : List ℕ) (left d : ℕ) (loop : Option ℕ) (all : �
   After ns c σ m Nothing = Stood ns c σ m
   After ns c σ m Over = LeadsAll T s left d loop all σ₀ p₀ m₀ 0 σ (c .place) m
   After ns c σ m (Mark n k p o) = Stood ns c (mark n (put o (said k (p ∷ []))) σ) m
-  After ns c σ m (Register n t) =
-      (tooMany version1 (register states n t d σ) ≡ none → Stood ns c (register states n t d σ) m)
-      × (0 < numberOf (tooMany version1 (register states n t d σ)) → Faulty (numberOf (tooMany version1 (register states n t d σ))))
+  After ns c σ m (Register n t p) =
+      (tooMany version1 (register states (declared d p n t) σ) ≡ none → Stood ns c (register states (declared d p n t) σ) m)
+      × (0 < numberOf (tooMany version1 (register states (declared d p n t) σ)) → Faulty (numberOf (tooMany version1 (register states (declared d p n t) σ))))
   After ns c σ m (Blocks tag) =
       (w : Walked) (m′ : Memory) → TagWalks T s left d loop tag σ (c .place) m w m′
       → (0 < w .fault → StmtsWalk T s left d loop all σ₀ p₀ m₀ w m′) × (w .fault ≤ 0 → LeadsAll T s left d loop all σ₀ p₀ m₀ (c .left) (w .locals) (w .place) m′)
@@ -121,7 +121,7 @@ abbrev pub Fit : List ℕ → ℕ → List ℕ → Cursor → Turn → Type 0
 Fit s left ns c Nothing = Steady s left ns c
 Fit s left ns c Over = (c .left ≡ 0) × Within s (c .place)
 Fit s left ns c (Mark n k p o) = Steady s left ns c × (k < 7)
-Fit s left ns c (Register n t) = Steady s left ns c
+Fit s left ns c (Register n t p) = Steady s left ns c
 Fit s left ns c (Blocks tag) = TagThere s left (c .place .at) tag × Within s (c .place) × (blocked tag ≡ true) × (c .begun ≡ false)
 
 -- what is still ahead of a cursor: it falls with each turn

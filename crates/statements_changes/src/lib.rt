@@ -19,6 +19,7 @@ ghost use Rattle.statements_acts.specs.declared.Named.the-variants.{Nobody};
 ghost use Rattle.statements_changes.specs.declared.Turn.the-variants.{Nothing, Over, Mark};
 ghost use Rattle.statements_changes.specs.Turns.{Lends, retold, betweenOf, withinOf, cameOf, Stood, After, Steady, SomeSteady, Fit, ahead};
 use expressions_scan::Env;
+use scope_state::Births;
 use scope_state::Firsts;
 use scope_state::Kinds;
 use scope_state::Names;
@@ -29,12 +30,12 @@ use statements_acts::Named;
 use statements_acts::Place;
 
 // What the stack must do: nothing, the statements are over, a mark (name, kind, place, whether only what is Alive), a registration
-// (name, type), the blocks of a statement of a tag.
+// (name, type, birth), the blocks of a statement of a tag.
 pub enum Turn {
     Nothing,
     Over,
     Mark(u16, u8, u32, bool),
-    Register(u16, u16),
+    Register(u16, u16, u32),
     Blocks(u8),
 }
 
@@ -131,9 +132,9 @@ fn turn_of(tag: u8, left: usize, place: Place, change: Change, taken: Named) -> 
             cursor: c,
             turn: Turn::Mark(name, 1, span, false),
         },
-        Change::Register(name, ty) => Came {
+        Change::Register(name, ty, born) => Came {
             cursor: c,
-            turn: Turn::Register(name, ty),
+            turn: Turn::Register(name, ty, born),
         },
         Change::Revive(name) => Came {
             cursor: c,
@@ -149,6 +150,7 @@ fn acted<'a>(
     env: Env,
     ln: &'a Names,
     lt: &'a Types,
+    lb: &'a Births,
     c: Cursor,
     out: &mut [u8],
     warns: &mut [u32],
@@ -157,7 +159,7 @@ fn acted<'a>(
     requires { ⌜ Lent (now s) (now tb) × (env .locals ≤ 64) × (env .base ≤ 64) × (env .left ≤ 12)
         × SomeSteady (now s) (env .left) c × (c .begun ≡ true) × (c .nodes ≡ 0) ⌝ }
     ensures { λ r. ⌜ ((T : Tables) → Says (now (s .entry)) (now (tb .entry)) T
-        → (ld : List ℕ) (at : ℕ → Status) (σ : Scope Status) (loop : Option ℕ) → Lends T (env .mark) loop (env .base) (now (ln .entry)) (now (lt .entry)) ld at (env .locals) σ
+        → (ld : List ℕ) (at : ℕ → Status) (σ : Scope Status) (loop : Option ℕ) → Lends T (env .mark) loop (env .base) (now (ln .entry)) (now (lt .entry)) ld (now (lb .entry)) at (env .locals) σ
         → (all : ℕ) (σ₀ : Scope Status) (p₀ : Place) (m₀ : Memory) (nodes errs : List ℕ)
         → Stood T (now (s .entry)) (env .left) (12 - env .left) loop all σ₀ p₀ m₀ nodes c σ (memory (now (out .entry)) errs (now (warns .entry)) (now (lefts .entry)))
         → After T (now (s .entry)) (env .left) (12 - env .left) loop all σ₀ p₀ m₀ nodes (r .cursor) σ (memory (now (out .exit)) errs (now (warns .exit)) (now (lefts .exit))) (r .turn)) ⌝ }
@@ -172,7 +174,7 @@ fn acted<'a>(
     let m = env.mark;
     let base = env.base;
     let q = told(p, 0);
-    let a = statements_acts::statement(s, tb, ln, lt, n, m, base, q, end, out, warns, lefts);
+    let a = statements_acts::statement(s, tb, ln, lt, lb, n, m, base, q, end, out, warns, lefts);
     let y = a.place;
     let z = told(y, p.errors);
     let change = a.change;
@@ -251,8 +253,8 @@ fn scanned<'a>(
     requires { ⌜ Lent (now s) (now tb) × AllKept (now lk) (now lf) (now rows) (env .cur) (env .width) (env .locals)
         × Steady (now s) (env .left) (now nodes) c × (c .begun ≡ true) ⌝ }
     ensures { λ r. ⌜ ((T : Tables) → Says (now (s .entry)) (now (tb .entry)) T
-        → (types depths : List ℕ) (σ : Scope Status)
-        → σ ≡ lent (now (ln .entry)) types depths (stateIn (now (lk .entry)) (now (lf .entry)) (now (rows .entry)) (env .cur) (env .width)) (env .locals)
+        → (types depths births : List ℕ) (σ : Scope Status)
+        → σ ≡ lent (now (ln .entry)) types depths births (stateIn (now (lk .entry)) (now (lf .entry)) (now (rows .entry)) (env .cur) (env .width)) (env .locals)
         → (loop : Option ℕ) (all : ℕ) (σ₀ : Scope Status) (p₀ : Place) (m₀ : Memory) (warns lefts : List ℕ)
         → Stood T (now (s .entry)) (env .left) (12 - env .left) loop all σ₀ p₀ m₀ (now (nodes .entry)) c σ (memory (now (out .entry)) (now (errs .entry)) warns lefts)
         → After T (now (s .entry)) (env .left) (12 - env .left) loop all σ₀ p₀ m₀ (now (nodes .exit)) (r .cursor) σ (memory (now (out .exit)) (now (errs .exit)) warns lefts) (r .turn)) ⌝ }
@@ -291,7 +293,7 @@ fn is_nothing(came: Came) -> bool
         Turn::Nothing => true,
         Turn::Over => false,
         Turn::Mark(_, _, _, _) => false,
-        Turn::Register(_, _) => false,
+        Turn::Register(_, _, _) => false,
         Turn::Blocks(_) => false,
     }
 }
@@ -303,6 +305,7 @@ pub fn next_change<'a>(
     env: Env,
     ln: &'a Names,
     lt: &'a Types,
+    lb: &'a Births,
     lk: &'a Kinds,
     lf: &'a Firsts,
     rows: &[u32],
@@ -317,7 +320,7 @@ pub fn next_change<'a>(
         × (env .left ≤ 12) × (env .base ≤ 64) × Steady (now s) (env .left) (now nodes) cursor × (length (now nodes) ≡ 26) ⌝ }
     ensures { λ r. ⌜ ((T : Tables) → Says (now (s .entry)) (now (tb .entry)) T
         → (ld : List ℕ) (σ : Scope Status) (loop : Option ℕ)
-        → Lends T (env .mark) loop (env .base) (now (ln .entry)) (now (lt .entry)) ld (stateIn (now (lk .entry)) (now (lf .entry)) (now (rows .entry)) (env .cur) (env .width)) (env .locals) σ
+        → Lends T (env .mark) loop (env .base) (now (ln .entry)) (now (lt .entry)) ld (now (lb .entry)) (stateIn (now (lk .entry)) (now (lf .entry)) (now (rows .entry)) (env .cur) (env .width)) (env .locals) σ
         → (all : ℕ) (σ₀ : Scope Status) (p₀ : Place) (m₀ : Memory)
         → Stood T (now (s .entry)) (env .left) (12 - env .left) loop all σ₀ p₀ m₀ (now (nodes .entry)) cursor σ (memory (now (out .entry)) (now (errs .entry)) (now (warns .entry)) (now (lefts .entry)))
         → After T (now (s .entry)) (env .left) (12 - env .left) loop all σ₀ p₀ m₀ (now (nodes .exit)) (r .cursor) σ (memory (now (out .exit)) (now (errs .exit)) (now (warns .exit)) (now (lefts .exit))) (r .turn)) ⌝ }
@@ -336,7 +339,7 @@ pub fn next_change<'a>(
         if !is_nothing(w) {
             return w;
         }
-        let r = acted(s, tb, env, ln, lt, w.cursor, out, warns, lefts);
+        let r = acted(s, tb, env, ln, lt, lb, w.cursor, out, warns, lefts);
         if !is_nothing(r) {
             return r;
         }

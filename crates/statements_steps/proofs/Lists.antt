@@ -1,39 +1,38 @@
 -- The three lists of what is reported, one after another.
 -- Assumes nothing.
 use Prim.Native.Nat.{ℕ}
-use mathlib.Core.Path.{_≡_, refl, sym, ap, _∙_}
-use mathlib.Core.Bool.{Bool, true, false}
-use mathlib.Core.List.{List, [], _∷_, _++_, append-assoc}
+use mathlib.Core.Path.{_≡_, refl, ap, _∙_}
+use mathlib.Core.Bool.{Bool, true, false, cond, _&&_}
+use mathlib.Core.List.{List, [], _∷_, _++_}
 use mathlib.Core.Option.{Option, some}
-use Rattle.tables.specs.Limits.{Limits}
 use Rattle.tables.specs.Tables.{Tables}
 use Rattle.image_body.specs.Stmt.{Tree, done, exprStmt, variable, assign, return, bareReturn, block, ifElse, ifThen, while, jump}
 use Rattle.rules.specs.Expr.{nobody}
-use Rattle.rules.specs.State.{State as Status, alive, gone, deleted, moved, consumed}
-use Rattle.rules.specs.Stack.{Local, local, lookup, Stack as Scope}
+use Rattle.rules.specs.Questions.{auto}
+use Rattle.rules.specs.State.{State as Status, isAlive, alive, gone, deleted, moved, consumed}
+use Rattle.rules.specs.Stack.{Static, Local, local, lookup, Stack as Scope}
 use Rattle.rules.specs.Effects.{Effect, use′, kill, hand, badMove, globalMove}
-use Rattle.rules.specs.Rules.{Drop, dropOf, states, apply, returnDrops, loopDrops}
-use Rattle.rules.specs.Report.{Report, error, warning, left, badUse, useOf, reportOf, reportAll, unused, leftBehind, errors, warnings, lefts}
-use Rattle.rules.specs.Verdict.{entryOf, entriesOf}
+use Rattle.rules.specs.Rules.{atReturn, atJump, concerns, gather, states, apply}
+use Rattle.rules.specs.Report.{Report, error, warning, left, badUse, useOf, reportOf, reportAll, unused, leftAt, errors, warnings, lefts}
 use Rattle.statements_steps.specs.Statement.{wrapped, frontReports}
 
 pub errors-append : (xs ys : List Report) → errors (xs ++ ys) ≡ errors xs ++ errors ys
 errors-append [] ys = refl
 errors-append (error k p h ps ∷ xs) ys = ap (λ (z : List Report). error k p h ps ∷ z) (errors-append xs ys)
 errors-append (warning s o ∷ xs) ys = errors-append xs ys
-errors-append (left s n ∷ xs) ys = errors-append xs ys
+errors-append (left s n b ∷ xs) ys = errors-append xs ys
 
 pub warnings-append : (xs ys : List Report) → warnings (xs ++ ys) ≡ warnings xs ++ warnings ys
 warnings-append [] ys = refl
 warnings-append (error k p h ps ∷ xs) ys = warnings-append xs ys
 warnings-append (warning s o ∷ xs) ys = ap (λ (z : List Report). warning s o ∷ z) (warnings-append xs ys)
-warnings-append (left s n ∷ xs) ys = warnings-append xs ys
+warnings-append (left s n b ∷ xs) ys = warnings-append xs ys
 
 pub lefts-append : (xs ys : List Report) → lefts (xs ++ ys) ≡ lefts xs ++ lefts ys
 lefts-append [] ys = refl
 lefts-append (error k p h ps ∷ xs) ys = lefts-append xs ys
 lefts-append (warning s o ∷ xs) ys = lefts-append xs ys
-lefts-append (left s n ∷ xs) ys = ap (λ (z : List Report). left s n ∷ z) (lefts-append xs ys)
+lefts-append (left s n b ∷ xs) ys = ap (λ (z : List Report). left s n b ∷ z) (lefts-append xs ys)
 
 -- only errors
 abbrev pub Errors : List Report → Type 0
@@ -71,9 +70,17 @@ pub all-errors : (es : List Effect) (σ : Scope Status) → Errors (reportAll es
 all-errors [] σ = (refl, refl, refl)
 all-errors (e ∷ es) σ = errors-both (reportOf e σ) (reportAll es (apply states e σ)) (of-errors e σ) (all-errors es (apply states e σ))
 
-left-errors : (s : ℕ) (x : List Drop) → errors (leftBehind s x) ≡ []
-left-errors s [] = refl
-left-errors s (dropOf p n t ∷ x) = left-errors s x
+-- only entries of what is left behind
+abbrev pub Lefts : List Report → Type 0
+Lefts xs = (errors xs ≡ []) × (warnings xs ≡ []) × (lefts xs ≡ xs)
+
+pub only-left : (T : Tables) (q : Static → Bool) (s : ℕ) (σ : Scope Status) → Lefts (gather states T q (leftAt s) σ)
+only-left T q s [] = (refl, refl, refl)
+only-left T q s (local x a ∷ σ) = go (q x && isAlive a && auto T (x .ty)) (only-left T q s σ)
+  where
+    go : (b : Bool) → Lefts (gather states T q (leftAt s) σ) → Lefts (cond b (leftAt s x ∷ gather states T q (leftAt s) σ) (gather states T q (leftAt s) σ))
+    go true o = (o .0, o .1, ap (λ (z : List Report). leftAt s x ∷ z) (o .2))
+    go false o = o
 
 -- a front reports none
 pub front-errors : (T : Tables) (c : Tree) (l : Option ℕ) (at : ℕ) (σ : Scope Status) → errors (frontReports T c l at σ) ≡ []
@@ -86,9 +93,9 @@ front-errors T (exprStmt s e y r) l at σ = go (wrapped T (exprStmt s e y r))
 front-errors T (variable k s n t e r) l at σ = refl
 front-errors T (assign s e v t x r) l at σ = refl
 front-errors T (return s e t x r) l at σ = refl
-front-errors T (bareReturn s t r) l at σ = left-errors s (returnDrops states T nobody σ)
+front-errors T (bareReturn s t r) l at σ = only-left T (λ x. concerns (atReturn nobody) x) s σ .0
 front-errors T (block s c r) l at σ = refl
 front-errors T (ifElse s e ts t us u r) l at σ = refl
 front-errors T (ifThen s e ts t r) l at σ = refl
 front-errors T (while s e ts t r) l at σ = refl
-front-errors T (jump k s r) l at σ = left-errors s (loopDrops states T l σ)
+front-errors T (jump k s r) l at σ = only-left T (λ x. concerns (atJump l) x) s σ .0

@@ -19,7 +19,7 @@ use Rattle.rules.specs.Expr.{Named, nobody, called, View, anIdent, aThis, aFiel
 use Rattle.rules.specs.State.{State as Status}
 use Rattle.rules.specs.Stack.{Shape, shape, pop, Stack as Scope}
 use Rattle.rules.specs.Effects.{Effect, group, resolveAll, effects, deletedIn, deletedBy, exprStmtEffects, takeOver, assignEffects}
-use Rattle.rules.specs.Rules.{Drop, dropOf, isDone, states, apply, applyAll, sureFrom, register, evaluate, afterExpr, afterVariable, beforeAssign, afterAssign, assignDrops, returnDrops, loopDrops, joins, merge, exit, decide}
+use Rattle.rules.specs.Rules.{Drop, dropOf, isDone, states, atReturn, atJump, declared, apply, applyAll, sureFrom, register, evaluate, afterExpr, afterVariable, beforeAssign, afterAssign, assignDrops, returnDrops, joins, merge, exit, decide}
 use Rattle.rules.specs.Report.{Report, reportOf, reportAll, deleteNode, identNode, inserts, flatten, report, exprBytes, codeBytes, unused, leftBehind}
 use Rattle.rules.specs.Walk.{walkFault, tooMany, tooWide}
 use Rattle.rules.specs.Verdict.{countsFit}
@@ -137,18 +137,18 @@ module _ (T : Tables) where
       ∙ ap (λ (x : List Effect). applyAll states x (evaluate states T e σ)) (deleted-same (shape σ) (shape (afterAll T (more e none) σ)) (view e))
       ∙ ap (λ (τ : Scope Status). applyAll states (deletedIn T (shape (afterAll T (more e none) σ)) (view e)) τ) (sym (after-one T σ e))
 
-  pub variable-after : (d n t : ℕ) (e : Expr) (σ : Scope Status)
-      → afterVariable states T d n t e σ ≡ applyAll states (takeOver T (shape (afterAll T (more e none) σ)) n t e) (register states n t d (afterAll T (more e none) σ))
-  variable-after d n t e σ =
+  pub variable-after : (d s n t : ℕ) (e : Expr) (σ : Scope Status)
+      → afterVariable states T (declared d s n t) e σ ≡ applyAll states (takeOver T (shape (afterAll T (more e none) σ)) n t e) (register states (declared d s n t) (afterAll T (more e none) σ))
+  variable-after d s n t e σ =
       let g : shape σ ≡ shape (afterAll T (more e none) σ) = sym (shape-all states (resolveAll (shape σ) (group T false (more e none))) σ) in
-      ap (λ (Γ : Shape). applyAll states (takeOver T Γ n t e) (register states n t d (evaluate states T e σ))) g
-      ∙ ap (λ (τ : Scope Status). applyAll states (takeOver T (shape (afterAll T (more e none) σ)) n t e) (register states n t d τ)) (sym (after-one T σ e))
+      ap (λ (Γ : Shape). applyAll states (takeOver T Γ n t e) (register states (declared d s n t) (evaluate states T e σ))) g
+      ∙ ap (λ (τ : Scope Status). applyAll states (takeOver T (shape (afterAll T (more e none) σ)) n t e) (register states (declared d s n t) τ)) (sym (after-one T σ e))
 
   -- the locals after a list of statements
   pub exit-step : (c : Tree) (d : ℕ) (σ : Scope Status) → exit states T c d σ ≡ exit states T (restOf c) d (ownAfter T c d σ)
   exit-step (done x) d σ = ap (pop d) (sym (after-none σ))
   exit-step (exprStmt s e y r) d σ = ap (exit states T r d) (expr-after e σ)
-  exit-step (variable k s n t e r) d σ = ap (exit states T r d) (variable-after d n t e σ)
+  exit-step (variable k s n t e r) d σ = ap (exit states T r d) (variable-after d s n t e σ)
   exit-step (assign s e v t x r) d σ = ap (λ (τ : Scope Status). exit states T r d (afterAssign states T e v τ)) (sym (after-two T σ e v))
   exit-step (return s e t x r) d σ = ap (exit states T r d) (sym (after-one T σ e))
   exit-step (bareReturn s t r) d σ = ap (exit states T r d) (sym (after-none σ))
@@ -164,7 +164,7 @@ module _ (T : Tables) where
   unfolding walkFault orElse
   fault-step (done x) d σ = refl
   fault-step (exprStmt s e y r) d σ = ap (walkFault version1 T r d) (expr-after e σ)
-  fault-step (variable k s n t e r) d σ = ap (λ (τ : Scope Status). orElse (tooMany version1 τ) (walkFault version1 T r d τ)) (variable-after d n t e σ)
+  fault-step (variable k s n t e r) d σ = ap (λ (τ : Scope Status). orElse (tooMany version1 τ) (walkFault version1 T r d τ)) (variable-after d s n t e σ)
   fault-step (assign s e v t x r) d σ = ap (λ (τ : Scope Status). walkFault version1 T r d (afterAssign states T e v τ)) (sym (after-two T σ e v))
   fault-step (return s e t x r) d σ = ap (walkFault version1 T r d) (sym (after-one T σ e))
   fault-step (bareReturn s t r) d σ = ap (walkFault version1 T r d) (sym (after-none σ))
@@ -198,7 +198,7 @@ module _ (T : Tables) where
       ap (λ (τ : Scope Status). encodeCode (flatten (exprStmt s e (wrapped T (exprStmt s e y r)) (decide states T r p d false τ)))) (expr-after e σ)
       ∙ simp (append-assoc, append-nil)
   bytes-step (variable k s n t e r) p d f σ l at h =
-      ap (λ (τ : Scope Status). encodeCode (flatten (variable k s n t e (decide states T r p d false τ)))) (variable-after d n t e σ) ∙ simp (append-assoc, append-nil)
+      ap (λ (τ : Scope Status). encodeCode (flatten (variable k s n t e (decide states T r p d false τ)))) (variable-after d s n t e σ) ∙ simp (append-assoc, append-nil)
   bytes-step (assign s e v t x r) p d f σ l at h =
       ap (λ (τ : Scope Status). encodeCode (inserts (assignDrops states T s e τ) (assign s e v t tt (returned T r p d false (afterAssign states T e v τ))))) (sym (after-two T σ e v))
       ∙ inserts-bytes (assignDrops states T s e (valued T (assign s e v t x r) σ)) (assign s e v t tt (returned T r p d false (afterAssign states T e v (valued T (assign s e v t x r) σ))))
@@ -235,7 +235,7 @@ module _ (T : Tables) where
       let g = ap (λ (τ : Scope Status). size (returned T r p d false τ)) (expr-after e σ) in
       omega arith
   size-step (variable k s n t e r) p d f σ h =
-      let g = ap (λ (τ : Scope Status). size (returned T r p d false τ)) (variable-after d n t e σ) in
+      let g = ap (λ (τ : Scope Status). size (returned T r p d false τ)) (variable-after d s n t e σ) in
       omega arith
   size-step (assign s e v t x r) p d f σ h =
       let τ = valued T (assign s e v t x r) σ in
@@ -270,7 +270,7 @@ module _ (T : Tables) where
   unfolding countsFit
   fits-step (done x) p d f σ l at h = absurd h
   fits-step (exprStmt s e y r) p d f σ l at h = ap (λ (τ : Scope Status). countsFit 65535 (returned T r p d false τ)) (expr-after e σ)
-  fits-step (variable k s n t e r) p d f σ l at h = ap (λ (τ : Scope Status). countsFit 65535 (returned T r p d false τ)) (variable-after d n t e σ)
+  fits-step (variable k s n t e r) p d f σ l at h = ap (λ (τ : Scope Status). countsFit 65535 (returned T r p d false τ)) (variable-after d s n t e σ)
   fits-step (assign s e v t x r) p d f σ l at h =
       ap (λ (υ : Scope Status). countsFit 65535 (inserts (assignDrops states T s e υ) (assign s e v t tt (returned T r p d false (afterAssign states T e v υ))))) (sym (after-two T σ e v))
       ∙ inserts-fit 65535 (assignDrops states T s e (valued T (assign s e v t x r) σ)) _
@@ -322,8 +322,8 @@ module _ (T : Tables) where
       ∙ simp (append-assoc, append-nil)
   report-step (variable k s n t e r) d l at σ =
       let g : at + 9 + exprBytes e ≡ at + (9 + exprBytes e) + 0 = omega arith in
-      ap (λ (x : List Report). x ++ report T r d l (at + 9 + exprBytes e) (afterVariable states T d n t e σ)) (sym (told-one T σ e))
-      ∙ ap (λ (τ : Scope Status). toldAll T (more e none) σ ++ report T r d l (at + 9 + exprBytes e) τ) (variable-after d n t e σ)
+      ap (λ (x : List Report). x ++ report T r d l (at + 9 + exprBytes e) (afterVariable states T (declared d s n t) e σ)) (sym (told-one T σ e))
+      ∙ ap (λ (τ : Scope Status). toldAll T (more e none) σ ++ report T r d l (at + 9 + exprBytes e) τ) (variable-after d s n t e σ)
       ∙ ap (λ (i : ℕ). toldAll T (more e none) σ ++ report T r d l i (ownAfter T (variable k s n t e r) d σ)) g
       ∙ simp (append-assoc, append-nil)
   report-step (assign s e v t x r) d l at σ =
@@ -340,8 +340,8 @@ module _ (T : Tables) where
       ∙ simp (append-assoc, append-nil)
   report-step (bareReturn s t r) d l at σ =
       let g : at + 8 ≡ at + 8 + 0 = omega arith in
-      ap (λ (τ : Scope Status). leftBehind s (returnDrops states T nobody τ) ++ report T r d l (at + 8) τ) (sym (after-none σ))
-      ∙ ap (λ (i : ℕ). leftBehind s (returnDrops states T nobody (afterAll T none σ)) ++ report T r d l i (afterAll T none σ)) g
+      ap (λ (τ : Scope Status). leftBehind T s (atReturn nobody) τ ++ report T r d l (at + 8) τ) (sym (after-none σ))
+      ∙ ap (λ (i : ℕ). leftBehind T s (atReturn nobody) (afterAll T none σ) ++ report T r d l i (afterAll T none σ)) g
       ∙ simp (append-assoc, append-nil, told-none σ)
   report-step (block s c r) d l at σ =
       let a : at + 7 ≡ at + 1 + 6 = omega arith in
@@ -388,6 +388,6 @@ module _ (T : Tables) where
       ∙ simp (append-assoc, append-nil)
   report-step (jump k s r) d l at σ =
       let g : at + 5 ≡ at + 5 + 0 = omega arith in
-      ap (λ (τ : Scope Status). leftBehind s (loopDrops states T l τ) ++ report T r d l (at + 5) τ) (sym (after-none σ))
-      ∙ ap (λ (i : ℕ). leftBehind s (loopDrops states T l (afterAll T none σ)) ++ report T r d l i (afterAll T none σ)) g
+      ap (λ (τ : Scope Status). leftBehind T s (atJump l) τ ++ report T r d l (at + 5) τ) (sym (after-none σ))
+      ∙ ap (λ (i : ℕ). leftBehind T s (atJump l) (afterAll T none σ) ++ report T r d l i (afterAll T none σ)) g
       ∙ simp (append-assoc, append-nil, told-none σ)

@@ -13,7 +13,7 @@ use Rattle.rules.specs.Expr.{nobody, view, nameIn, isCall, tyOf}
 use Rattle.rules.specs.State.{State as Status}
 use Rattle.rules.specs.Stack.{shape, Stack as Scope}
 use Rattle.rules.specs.Effects.{deletedIn, takeOver}
-use Rattle.rules.specs.Rules.{Drop, states, applyAll, register, assignDrops, returnDrops, loopDrops, afterAssign}
+use Rattle.rules.specs.Rules.{Drop, states, atReturn, atJump, declared, applyAll, register, assignDrops, returnDrops, afterAssign}
 use Rattle.rules.specs.Report.{Report, deleteNode, unused, leftBehind, exprBytes}
 use Rattle.statements_steps.specs.Drops.{deleteBytes}
 
@@ -85,18 +85,18 @@ module _ (T : Tables) where
   frontReports (variable k s n t e r) l at σ = []
   frontReports (assign s e v t x r) l at σ = []
   frontReports (return s e t x r) l at σ = []
-  frontReports (bareReturn s t r) l at σ = leftBehind s (returnDrops states T nobody σ)
+  frontReports (bareReturn s t r) l at σ = leftBehind T s (atReturn nobody) σ
   frontReports (block s c r) l at σ = []
   frontReports (ifElse s e ts t us u r) l at σ = []
   frontReports (ifThen s e ts t r) l at σ = []
   frontReports (while s e ts t r) l at σ = []
-  frontReports (jump k s r) l at σ = leftBehind s (loopDrops states T l σ)
+  frontReports (jump k s r) l at σ = leftBehind T s (atJump l) σ
 
   -- the locals behind it, in a block of depth d, if it has no blocks
   abbrev pub settle : Tree → ℕ → Scope Status → Scope Status
   settle (done x) d σ = σ
   settle (exprStmt s e y r) d σ = applyAll states (deletedIn T (shape σ) (view e)) σ
-  settle (variable k s n t e r) d σ = applyAll states (takeOver T (shape σ) n t e) (register states n t d σ)
+  settle (variable k s n t e r) d σ = applyAll states (takeOver T (shape σ) n t e) (register states (declared d s n t) σ)
   settle (assign s e v t x r) d σ = afterAssign states T e v σ
   settle (return s e t x r) d σ = σ
   settle (bareReturn s t r) d σ = σ

@@ -198,13 +198,13 @@ flag-at t c seven =
 -- behind next_change: what is to be done
 turned-at : (t : ℕ) (c : transform-block-lts.After-next-change (transform-block-claims t) (transform-block-at t) transform-block.Post transform-block-Inv-loop transform-block-μ-loop)
     {turn : Turn} → c .next-change .result .turn ≡ turn
-    → Turned (c .before .before .before .before .before .before .before .before .before .before .before .before .before .before .before .before .before .before .before .before .before .before .before .before .before .before .before .before .before .before .before .args .s .now) (c .before .before .before .before .before .before .before .before .before .before .before .before .before .before .before .before .before .before .before .before .before .before .before .before .before .before .before .before .before .before .before .args .tb .now) (c .before .before .before .before .before .before .before .before .before .before .before .before .before .before .before .before .before .before .before .before .before .inner .result) (c .before .before .before .before .before .before .before .before .before .before .before .before .before .before .before .before .before .before .before .before .before .before .place-in .result)
-    (c .before .before .before .before .before .before .before .before .before .before .before .before .before .before .before .before .before .before .before .before .before .before .before .before .before .before .before .before .before .before .before .args .outer) (c .before .before .before .before .before .before .before .before .before .before .before .before .before .before .before .before .before .before .before .before .before .before .before .before .before .before .before .before .before .before .before .args .states) (c .before .before .before .before .before .before .before .before .before .before .before .before .before .before .before .before .before .before .before .before .before .before .before .before .before .before .before .before .before .before .before .args .rows .now) (c .before .before .before .before .before .before .before .before .before .before .before .before .before .before .before .before .before .before .head .last .1 .1 .0)
-    (c .before .before .before .before .before .before .before .before .before .before .before .before .before .before .before .before .before .before .before .before .before .before .before .before .before .before .before .before .before .before .before .args .errs .now) (c .before .before .before .before .before .before .before .before .before .before .before .before .before .before .before .before .before .before .before .before .before .before .before .before .before .before .before .before .before .before .before .args .warns .now) (c .before .before .before .before .before .before .before .before .before .before .before .before .before .before .before .before .before .before .before .before .before .before .before .before .before .before .before .before .before .before .before .args .lefts .now) (c .before .before .before .before .before .before .before .before .before .before .before .before .before .before .before .loop .rows)
-    (c .next-change .last .1 .1 .1 .1 .1 .1 .1 .1 .0) (c .next-change .last .1 .1 .1 .1 .1 .1 .1 .1 .1 .1 .0) (c .next-change .last .1 .1 .1 .1 .1 .1 .1 .1 .1 .1 .1 .0) (c .next-change .last .1 .1 .1 .1 .1 .1 .1 .1 .1 .1 .1 .1 .0)
-    (c .next-change .last .1 .1 .1 .1 .1 .1 .1 .1 .1 .1 .1 .1 .1 .0) (c .before .before .before .before .before .before .before .before .before .before .before .before .before .before .before .loop .pl) (c .before .before .before .before .before .before .before .before .before .before .before .before .before .before .before .loop .l) (c .before .before .before .before .before .before .before .before .before .before .before .before .before .before .before .loop .st) (c .next-change .result .cursor) turn
+    → Turned (c .before .before .before .before .before .before .before .before .before .before .before .before .before .before .before .before .before .before .before .before .before .before .before .before .before .before .before .before .before .before .before .before .args .s .now) (c .before .before .before .before .before .before .before .before .before .before .before .before .before .before .before .before .before .before .before .before .before .before .before .before .before .before .before .before .before .before .before .before .args .tb .now) (c .before .before .before .before .before .before .before .before .before .before .before .before .before .before .before .before .before .before .before .before .before .before .inner .result) (c .before .before .before .before .before .before .before .before .before .before .before .before .before .before .before .before .before .before .before .before .before .before .before .place-in .result)
+    (c .before .before .before .before .before .before .before .before .before .before .before .before .before .before .before .before .before .before .before .before .before .before .before .before .before .before .before .before .before .before .before .before .args .outer) (c .before .before .before .before .before .before .before .before .before .before .before .before .before .before .before .before .before .before .before .before .before .before .before .before .before .before .before .before .before .before .before .before .args .states) (c .before .before .before .before .before .before .before .before .before .before .before .before .before .before .before .before .before .before .before .before .before .before .before .before .before .before .before .before .before .before .before .before .args .rows .now) (c .before .before .before .before .before .before .before .before .before .before .before .before .before .before .before .before .before .before .before .head .last .1 .1 .0)
+    (c .before .before .before .before .before .before .before .before .before .before .before .before .before .before .before .before .before .before .before .before .before .before .before .before .before .before .before .before .before .before .before .before .args .errs .now) (c .before .before .before .before .before .before .before .before .before .before .before .before .before .before .before .before .before .before .before .before .before .before .before .before .before .before .before .before .before .before .before .before .args .warns .now) (c .before .before .before .before .before .before .before .before .before .before .before .before .before .before .before .before .before .before .before .before .before .before .before .before .before .before .before .before .before .before .before .before .args .lefts .now) (c .before .before .before .before .before .before .before .before .before .before .before .before .before .before .before .before .loop .rows)
+    (c .next-change .last .1 .1 .1 .1 .1 .1 .1 .1 .1 .0) (c .next-change .last .1 .1 .1 .1 .1 .1 .1 .1 .1 .1 .1 .0) (c .next-change .last .1 .1 .1 .1 .1 .1 .1 .1 .1 .1 .1 .1 .0) (c .next-change .last .1 .1 .1 .1 .1 .1 .1 .1 .1 .1 .1 .1 .1 .0)
+    (c .next-change .last .1 .1 .1 .1 .1 .1 .1 .1 .1 .1 .1 .1 .1 .1 .0) (c .before .before .before .before .before .before .before .before .before .before .before .before .before .before .before .before .loop .pl) (c .before .before .before .before .before .before .before .before .before .before .before .before .before .before .before .before .loop .l) (c .before .before .before .before .before .before .before .before .before .before .before .before .before .before .before .before .loop .st) (c .next-change .result .cursor) turn
 turned-at t c came =
-    let at-scanning = c .before .before .before .before .before .before .before .before .before .before .before .before .before in
+    let at-scanning = c .before .before .before .before .before .before .before .before .before .before .before .before .before .before in
     let at-mark-of = at-scanning .before in
     let at-loop = at-mark-of .before in
     let at-head = at-loop .before .before .before in
@@ -215,7 +215,7 @@ turned-at t c came =
     (start .args .outer) (start .args .states) (start .args .rows .now) (at-head .head .last .1 .1 .0) (start .args .errs .now) (start .args .warns .now) (start .args .lefts .now)
     (at-loop .loop .inv) (at-mark-of .mark-of .result)
     (at-mark-of .mark-of .ensures (at-loop .loop .l) (at-loop .loop .st) refl refl) (at-scanning .scanning .result) (at-scanning .scanning .ensures) (c .next-change .ensures)
-    came (c .next-change .kept .1 .1 .1 .1 .1 .1 .1 .1 .1 .1 .0) (c .next-change .kept .1 .1 .1 .1 .1 .1 .1 .1 .1 .1 .1 .0) (c .next-change .kept .1 .1 .1 .1 .1 .1 .1 .1 .1 .1 .1 .1 .0) (c .next-change .kept .1 .1 .1 .1 .1 .1 .1 .1 .1 .1 .1 .1 .1 .0)
+    came (c .next-change .kept .1 .1 .1 .1 .1 .1 .1 .1 .1 .1 .1 .0) (c .next-change .kept .1 .1 .1 .1 .1 .1 .1 .1 .1 .1 .1 .1 .0) (c .next-change .kept .1 .1 .1 .1 .1 .1 .1 .1 .1 .1 .1 .1 .1 .0) (c .next-change .kept .1 .1 .1 .1 .1 .1 .1 .1 .1 .1 .1 .1 .1 .1 .0)
 
 -- src/lib.rt:137:9
 transform-block-place-in-requires : (t : ℕ) → transform-block-lts.Need-place-in-requires (transform-block-claims t) (transform-block-at t) transform-block.Post transform-block-Inv-loop transform-block-μ-loop
@@ -278,7 +278,7 @@ transform-block-scanning-requires t c κs = search needs
 -- src/lib.rt:145:13
 transform-block-next-change-requires : (t : ℕ) → transform-block-lts.Need-next-change-requires (transform-block-claims t) (transform-block-at t) transform-block.Post transform-block-Inv-loop transform-block-μ-loop
 transform-block-next-change-requires t c κs =
-    let at-scanning = c .before .before .before .before .before .before .before .before .before .before .before .before in
+    let at-scanning = c .before .before .before .before .before .before .before .before .before .before .before .before .before in
     let at-mark-of = at-scanning .before in
     let at-loop = at-mark-of .before in
     let at-inner = at-loop .before .before .before .before .before .before in
@@ -309,16 +309,16 @@ transform-block-loop-again t c =
     let at-next-change = c .before .before .before .before .before .before .before .before .before .before .before in
     absurd (at-next-change .next-change .ensures .1 .2 (c .enum-told .given .1))
 
--- src/lib.rt:171:21
+-- src/lib.rt:172:21
 transform-block-enum-told-2 : (t : ℕ) → transform-block-lts.Need-enum-told-2 (transform-block-claims t) (transform-block-at t) transform-block.Post transform-block-Inv-loop transform-block-μ-loop
 transform-block-enum-told-2 t c = search needs
 
--- src/lib.rt:166:17
+-- src/lib.rt:167:17
 transform-block-end-block-requires : (t : ℕ) → transform-block-lts.Need-end-block-requires (transform-block-claims t) (transform-block-at t) transform-block.Post transform-block-Inv-loop transform-block-μ-loop
 transform-block-end-block-requires t c κs =
     let at-enum-told2 = c .before .before .before .before .before in
     let at-next-change = at-enum-told2 .before .before .before .before .before .before .before .before .before .before .before in
-    let at-loop = at-next-change .before .before .before .before .before .before .before .before .before .before .before .before .before .before .before in
+    let at-loop = at-next-change .before .before .before .before .before .before .before .before .before .before .before .before .before .before .before .before in
     let at-head = at-loop .before .before .before in
     let at-inner = at-head .before .before .before in
     let at-place-in = at-inner .before in
@@ -338,57 +338,57 @@ transform-block-end-block-requires t c κs =
       at-loop .loop .inv .long .pl,
     )
 
--- src/lib.rt:178:17
+-- src/lib.rt:179:17
 transform-block-leave-requires : (t : ℕ) → transform-block-lts.Need-leave-requires (transform-block-claims t) (transform-block-at t) transform-block.Post transform-block-Inv-loop transform-block-μ-loop
 transform-block-leave-requires t c κs =
-    let at-loop = c .before .before .before .before .before .before .before .before .before .before .before .before .before .before .before .before .before .before .before .before .before .before .before .before .before .before .before .before .before .before .before .before .before .before in
+    let at-loop = c .before .before .before .before .before .before .before .before .before .before .before .before .before .before .before .before .before .before .before .before .before .before .before .before .before .before .before .before .before .before .before .before .before .before .before in
     let most = at-loop .loop .inv .owned .extends .most in
     let small = at-loop .loop .inv .owned .sound .kept .small in
     (at-loop .loop .inv .owned .sound .held, omega (arith, most, small), omega (arith, most, small))
 
--- src/lib.rt:178:17
+-- src/lib.rt:179:17
 transform-block-same-length : (t : ℕ) → transform-block-lts.Need-same-length (transform-block-claims t) (transform-block-at t) transform-block.Post transform-block-Inv-loop transform-block-μ-loop
 transform-block-same-length t c =
-    let at-loop = c .before .before .before .before .before .before .before .before .before .before .before .before .before .before .before .before .before .before .before .before .before .before .before .before .before .before .before .before .before .before .before .before .before .before .before in
+    let at-loop = c .before .before .before .before .before .before .before .before .before .before .before .before .before .before .before .before .before .before .before .before .before .before .before .before .before .before .before .before .before .before .before .before .before .before .before .before in
     at-loop .loop .inv .owned .below .room
 
--- src/lib.rt:178:17
+-- src/lib.rt:179:17
 transform-block-same-length-2 : (t : ℕ) → transform-block-lts.Need-same-length-2 (transform-block-claims t) (transform-block-at t) transform-block.Post transform-block-Inv-loop transform-block-μ-loop
 transform-block-same-length-2 t c =
     let at-end-block = c .before .before .before in
     let at-next-change = at-end-block .before .before .before .before .before .before .before .before .before .before .before .before .before .before .before .before .before in
-    let at-loop = at-next-change .before .before .before .before .before .before .before .before .before .before .before .before .before .before .before in
+    let at-loop = at-next-change .before .before .before .before .before .before .before .before .before .before .before .before .before .before .before .before in
     let at-head = at-loop .before .before .before in
-    omega (arith, at-end-block .end-block .kept .1 .1 .1 .1 .1 .1 .1 .1 .0, at-next-change .next-change .kept .1 .1 .1 .1 .1 .1 .1 .1 .1 .1 .0, at-loop .loop .inv .long .out, at-head .head .kept .1 .1 .0)
+    omega (arith, at-end-block .end-block .kept .1 .1 .1 .1 .1 .1 .1 .1 .0, at-next-change .next-change .kept .1 .1 .1 .1 .1 .1 .1 .1 .1 .1 .1 .0, at-loop .loop .inv .long .out, at-head .head .kept .1 .1 .0)
 
--- src/lib.rt:178:17
+-- src/lib.rt:179:17
 transform-block-same-length-3 : (t : ℕ) → transform-block-lts.Need-same-length-3 (transform-block-claims t) (transform-block-at t) transform-block.Post transform-block-Inv-loop transform-block-μ-loop
 transform-block-same-length-3 t c =
     let at-next-change = c .before .before .before .before .before .before .before .before .before .before .before .before .before .before .before .before .before .before .before .before in
-    let at-loop = at-next-change .before .before .before .before .before .before .before .before .before .before .before .before .before .before .before in
-    omega (arith, at-next-change .next-change .kept .1 .1 .1 .1 .1 .1 .1 .1 .1 .1 .1 .0, at-loop .loop .inv .long .errs)
+    let at-loop = at-next-change .before .before .before .before .before .before .before .before .before .before .before .before .before .before .before .before in
+    omega (arith, at-next-change .next-change .kept .1 .1 .1 .1 .1 .1 .1 .1 .1 .1 .1 .1 .0, at-loop .loop .inv .long .errs)
 
--- src/lib.rt:178:17
+-- src/lib.rt:179:17
 transform-block-same-length-4 : (t : ℕ) → transform-block-lts.Need-same-length-4 (transform-block-claims t) (transform-block-at t) transform-block.Post transform-block-Inv-loop transform-block-μ-loop
 transform-block-same-length-4 t c =
     let at-next-change = c .before .before .before .before .before .before .before .before .before .before .before .before .before .before .before .before .before .before .before .before in
-    let at-loop = at-next-change .before .before .before .before .before .before .before .before .before .before .before .before .before .before .before in
-    omega (arith, at-next-change .next-change .kept .1 .1 .1 .1 .1 .1 .1 .1 .1 .1 .1 .1 .0, at-loop .loop .inv .long .warns)
+    let at-loop = at-next-change .before .before .before .before .before .before .before .before .before .before .before .before .before .before .before .before in
+    omega (arith, at-next-change .next-change .kept .1 .1 .1 .1 .1 .1 .1 .1 .1 .1 .1 .1 .1 .0, at-loop .loop .inv .long .warns)
 
--- src/lib.rt:178:17
+-- src/lib.rt:179:17
 transform-block-same-length-5 : (t : ℕ) → transform-block-lts.Need-same-length-5 (transform-block-claims t) (transform-block-at t) transform-block.Post transform-block-Inv-loop transform-block-μ-loop
 transform-block-same-length-5 t c =
     let at-next-change = c .before .before .before .before .before .before .before .before .before .before .before .before .before .before .before .before .before .before .before .before in
-    let at-loop = at-next-change .before .before .before .before .before .before .before .before .before .before .before .before .before .before .before in
-    omega (arith, at-next-change .next-change .kept .1 .1 .1 .1 .1 .1 .1 .1 .1 .1 .1 .1 .1 .0, at-loop .loop .inv .long .lefts)
+    let at-loop = at-next-change .before .before .before .before .before .before .before .before .before .before .before .before .before .before .before .before in
+    omega (arith, at-next-change .next-change .kept .1 .1 .1 .1 .1 .1 .1 .1 .1 .1 .1 .1 .1 .1 .0, at-loop .loop .inv .long .lefts)
 
--- src/lib.rt:178:17
+-- src/lib.rt:179:17
 transform-block-returns : (t : ℕ) → transform-block-lts.Need-returns (transform-block-claims t) (transform-block-at t) transform-block.Post transform-block-Inv-loop transform-block-μ-loop
 transform-block-returns t c =
     let at-end-block = c .before .before .before in
     let at-enum-told2 = at-end-block .before .before .before .before .before .before in
     let at-next-change = at-enum-told2 .before .before .before .before .before .before .before .before .before .before .before in
-    let at-mark-of = at-next-change .before .before .before .before .before .before .before .before .before .before .before .before .before .before in
+    let at-mark-of = at-next-change .before .before .before .before .before .before .before .before .before .before .before .before .before .before .before in
     let at-loop = at-mark-of .before in
     let at-head = at-loop .before .before .before in
     let at-inner = at-head .before .before .before in
@@ -412,21 +412,21 @@ transform-block-returns t c =
     (at-place-in .place-in .result) (start .args .outer) (start .args .states) (start .args .rows .now) _ (start .args .errs .now) (start .args .warns .now)
     (start .args .lefts .now) within there (start .args .out .now) (at-head .head .ensures .stored) h _ _ (at-end-block .end-block .ensures .1) (c .leave .result)
     (c .leave .ensures) (start .pre .1 .0 .sound .kept) (start .pre .1 .0 .sound .drops) nested _
-    (λ T sy. at-end-block .end-block .ensures .0 T (at-loop .loop .l .depths) _ _
+    (λ T sy. at-end-block .end-block .ensures .0 T (at-loop .loop .l .depths) (at-loop .loop .l .births) _ _
     (at-mark-of .mark-of .ensures (at-loop .loop .l) (at-loop .loop .st) refl refl ∙ at-loop .loop .inv .owned .sound .marked T sy) frame) in
     let q = done-as _ _ (start .args .env) (at-inner .inner .result) _ _ _ _ _ _ _ _ _ _ _ _ _ (at-inner .inner .ensures) (at-place-in .place-in .ensures) d in
     ((q .comes, q .nodes), q .walks)
 
--- src/lib.rt:180:24
+-- src/lib.rt:181:24
 transform-block-enum-known-turn : (t : ℕ) → transform-block-lts.Need-enum-known-turn (transform-block-claims t) (transform-block-at t) transform-block.Post transform-block-Inv-loop transform-block-μ-loop
 transform-block-enum-known-turn t c = search needs
 
--- src/lib.rt:181:22
+-- src/lib.rt:182:22
 transform-block-mark-requires : (t : ℕ) → transform-block-lts.Need-mark-requires (transform-block-claims t) (transform-block-at t) transform-block.Post transform-block-Inv-loop transform-block-μ-loop
 transform-block-mark-requires t c κs =
     let at-turn = c .before .before .before .before in
     let at-next-change = at-turn .before .before .before .before .before .before .before .before .before .before .before in
-    let at-loop = at-next-change .before .before .before .before .before .before .before .before .before .before .before .before .before .before .before in
+    let at-loop = at-next-change .before .before .before .before .before .before .before .before .before .before .before .before .before .before .before .before in
     let h = turned-at t at-next-change (at-turn .turn .given .1) in
     (at-loop .loop .inv .owned .sound .held, at-loop .loop .inv .owned .sound .kept .small, h .fit .1)
 
@@ -442,7 +442,7 @@ transform-block-loop-again-2 : (t : ℕ) → transform-block-lts.Need-loop-again
 transform-block-loop-again-2 t c =
     let at-turn = c .before .before .before .before .before in
     let at-next-change = at-turn .before .before .before .before .before .before .before .before .before .before .before in
-    let at-loop = at-next-change .before .before .before .before .before .before .before .before .before .before .before .before .before .before .before in
+    let at-loop = at-next-change .before .before .before .before .before .before .before .before .before .before .before .before .before .before .before .before in
     let at-inner = at-loop .before .before .before .before .before .before in
     let at-place-in = at-inner .before in
     let start = at-place-in .before .before .before .before .before .before .before .before .before in
@@ -451,60 +451,60 @@ transform-block-loop-again-2 t c =
     (start .args .outer) (start .args .states) (start .args .rows .now) _ (start .args .errs .now) (start .args .warns .now) (start .args .lefts .now) _ _ _ _ h
     (c .mark .result) (c .mark .ensures .0) (c .mark .ensures .1 (at-loop .loop .l) refl refl refl)
 
--- src/lib.rt:183:28
+-- src/lib.rt:184:28
 transform-block-enum-known-turn-2 : (t : ℕ) → transform-block-lts.Need-enum-known-turn-2 (transform-block-claims t) (transform-block-at t) transform-block.Post transform-block-Inv-loop transform-block-μ-loop
 transform-block-enum-known-turn-2 t c = search needs
 
--- src/lib.rt:184:20
+-- src/lib.rt:185:20
 transform-block-full-requires : (t : ℕ) → transform-block-lts.Need-full-requires (transform-block-claims t) (transform-block-at t) transform-block.Post transform-block-Inv-loop transform-block-μ-loop
 transform-block-full-requires t c κs = tt
 
--- src/lib.rt:185:21
+-- src/lib.rt:186:21
 transform-block-element-write-pl : (t : ℕ) → transform-block-lts.Need-element-write-pl (transform-block-claims t) (transform-block-at t) transform-block.Post transform-block-Inv-loop transform-block-μ-loop
 transform-block-element-write-pl t c = search needs
 
--- src/lib.rt:186:21
+-- src/lib.rt:187:21
 transform-block-same-length-6 : (t : ℕ) → transform-block-lts.Need-same-length-6 (transform-block-claims t) (transform-block-at t) transform-block.Post transform-block-Inv-loop transform-block-μ-loop
 transform-block-same-length-6 t c =
-    let at-loop = c .before .before .before .before .before .before .before .before .before .before .before .before .before .before .before .before .before .before .before .before .before .before .before .before .before .before .before .before .before in
+    let at-loop = c .before .before .before .before .before .before .before .before .before .before .before .before .before .before .before .before .before .before .before .before .before .before .before .before .before .before .before .before .before .before in
     at-loop .loop .inv .owned .below .room
 
--- src/lib.rt:186:21
+-- src/lib.rt:187:21
 transform-block-same-length-7 : (t : ℕ) → transform-block-lts.Need-same-length-7 (transform-block-claims t) (transform-block-at t) transform-block.Post transform-block-Inv-loop transform-block-μ-loop
 transform-block-same-length-7 t c =
     let at-next-change = c .before .before .before .before .before .before .before .before .before .before .before .before .before .before in
-    let at-loop = at-next-change .before .before .before .before .before .before .before .before .before .before .before .before .before .before .before in
+    let at-loop = at-next-change .before .before .before .before .before .before .before .before .before .before .before .before .before .before .before .before in
     let at-head = at-loop .before .before .before in
-    omega (arith, at-next-change .next-change .kept .1 .1 .1 .1 .1 .1 .1 .1 .1 .1 .0, at-loop .loop .inv .long .out, at-head .head .kept .1 .1 .0)
+    omega (arith, at-next-change .next-change .kept .1 .1 .1 .1 .1 .1 .1 .1 .1 .1 .1 .0, at-loop .loop .inv .long .out, at-head .head .kept .1 .1 .0)
 
--- src/lib.rt:186:21
+-- src/lib.rt:187:21
 transform-block-same-length-8 : (t : ℕ) → transform-block-lts.Need-same-length-8 (transform-block-claims t) (transform-block-at t) transform-block.Post transform-block-Inv-loop transform-block-μ-loop
 transform-block-same-length-8 t c =
     let at-next-change = c .before .before .before .before .before .before .before .before .before .before .before .before .before .before in
-    let at-loop = at-next-change .before .before .before .before .before .before .before .before .before .before .before .before .before .before .before in
-    omega (arith, at-next-change .next-change .kept .1 .1 .1 .1 .1 .1 .1 .1 .1 .1 .1 .0, at-loop .loop .inv .long .errs)
+    let at-loop = at-next-change .before .before .before .before .before .before .before .before .before .before .before .before .before .before .before .before in
+    omega (arith, at-next-change .next-change .kept .1 .1 .1 .1 .1 .1 .1 .1 .1 .1 .1 .1 .0, at-loop .loop .inv .long .errs)
 
--- src/lib.rt:186:21
+-- src/lib.rt:187:21
 transform-block-same-length-9 : (t : ℕ) → transform-block-lts.Need-same-length-9 (transform-block-claims t) (transform-block-at t) transform-block.Post transform-block-Inv-loop transform-block-μ-loop
 transform-block-same-length-9 t c =
     let at-next-change = c .before .before .before .before .before .before .before .before .before .before .before .before .before .before in
-    let at-loop = at-next-change .before .before .before .before .before .before .before .before .before .before .before .before .before .before .before in
-    omega (arith, at-next-change .next-change .kept .1 .1 .1 .1 .1 .1 .1 .1 .1 .1 .1 .1 .0, at-loop .loop .inv .long .warns)
+    let at-loop = at-next-change .before .before .before .before .before .before .before .before .before .before .before .before .before .before .before .before in
+    omega (arith, at-next-change .next-change .kept .1 .1 .1 .1 .1 .1 .1 .1 .1 .1 .1 .1 .1 .0, at-loop .loop .inv .long .warns)
 
--- src/lib.rt:186:21
+-- src/lib.rt:187:21
 transform-block-same-length-10 : (t : ℕ) → transform-block-lts.Need-same-length-10 (transform-block-claims t) (transform-block-at t) transform-block.Post transform-block-Inv-loop transform-block-μ-loop
 transform-block-same-length-10 t c =
     let at-next-change = c .before .before .before .before .before .before .before .before .before .before .before .before .before .before in
-    let at-loop = at-next-change .before .before .before .before .before .before .before .before .before .before .before .before .before .before .before in
-    omega (arith, at-next-change .next-change .kept .1 .1 .1 .1 .1 .1 .1 .1 .1 .1 .1 .1 .1 .0, at-loop .loop .inv .long .lefts)
+    let at-loop = at-next-change .before .before .before .before .before .before .before .before .before .before .before .before .before .before .before .before in
+    omega (arith, at-next-change .next-change .kept .1 .1 .1 .1 .1 .1 .1 .1 .1 .1 .1 .1 .1 .1 .0, at-loop .loop .inv .long .lefts)
 
--- src/lib.rt:186:21
+-- src/lib.rt:187:21
 transform-block-returns-2 : (t : ℕ) → transform-block-lts.Need-returns-2 (transform-block-claims t) (transform-block-at t) transform-block.Post transform-block-Inv-loop transform-block-μ-loop
 transform-block-returns-2 t c =
     let at-full = c .before in
     let at-turn2 = at-full .before .before in
     let at-next-change = at-turn2 .before .before .before .before .before .before .before .before .before .before .before in
-    let at-loop = at-next-change .before .before .before .before .before .before .before .before .before .before .before .before .before .before .before in
+    let at-loop = at-next-change .before .before .before .before .before .before .before .before .before .before .before .before .before .before .before .before in
     let at-head = at-loop .before .before .before in
     let at-inner = at-head .before .before .before in
     let at-place-in = at-inner .before in
@@ -521,42 +521,42 @@ transform-block-returns-2 t c =
     (block-bytes t at-shared-slice-known) (at-inner .inner .result) (start .args .env .left) low (start .pre .1 .0 .depth) el
     (at-place-in .place-in .result) (start .args .outer) (start .args .states) (start .args .rows .now) _ (start .args .errs .now) (start .args .warns .now)
     (start .args .lefts .now) within there (start .args .out .now) (at-head .head .ensures .stored) _ (at-loop .loop .st) _
-    (at-next-change .next-change .last .1 .1 .1 .1 .1 .1 .1 .1 .0) (set (at-loop .loop .pl) 8 12) _ (omega arith) (h .long .nodes) (told .room)
+    (at-next-change .next-change .last .1 .1 .1 .1 .1 .1 .1 .1 .1 .0) (set (at-loop .loop .pl) 8 12) _ (omega arith) (h .long .nodes) (told .room)
     (at-loop .loop .inv .owned .below) (λ z. absurd (omega arith)) (walkedIn (set (at-loop .loop .pl) 8 12) []) refl
     (λ T sy loop o reach. full (start .args .s .now) (start .args .tb .now) (at-inner .inner .result)
     (at-place-in .place-in .result) (start .args .outer) (start .args .states) (start .args .rows .now) _ (start .args .errs .now) (start .args .warns .now)
-    (start .args .lefts .now) _ _ h (omega (arith, at-full .full .ensures .0 (c .if1 .taken), start .pre .1 .0 .limit)) (walkedIn (set (at-loop .loop .pl) 8 12) []) f T sy loop o) in
+    (start .args .lefts .now) _ _ _ h (omega (arith, at-full .full .ensures .0 (c .if1 .taken), start .pre .1 .0 .limit)) (walkedIn (set (at-loop .loop .pl) 8 12) []) f T sy loop o) in
     let q = done-as _ _ (start .args .env) (at-inner .inner .result) _ _ _ _ _ _ _ _ _ _ _ _ _ (at-inner .inner .ensures) (at-place-in .place-in .ensures) d in
     ((q .comes, q .nodes), q .walks)
 
--- src/lib.rt:192:53
+-- src/lib.rt:194:53
 transform-block-cast-auto-deleted : (t : ℕ) → transform-block-lts.Need-cast-auto-deleted (transform-block-claims t) (transform-block-at t) transform-block.Post transform-block-Inv-loop transform-block-μ-loop
 transform-block-cast-auto-deleted t c = search needs
 
--- src/lib.rt:192:21
+-- src/lib.rt:194:21
 transform-block-auto-deleted-requires : (t : ℕ) → transform-block-lts.Need-auto-deleted-requires (transform-block-claims t) (transform-block-at t) transform-block.Post transform-block-Inv-loop transform-block-μ-loop
 transform-block-auto-deleted-requires t c κs =
-    let start = c .before .before .before .before .before .before .before .before .before .before .before .before .before .before .before .before .before .before .before .before .before .before .before .before .before .before .before .before .before .before .before .before .before .before .before .before .before .before .before .before .before .before .before .before .before in
+    let start = c .before .before .before .before .before .before .before .before .before .before .before .before .before .before .before .before .before .before .before .before .before .before .before .before .before .before .before .before .before .before .before .before .before .before .before .before .before .before .before .before .before .before .before .before .before .before in
     (start .pre .1 .0 .lent .filled .size, start .pre .1 .0 .lent .filled .fewTypes)
 
--- src/lib.rt:188:21
+-- src/lib.rt:189:21
 transform-block-register-local-requires : (t : ℕ) → transform-block-lts.Need-register-local-requires (transform-block-claims t) (transform-block-at t) transform-block.Post transform-block-Inv-loop transform-block-μ-loop
 transform-block-register-local-requires t c κs =
     let at-if1 = c .before in
     let at-full = at-if1 .before in
-    let at-loop = at-full .before .before .before .before .before .before .before .before .before .before .before .before .before .before .before .before .before .before .before .before .before .before .before .before .before .before .before .before in
+    let at-loop = at-full .before .before .before .before .before .before .before .before .before .before .before .before .before .before .before .before .before .before .before .before .before .before .before .before .before .before .before .before .before in
     let start = at-loop .before .before .before .before .before .before .before .before .before .before .before .before .before .before .before .before in
     (at-loop .loop .inv .owned .sound .kept, omega (arith, at-full .full .ensures .1 (at-if1 .if1 .left), start .pre .1 .0 .limit))
 
--- src/lib.rt:194:20
+-- src/lib.rt:196:20
 transform-block-needs-revival-requires : (t : ℕ) → transform-block-lts.Need-needs-revival-requires (transform-block-claims t) (transform-block-at t) transform-block.Post transform-block-Inv-loop transform-block-μ-loop
 transform-block-needs-revival-requires t c κs = search needs
 
--- src/lib.rt:195:26
+-- src/lib.rt:197:26
 transform-block-mark-requires-2 : (t : ℕ) → transform-block-lts.Need-mark-requires-2 (transform-block-claims t) (transform-block-at t) transform-block.Post transform-block-Inv-loop transform-block-μ-loop
 transform-block-mark-requires-2 t c κs =
     let at-register-local = c .before .before .before .before .before .before .before .before in
-    let at-loop = at-register-local .before .before .before .before .before .before .before .before .before .before .before .before .before .before .before .before .before .before .before .before .before .before .before .before .before .before .before .before .before .before .before in
+    let at-loop = at-register-local .before .before .before .before .before .before .before .before .before .before .before .before .before .before .before .before .before .before .before .before .before .before .before .before .before .before .before .before .before .before .before .before in
     (at-loop .loop .inv .owned .sound .held, at-register-local .register-local .ensures .kept .small, omega arith)
 
 -- src/lib.rt:143:5
@@ -564,7 +564,7 @@ transform-block-loop-less-3 : (t : ℕ) → transform-block-lts.Need-loop-less-3
 transform-block-loop-less-3 t c =
     let at-turn2 = c .before .before .before .before .before .before .before .before .before .before .before .before .before .before in
     let at-next-change = at-turn2 .before .before .before .before .before .before .before .before .before .before .before in
-    at-next-change .next-change .ensures .1 .3 (λ z. register-goes _ _ (sym (at-turn2 .turn2 .given .1) ∙ z))
+    at-next-change .next-change .ensures .1 .3 (λ z. register-goes _ _ _ (sym (at-turn2 .turn2 .given .1) ∙ z))
 
 -- src/lib.rt:143:5
 transform-block-loop-again-3 : (t : ℕ) → transform-block-lts.Need-loop-again-3 (transform-block-claims t) (transform-block-at t) transform-block.Post transform-block-Inv-loop transform-block-μ-loop
@@ -575,12 +575,12 @@ transform-block-loop-again-3 t c =
     let at-full = at-if1 .before in
     let at-turn2 = at-full .before .before in
     let at-next-change = at-turn2 .before .before .before .before .before .before .before .before .before .before .before in
-    let at-inner = at-next-change .before .before .before .before .before .before .before .before .before .before .before .before .before .before .before .before .before .before .before .before .before in
+    let at-inner = at-next-change .before .before .before .before .before .before .before .before .before .before .before .before .before .before .before .before .before .before .before .before .before .before in
     let at-place-in = at-inner .before in
     let start = at-place-in .before .before .before .before .before .before .before .before .before in
     let h = turned-at t at-next-change (at-turn2 .turn2 .given .1) in
     standing-revived (start .args .s .now) (start .args .tb .now) (at-inner .inner .result) (at-place-in .place-in .result)
-    (start .args .outer) (start .args .states) (start .args .rows .now) _ (start .args .errs .now) (start .args .warns .now) (start .args .lefts .now) _ _ h _
+    (start .args .outer) (start .args .states) (start .args .rows .now) _ (start .args .errs .now) (start .args .warns .now) (start .args .lefts .now) _ _ _ h _
     (λ T sy. auto-is T _ _ refl (at-auto-deleted .auto-deleted .ensures _ T (start .pre .1 .0 .lent) sy)) (at-register-local .register-local .result)
     (at-register-local .register-local .ensures) (omega (arith, at-full .full .ensures .1 (at-if1 .if1 .left), start .pre .1 .0 .limit)) 0 (c .mark2 .result) (c .mark2 .ensures .0)
     (c .mark2 .ensures .1 (at-register-local .register-local .result) refl refl refl)
@@ -590,7 +590,7 @@ transform-block-loop-less-4 : (t : ℕ) → transform-block-lts.Need-loop-less-4
 transform-block-loop-less-4 t c =
     let at-turn2 = c .before .before .before .before .before .before .before .before .before .before in
     let at-next-change = at-turn2 .before .before .before .before .before .before .before .before .before .before .before in
-    at-next-change .next-change .ensures .1 .3 (λ z. register-goes _ _ (sym (at-turn2 .turn2 .given .1) ∙ z))
+    at-next-change .next-change .ensures .1 .3 (λ z. register-goes _ _ _ (sym (at-turn2 .turn2 .given .1) ∙ z))
 
 -- src/lib.rt:143:5
 transform-block-loop-again-4 : (t : ℕ) → transform-block-lts.Need-loop-again-4 (transform-block-claims t) (transform-block-at t) transform-block.Post transform-block-Inv-loop transform-block-μ-loop
@@ -602,34 +602,34 @@ transform-block-loop-again-4 t c =
     let at-full = at-if1 .before in
     let at-turn2 = at-full .before .before in
     let at-next-change = at-turn2 .before .before .before .before .before .before .before .before .before .before .before in
-    let at-loop = at-next-change .before .before .before .before .before .before .before .before .before .before .before .before .before .before .before in
+    let at-loop = at-next-change .before .before .before .before .before .before .before .before .before .before .before .before .before .before .before .before in
     let at-inner = at-loop .before .before .before .before .before .before in
     let at-place-in = at-inner .before in
     let start = at-place-in .before .before .before .before .before .before .before .before .before in
     let h = turned-at t at-next-change (at-turn2 .turn2 .given .1) in
     standing-fresh (start .args .s .now) (start .args .tb .now) (at-inner .inner .result) (at-place-in .place-in .result)
-    (start .args .outer) (start .args .states) (start .args .rows .now) _ (start .args .errs .now) (start .args .warns .now) (start .args .lefts .now) _ _ h _
+    (start .args .outer) (start .args .states) (start .args .rows .now) _ (start .args .errs .now) (start .args .warns .now) (start .args .lefts .now) _ _ _ h _
     (λ T sy. auto-is T _ _ refl (at-auto-deleted .auto-deleted .ensures _ T (start .pre .1 .0 .lent) sy)) (at-register-local .register-local .result)
     (at-register-local .register-local .ensures) (omega (arith, at-full .full .ensures .1 (at-if1 .if1 .left), start .pre .1 .0 .limit))
     (at-needs-revival .needs-revival .ensures (aliveAt (at-loop .loop .st)) (at-loop .loop .inv .owned .sound .held .word) (c .if2 .left))
 
--- src/lib.rt:198:26
+-- src/lib.rt:200:26
 transform-block-enum-known-turn-3 : (t : ℕ) → transform-block-lts.Need-enum-known-turn-3 (transform-block-claims t) (transform-block-at t) transform-block.Post transform-block-Inv-loop transform-block-μ-loop
 transform-block-enum-known-turn-3 t c = search needs
 
--- src/lib.rt:199:17
+-- src/lib.rt:201:17
 transform-block-put-place-requires : (t : ℕ) → transform-block-lts.Need-put-place-requires (transform-block-claims t) (transform-block-at t) transform-block.Post transform-block-Inv-loop transform-block-μ-loop
 transform-block-put-place-requires t c κs =
-    let at-loop = c .before .before .before .before .before .before .before .before .before .before .before .before .before .before .before .before .before .before .before .before .before .before .before .before .before .before .before .before in
+    let at-loop = c .before .before .before .before .before .before .before .before .before .before .before .before .before .before .before .before .before .before .before .before .before .before .before .before .before .before .before .before .before in
     at-loop .loop .inv .long .pl
 
--- src/lib.rt:200:22
+-- src/lib.rt:202:22
 transform-block-transform-blocks-requires : (t : ℕ) → transform-block-lts.Need-transform-blocks-requires (transform-block-claims t) (transform-block-at t) transform-block.Post transform-block-Inv-loop transform-block-μ-loop
 transform-block-transform-blocks-requires t c κs =
     let at-put-place = c .before .before .before .before .before .before .before in
     let at-turn3 = at-put-place .before .before .before in
     let at-next-change = at-turn3 .before .before .before .before .before .before .before .before .before .before .before in
-    let at-inner = at-next-change .before .before .before .before .before .before .before .before .before .before .before .before .before .before .before .before .before .before .before .before .before in
+    let at-inner = at-next-change .before .before .before .before .before .before .before .before .before .before .before .before .before .before .before .before .before .before .before .before .before .before in
     let at-place-in = at-inner .before in
     let start = at-place-in .before .before .before .before .before .before .before .before .before in
     let en = enters-inner _ _ (start .args .env) (at-inner .inner .result) _ _ _ _ (at-inner .inner .ensures)
@@ -656,58 +656,58 @@ transform-block-transform-blocks-requires t c κs =
       ),
     )
 
--- src/lib.rt:215:24
+-- src/lib.rt:217:24
 transform-block-element-copy-out-if3 : (t : ℕ) → transform-block-lts.Need-element-copy-out-if3 (transform-block-claims t) (transform-block-at t) transform-block.Post transform-block-Inv-loop transform-block-μ-loop
 transform-block-element-copy-out-if3 t c = search needs
 
--- src/lib.rt:216:21
+-- src/lib.rt:218:21
 transform-block-same-length-11 : (t : ℕ) → transform-block-lts.Need-same-length-11 (transform-block-claims t) (transform-block-at t) transform-block.Post transform-block-Inv-loop transform-block-μ-loop
 transform-block-same-length-11 t c =
     let at-transform-blocks = c .before .before .before .before .before .before .before .before .before .before .before .before in
-    let at-loop = at-transform-blocks .before .before .before .before .before .before .before .before .before .before .before .before .before .before .before .before .before .before .before .before .before .before .before .before .before .before .before .before .before .before .before .before .before .before .before .before .before in
+    let at-loop = at-transform-blocks .before .before .before .before .before .before .before .before .before .before .before .before .before .before .before .before .before .before .before .before .before .before .before .before .before .before .before .before .before .before .before .before .before .before .before .before .before .before in
     omega (arith, at-transform-blocks .transform-blocks .kept .1 .1 .1 .1 .1 .1 .0, at-loop .loop .inv .owned .below .room)
 
--- src/lib.rt:216:21
+-- src/lib.rt:218:21
 transform-block-same-length-12 : (t : ℕ) → transform-block-lts.Need-same-length-12 (transform-block-claims t) (transform-block-at t) transform-block.Post transform-block-Inv-loop transform-block-μ-loop
 transform-block-same-length-12 t c =
     let at-transform-blocks = c .before .before .before .before .before .before .before .before .before .before .before .before in
     let at-next-change = at-transform-blocks .before .before .before .before .before .before .before .before .before .before .before .before .before .before .before .before .before .before .before .before .before .before in
-    let at-loop = at-next-change .before .before .before .before .before .before .before .before .before .before .before .before .before .before .before in
+    let at-loop = at-next-change .before .before .before .before .before .before .before .before .before .before .before .before .before .before .before .before in
     let at-head = at-loop .before .before .before in
-    omega (arith, at-transform-blocks .transform-blocks .kept .1 .1 .1 .1 .1 .1 .1 .1 .0, at-next-change .next-change .kept .1 .1 .1 .1 .1 .1 .1 .1 .1 .1 .0, at-loop .loop .inv .long .out, at-head .head .kept .1 .1 .0)
+    omega (arith, at-transform-blocks .transform-blocks .kept .1 .1 .1 .1 .1 .1 .1 .1 .0, at-next-change .next-change .kept .1 .1 .1 .1 .1 .1 .1 .1 .1 .1 .1 .0, at-loop .loop .inv .long .out, at-head .head .kept .1 .1 .0)
 
--- src/lib.rt:216:21
+-- src/lib.rt:218:21
 transform-block-same-length-13 : (t : ℕ) → transform-block-lts.Need-same-length-13 (transform-block-claims t) (transform-block-at t) transform-block.Post transform-block-Inv-loop transform-block-μ-loop
 transform-block-same-length-13 t c =
     let at-transform-blocks = c .before .before .before .before .before .before .before .before .before .before .before .before in
     let at-next-change = at-transform-blocks .before .before .before .before .before .before .before .before .before .before .before .before .before .before .before .before .before .before .before .before .before .before in
-    let at-loop = at-next-change .before .before .before .before .before .before .before .before .before .before .before .before .before .before .before in
-    omega (arith, at-transform-blocks .transform-blocks .kept .1 .1 .1 .1 .1 .1 .1 .1 .1 .0, at-next-change .next-change .kept .1 .1 .1 .1 .1 .1 .1 .1 .1 .1 .1 .0, at-loop .loop .inv .long .errs)
+    let at-loop = at-next-change .before .before .before .before .before .before .before .before .before .before .before .before .before .before .before .before in
+    omega (arith, at-transform-blocks .transform-blocks .kept .1 .1 .1 .1 .1 .1 .1 .1 .1 .0, at-next-change .next-change .kept .1 .1 .1 .1 .1 .1 .1 .1 .1 .1 .1 .1 .0, at-loop .loop .inv .long .errs)
 
--- src/lib.rt:216:21
+-- src/lib.rt:218:21
 transform-block-same-length-14 : (t : ℕ) → transform-block-lts.Need-same-length-14 (transform-block-claims t) (transform-block-at t) transform-block.Post transform-block-Inv-loop transform-block-μ-loop
 transform-block-same-length-14 t c =
     let at-transform-blocks = c .before .before .before .before .before .before .before .before .before .before .before .before in
     let at-next-change = at-transform-blocks .before .before .before .before .before .before .before .before .before .before .before .before .before .before .before .before .before .before .before .before .before .before in
-    let at-loop = at-next-change .before .before .before .before .before .before .before .before .before .before .before .before .before .before .before in
-    omega (arith, at-transform-blocks .transform-blocks .kept .1 .1 .1 .1 .1 .1 .1 .1 .1 .1 .0, at-next-change .next-change .kept .1 .1 .1 .1 .1 .1 .1 .1 .1 .1 .1 .1 .0, at-loop .loop .inv .long .warns)
+    let at-loop = at-next-change .before .before .before .before .before .before .before .before .before .before .before .before .before .before .before .before in
+    omega (arith, at-transform-blocks .transform-blocks .kept .1 .1 .1 .1 .1 .1 .1 .1 .1 .1 .0, at-next-change .next-change .kept .1 .1 .1 .1 .1 .1 .1 .1 .1 .1 .1 .1 .1 .0, at-loop .loop .inv .long .warns)
 
--- src/lib.rt:216:21
+-- src/lib.rt:218:21
 transform-block-same-length-15 : (t : ℕ) → transform-block-lts.Need-same-length-15 (transform-block-claims t) (transform-block-at t) transform-block.Post transform-block-Inv-loop transform-block-μ-loop
 transform-block-same-length-15 t c =
     let at-transform-blocks = c .before .before .before .before .before .before .before .before .before .before .before .before in
     let at-next-change = at-transform-blocks .before .before .before .before .before .before .before .before .before .before .before .before .before .before .before .before .before .before .before .before .before .before in
-    let at-loop = at-next-change .before .before .before .before .before .before .before .before .before .before .before .before .before .before .before in
-    omega (arith, at-transform-blocks .transform-blocks .kept .1 .1 .1 .1 .1 .1 .1 .1 .1 .1 .1 .0, at-next-change .next-change .kept .1 .1 .1 .1 .1 .1 .1 .1 .1 .1 .1 .1 .1 .0, at-loop .loop .inv .long .lefts)
+    let at-loop = at-next-change .before .before .before .before .before .before .before .before .before .before .before .before .before .before .before .before in
+    omega (arith, at-transform-blocks .transform-blocks .kept .1 .1 .1 .1 .1 .1 .1 .1 .1 .1 .1 .0, at-next-change .next-change .kept .1 .1 .1 .1 .1 .1 .1 .1 .1 .1 .1 .1 .1 .1 .0, at-loop .loop .inv .long .lefts)
 
--- src/lib.rt:216:21
+-- src/lib.rt:218:21
 transform-block-returns-3 : (t : ℕ) → transform-block-lts.Need-returns-3 (transform-block-claims t) (transform-block-at t) transform-block.Post transform-block-Inv-loop transform-block-μ-loop
 transform-block-returns-3 t c =
     let at-transform-blocks = c .before .before .before .before .before .before .before .before .before .before .before .before in
     let at-put-place = at-transform-blocks .before .before .before .before .before .before .before .before in
     let at-turn3 = at-put-place .before .before .before in
     let at-next-change = at-turn3 .before .before .before .before .before .before .before .before .before .before .before in
-    let at-loop = at-next-change .before .before .before .before .before .before .before .before .before .before .before .before .before .before .before in
+    let at-loop = at-next-change .before .before .before .before .before .before .before .before .before .before .before .before .before .before .before .before in
     let at-head = at-loop .before .before .before in
     let at-inner = at-head .before .before .before in
     let at-place-in = at-inner .before in
@@ -731,7 +731,7 @@ transform-block-returns-3 t c =
     let q = done-as _ _ (start .args .env) (at-inner .inner .result) _ _ _ _ _ _ _ _ _ _ _ _ _ (at-inner .inner .ensures) (at-place-in .place-in .ensures) d in
     ((q .comes, q .nodes), q .walks)
 
--- src/lib.rt:218:17
+-- src/lib.rt:220:17
 transform-block-resumed-requires : (t : ℕ) → transform-block-lts.Need-resumed-requires (transform-block-claims t) (transform-block-at t) transform-block.Post transform-block-Inv-loop transform-block-μ-loop
 transform-block-resumed-requires t c κs = tt
 
@@ -743,7 +743,7 @@ transform-block-loop-less-5 t c =
     let at-put-place = at-transform-blocks .before .before .before .before .before .before .before .before in
     let at-turn3 = at-put-place .before .before .before in
     let at-next-change = at-turn3 .before .before .before .before .before .before .before .before .before .before .before in
-    let at-inner = at-next-change .before .before .before .before .before .before .before .before .before .before .before .before .before .before .before .before .before .before .before .before .before in
+    let at-inner = at-next-change .before .before .before .before .before .before .before .before .before .before .before .before .before .before .before .before .before .before .before .before .before .before in
     let at-place-in = at-inner .before in
     let at-shared-slice-known = at-place-in .before .before .before .before .before .before .before .before in
     let start = at-shared-slice-known .before in
@@ -768,7 +768,7 @@ transform-block-loop-again-5 t c =
     let at-put-place = at-transform-blocks .before .before .before .before .before .before .before .before in
     let at-turn3 = at-put-place .before .before .before in
     let at-next-change = at-turn3 .before .before .before .before .before .before .before .before .before .before .before in
-    let at-inner = at-next-change .before .before .before .before .before .before .before .before .before .before .before .before .before .before .before .before .before .before .before .before .before in
+    let at-inner = at-next-change .before .before .before .before .before .before .before .before .before .before .before .before .before .before .before .before .before .before .before .before .before .before in
     let at-place-in = at-inner .before in
     let at-shared-slice-known = at-place-in .before .before .before .before .before .before .before .before in
     let start = at-shared-slice-known .before in

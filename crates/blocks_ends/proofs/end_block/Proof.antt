@@ -108,8 +108,8 @@ returns c =
     let fits = c .before .before .before .fitting .ensures in
     let is = c .before .ended .ensures in
     let told = c .put-place .ensures in (
-      λ T ld g n m f σ e. ends-told (a .start) (a .p) T (a .s .now) (a .left) (suc (12 - a .left)) (a .start .written + 4) (lent (a .ln .now) (a .lt .now) ld g n) (a .out .now)
-          total span last (put .2 T ld g n (suc (12 - a .left)) m f) stored fits told is e,
+      λ T ld births g n m f σ e. ends-told (a .start) (a .p) T (a .s .now) (a .left) (suc (12 - a .left)) (a .start .written + 4) (lent (a .ln .now) (a .lt .now) ld births g n) (a .out .now)
+          total span last (put .2 T ld births g n (suc (12 - a .left)) m f) stored fits told is e,
       told-ended (a .start) (a .p) told is (put .0),
     )
 

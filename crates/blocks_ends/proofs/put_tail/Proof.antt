@@ -1,6 +1,7 @@
 use borrow.Author.Needs.{needs}
 use native.Mathlib.Omega.{arith}
 use lib.Dec.{eqb}
+use Rattle.rules.specs.Rules.{deleteAt}
 use Rattle.statements_acts.specs.Marks.{lent, dropIn}
 use Rattle.statements_acts.proofs.Masked.{stateSince, since-marked, since-drops}
 use Rattle.blocks_laws.proofs.Ends.{tail-none, tail-frame}
@@ -14,7 +15,7 @@ use Rattle.statements_acts.proofs.put_drops.Reads as put-drops-reads
 returns : tie.Need-returns
 returns c =
     let a = c .before .before .args in
-    (omega arith, omega arith, λ T ld g n depth h f. tail-none T (a .sure) depth (a .span) (lent (a .ln .now) (a .lt .now) ld g n) (c .if1 .taken) _ _)
+    (omega arith, omega arith, λ T ld births g n depth h f. tail-none T (a .sure) depth (a .span) (lent (a .ln .now) (a .lt .now) ld births g n) (c .if1 .taken) _ _)
 
 since-requires : tie.Need-since-requires
 since-requires c κs = search needs
@@ -32,9 +33,9 @@ returns-2 c =
     let own = c .before .before .before .before .since in (
       put .0,
       put .1,
-      λ T ld g n depth h f. tail-frame T (a .sure) depth (a .span) (lent (a .ln .now) (a .lt .now) ld g n) (c .before .before .before .before .before .if1 .left)
-          (since-drops T (a .lt .now) g (a .base) (a .ln .now) ld (λ x. eqb (x .depth) depth) (a .span) n (f .own))
-          (put .2 T ld (stateSince (a .base) g) n (since-marked T (a .lt .now) g (a .base) n _ (own .ensures 0 n (dropIn T (a .lt .now) g) (f .few) h))),
+      λ T ld births g n depth h f. tail-frame T (a .sure) depth (a .span) (lent (a .ln .now) (a .lt .now) ld births g n) (c .before .before .before .before .before .if1 .left)
+          (since-drops T (a .lt .now) g (a .base) (a .ln .now) ld births (λ x. eqb (x .depth) depth) (deleteAt (a .span)) n (f .own))
+          (put .2 T ld births (stateSince (a .base) g) n (since-marked T (a .lt .now) g (a .base) n _ (own .ensures 0 n (dropIn T (a .lt .now) g) (f .few) h))),
     )
 
 pub put-tail-spec : {M : Type 1} → statement M

@@ -22,11 +22,11 @@ enum-told-2 c = search needs
 
 -- src/lib.rt:279:1
 returns : tie.Need-returns
-returns c = (λ types depths at old. answers-give _ (found-local (c .before .before .find-local .ensures) types depths at (c .enum-told .given .1)), λ old. record { most = omega arith; marks = (omega arith, omega arith) })
+returns c = (λ types depths births at old. answers-give _ (found-local (c .before .before .find-local .ensures) types depths births at (c .enum-told .given .1)), λ old. record { most = omega arith; marks = (omega arith, omega arith) })
 
 -- src/lib.rt:279:1
 returns-2 : tie.Need-returns-2
-returns-2 c = (λ types depths at old. answers-ungiven _ (found-none (c .before .before .find-local .ensures) types depths at (c .enum-told2 .given .1)), λ old. record { most = omega arith; marks = tt })
+returns-2 c = (λ types depths births at old. answers-ungiven _ (found-none (c .before .before .find-local .ensures) types depths births at (c .enum-told2 .given .1)), λ old. record { most = omega arith; marks = tt })
 
 pub consume-spec : {M : Type 1} → statement M
 consume-spec = tie.close (tie.spec find-local-requires enum-told enum-told-2 returns returns-2)

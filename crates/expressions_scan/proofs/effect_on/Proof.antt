@@ -76,7 +76,7 @@ put-error-requires c κs = search needs
 
 -- src/lib.rt:336:1
 returns : tie.Need-returns
-returns c = (λ types depths. as-emits (c .enum-told .given .1) (answers-nothing _), record { most = omega arith; marks = tt })
+returns c = (λ types depths births. as-emits (c .enum-told .given .1) (answers-nothing _), record { most = omega arith; marks = tt })
 
 -- src/lib.rt:336:1
 same-length : tie.Need-same-length
@@ -84,7 +84,7 @@ same-length c = search needs
 
 -- src/lib.rt:336:1
 returns-2 : tie.Need-returns-2
-returns-2 c = (λ types depths. as-emits (c .before .before .before .before .before .effect .given .1) (c .before .before .validate-identifier-use .ensures .0 types depths), c .before .before .validate-identifier-use .ensures .1)
+returns-2 c = (λ types depths births. as-emits (c .before .before .before .before .before .effect .given .1) (c .before .before .validate-identifier-use .ensures .0 types depths births), c .before .before .validate-identifier-use .ensures .1)
 
 -- src/lib.rt:336:1
 same-length-2 : tie.Need-same-length-2
@@ -92,11 +92,11 @@ same-length-2 c = search needs
 
 -- src/lib.rt:336:1
 returns-3 : tie.Need-returns-3
-returns-3 c = (λ types depths. as-emits (c .before .before .before .before .before .effect2 .given .1) (c .before .before .use-and-hand-over .ensures .0 types depths), c .before .before .use-and-hand-over .ensures .1)
+returns-3 c = (λ types depths births. as-emits (c .before .before .before .before .before .effect2 .given .1) (c .before .before .use-and-hand-over .ensures .0 types depths births), c .before .before .use-and-hand-over .ensures .1)
 
 -- src/lib.rt:336:1
 returns-4 : tie.Need-returns-4
-returns-4 c = (λ types depths. as-emits (c .before .before .effect3 .given .1) (c .consume .ensures .0 types depths _ _), c .consume .ensures .1 _)
+returns-4 c = (λ types depths births. as-emits (c .before .before .effect3 .given .1) (c .consume .ensures .0 types depths births _ _), c .consume .ensures .1 _)
 
 -- src/lib.rt:336:1
 same-length-3 : tie.Need-same-length-3
@@ -104,7 +104,7 @@ same-length-3 c = search needs
 
 -- src/lib.rt:336:1
 returns-5 : tie.Need-returns-5
-returns-5 c = (λ types depths. as-emits (c .before .before .before .before .before .effect4 .given .1) (c .before .before .validate-move .ensures .0 types depths _), c .before .before .validate-move .ensures .1)
+returns-5 c = (λ types depths births. as-emits (c .before .before .before .before .before .effect4 .given .1) (c .before .before .validate-move .ensures .0 types depths births _), c .before .before .validate-move .ensures .1)
 
 -- src/lib.rt:336:1
 same-length-4 : tie.Need-same-length-4
@@ -112,7 +112,7 @@ same-length-4 c = search needs
 
 -- src/lib.rt:336:1
 returns-6 : tie.Need-returns-6
-returns-6 c = (λ types depths. as-emits (c .before .before .before .before .before .effect5 .given .1) (c .before .before .validate-move2 .ensures .0 types depths _), c .before .before .validate-move2 .ensures .1)
+returns-6 c = (λ types depths births. as-emits (c .before .before .before .before .before .effect5 .given .1) (c .before .before .validate-move2 .ensures .0 types depths births _), c .before .before .validate-move2 .ensures .1)
 
 -- src/lib.rt:336:1
 same-length-5 : tie.Need-same-length-5
@@ -120,7 +120,7 @@ same-length-5 c = search needs
 
 -- src/lib.rt:336:1
 returns-7 : tie.Need-returns-7
-returns-7 c = (λ types depths. as-emits (c .before .before .before .before .before .effect6 .given .1) (answers-bad _ (c .before .before .put-bad-move .ensures)), small-still (c .before .before .put-bad-move .ensures .1) (entry-most 7 _ 1 [] (omega arith) (c .before .before .put-bad-move .ensures .0)))
+returns-7 c = (λ types depths births. as-emits (c .before .before .before .before .before .effect6 .given .1) (answers-bad _ (c .before .before .put-bad-move .ensures)), small-still (c .before .before .put-bad-move .ensures .1) (entry-most 7 _ 1 [] (omega arith) (c .before .before .put-bad-move .ensures .0)))
 
 -- src/lib.rt:336:1
 same-length-6 : tie.Need-same-length-6
@@ -128,7 +128,7 @@ same-length-6 c = search needs
 
 -- src/lib.rt:336:1
 returns-8 : tie.Need-returns-8
-returns-8 c = (λ types depths. as-emits (c .before .before .before .before .before .effect7 .given .1) (answers-global _ (c .before .before .put-error .ensures)), record { most = entry-most 8 _ 0 (_ ∷ []) (omega arith) (c .before .before .put-error .ensures); marks = tt })
+returns-8 c = (λ types depths births. as-emits (c .before .before .before .before .before .effect7 .given .1) (answers-global _ (c .before .before .put-error .ensures)), record { most = entry-most 8 _ 0 (_ ∷ []) (omega arith) (c .before .before .put-error .ensures); marks = tt })
 
 pub effect-on-spec : {M : Type 1} → statement M
 effect-on-spec =

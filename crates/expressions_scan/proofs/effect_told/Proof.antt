@@ -17,7 +17,7 @@ enum-told c = search needs
 
 -- src/lib.rt:400:9
 returns : tie.Need-returns
-returns c = (λ types depths. tells-none (c .enum-told .given .1), omega arith, tt)
+returns c = (λ types depths births. tells-none (c .enum-told .given .1), omega arith, tt)
 
 -- src/lib.rt:406:9
 effect-on-requires : tie.Need-effect-on-requires
@@ -31,7 +31,7 @@ same-length c = search needs
 returns-2 : tie.Need-returns-2
 returns-2 c =
     let e = c .before .before .effect-on .ensures in
-    (λ types depths. tells-numbers (not-true _ (c .before .before .before .before .if1 .taken)) (e .0 types depths), omega (arith, e .1 .most), e .1 .marks)
+    (λ types depths births. tells-numbers (not-true _ (c .before .before .before .before .if1 .taken)) (e .0 types depths births), omega (arith, e .1 .most), e .1 .marks)
 
 -- src/lib.rt:409:64
 slice-aggregate-effect-on : tie.Need-slice-aggregate-effect-on
@@ -45,7 +45,7 @@ effect-on-requires-2 c κs = search needs
 returns-3 : tie.Need-returns-3
 returns-3 c =
     let e = c .before .before .before .effect-on2 .ensures in
-    (λ types depths. tells-nothing (single (c .before .before .before .before .before .before .before .before .before .before .pre .0) (c .before .before .before .before .before .before .before .before .before .before .args .effect) (c .before .before .before .before .before .before .before .before .before .before .args .ln .now) types depths) refl (e .0 types depths) (c .if2 .taken), omega arith, e .1 .marks)
+    (λ types depths births. tells-nothing (single (c .before .before .before .before .before .before .before .before .before .before .pre .0) (c .before .before .before .before .before .before .before .before .before .before .args .effect) (c .before .before .before .before .before .before .before .before .before .before .args .ln .now) types depths births) refl (e .0 types depths births) (c .if2 .taken), omega arith, e .1 .marks)
 
 -- src/lib.rt:417:45
 slice-aggregate-put-error-lines : tie.Need-slice-aggregate-put-error-lines
@@ -54,7 +54,7 @@ slice-aggregate-put-error-lines c = search needs
 -- src/lib.rt:417:9
 put-error-lines-requires : tie.Need-put-error-lines-requires
 put-error-lines-requires c κs =
-    let f = entry-fit (single (c .before .before .before .before .before .before .before .before .before .before .before .before .pre .0) (c .before .before .before .before .before .before .before .before .before .before .before .before .args .effect) (c .before .before .before .before .before .before .before .before .before .before .before .before .args .ln .now) [] []) refl (c .before .before .before .before .before .effect-on2 .ensures .0 [] [] .errors) (c .before .before .if2 .left) in
+    let f = entry-fit (single (c .before .before .before .before .before .before .before .before .before .before .before .before .pre .0) (c .before .before .before .before .before .before .before .before .before .before .before .before .args .effect) (c .before .before .before .before .before .before .before .before .before .before .before .before .args .ln .now) [] [] []) refl (c .before .before .before .before .before .effect-on2 .ensures .0 [] [] [] .errors) (c .before .before .if2 .left) in
     (omega arith, f .0, f .1, f .2, omega (arith, c .before .before .before .before .before .before .before .before .before .before .before .before .pre .1))
 
 -- src/lib.rt:380:1
@@ -66,7 +66,7 @@ returns-4 : tie.Need-returns-4
 returns-4 c =
     let e = c .before .before .before .before .before .before .before .before .effect-on2 .ensures in
     let l = c .before .before .put-error-lines .ensures in
-    (λ types depths. tells-lines (single (c .before .before .before .before .before .before .before .before .before .before .before .before .before .before .before .pre .0) (c .before .before .before .before .before .before .before .before .before .before .before .before .before .before .before .args .effect) (c .before .before .before .before .before .before .before .before .before .before .before .before .before .before .before .args .ln .now) types depths) refl (e .0 types depths) (c .before .before .before .before .before .if2 .left) (not-false _ (c .before .before .before .before .before .before .before .before .before .before .if1 .left)) (l .0), l .1, e .1 .marks)
+    (λ types depths births. tells-lines (single (c .before .before .before .before .before .before .before .before .before .before .before .before .before .before .before .pre .0) (c .before .before .before .before .before .before .before .before .before .before .before .before .before .before .before .args .effect) (c .before .before .before .before .before .before .before .before .before .before .before .before .before .before .before .args .ln .now) types depths births) refl (e .0 types depths births) (c .before .before .before .before .before .if2 .left) (not-false _ (c .before .before .before .before .before .before .before .before .before .before .if1 .left)) (l .0), l .1, e .1 .marks)
 
 pub effect-told-spec : {M : Type 1} → statement M
 effect-told-spec =

@@ -37,11 +37,11 @@ same-length c = search needs
 
 -- src/lib.rt:213:1
 returns : tie.Need-returns
-returns c = (λ types depths. answers-use _ (stored-eq (sym (ap (entriesOf version1) (use-some (c .before .before .before .before .before .before .before .find-local .ensures) types depths _ (c .before .before .before .before .before .i .given .1) _))) (c .before .before .put-use-of .ensures .0)), record { most = c .before .before .put-use-of .ensures .1; marks = tt })
+returns c = (λ types depths births. answers-use _ (stored-eq (sym (ap (entriesOf version1) (use-some (c .before .before .before .before .before .before .before .find-local .ensures) types depths births _ (c .before .before .before .before .before .i .given .1) _))) (c .before .before .put-use-of .ensures .0)), record { most = c .before .before .put-use-of .ensures .1; marks = tt })
 
 -- src/lib.rt:213:1
 returns-2 : tie.Need-returns-2
-returns-2 c = (λ types depths. answers-use _ (stored-eq (sym (ap (entriesOf version1) (use-none (c .before .before .find-local .ensures) types depths _ (c .enum-told .given .1) _))) (none-stored _ _)), record { most = omega arith; marks = tt })
+returns-2 c = (λ types depths births. answers-use _ (stored-eq (sym (ap (entriesOf version1) (use-none (c .before .before .find-local .ensures) types depths births _ (c .enum-told .given .1) _))) (none-stored _ _)), record { most = omega arith; marks = tt })
 
 pub validate-identifier-use-spec : {M : Type 1} → statement M
 validate-identifier-use-spec =

@@ -30,7 +30,7 @@ same-length c = search needs
 
 -- src/lib.rt:324:17
 returns : tie.Need-returns
-returns c = (λ types depths at. answers-temp _ (found-local (c .before .before .before .before .before .before .before .find-local .ensures) types depths at (c .before .before .before .before .before .enum-told .given .1)) (sym (c .before .before .before .before .if1 .taken)) (c .before .before .put-bad-move .ensures), small-still (c .before .before .put-bad-move .ensures .1) (entry-most 7 (c .before .before .before .before .before .before .before .before .before .args .place) 3 [] (omega arith) (c .before .before .put-bad-move .ensures .0)))
+returns c = (λ types depths births at. answers-temp _ (found-local (c .before .before .before .before .before .before .before .find-local .ensures) types depths births at (c .before .before .before .before .before .enum-told .given .1)) (sym (c .before .before .before .before .if1 .taken)) (c .before .before .put-bad-move .ensures), small-still (c .before .before .put-bad-move .ensures .1) (entry-most 7 (c .before .before .before .before .before .before .before .before .before .args .place) 3 [] (omega arith) (c .before .before .put-bad-move .ensures .0)))
 
 -- src/lib.rt:331:40
 enum-told-2 : tie.Need-enum-told-2
@@ -42,7 +42,7 @@ put-bad-move-requires-2 c κs = search needs
 
 -- src/lib.rt:308:1
 returns-2 : tie.Need-returns-2
-returns-2 c = (λ types depths at. answers-move _ (found-local (c .before .before .before .find-local .ensures) types depths at (c .before .enum-told .given .1)) (sym (c .if1 .left)), record { most = omega arith; marks = (omega arith, omega arith) })
+returns-2 c = (λ types depths births at. answers-move _ (found-local (c .before .before .before .find-local .ensures) types depths births at (c .before .enum-told .given .1)) (sym (c .if1 .left)), record { most = omega arith; marks = (omega arith, omega arith) })
 
 -- src/lib.rt:308:1
 same-length-2 : tie.Need-same-length-2
@@ -50,7 +50,7 @@ same-length-2 c = search needs
 
 -- src/lib.rt:308:1
 returns-3 : tie.Need-returns-3
-returns-3 c = (λ types depths at. answers-unmoved _ (found-none (c .before .before .before .before .before .before .find-local .ensures) types depths at (c .before .before .before .before .enum-told2 .given .1)) (c .before .before .put-bad-move2 .ensures), small-still (c .before .before .put-bad-move2 .ensures .1) (entry-most 7 (c .before .before .before .before .before .before .before .before .args .place) 2 [] (omega arith) (c .before .before .put-bad-move2 .ensures .0)))
+returns-3 c = (λ types depths births at. answers-unmoved _ (found-none (c .before .before .before .before .before .before .find-local .ensures) types depths births at (c .before .before .before .before .enum-told2 .given .1)) (c .before .before .put-bad-move2 .ensures), small-still (c .before .before .put-bad-move2 .ensures .1) (entry-most 7 (c .before .before .before .before .before .before .before .before .args .place) 2 [] (omega arith) (c .before .before .put-bad-move2 .ensures .0)))
 
 pub validate-move-spec : {M : Type 1} → statement M
 validate-move-spec =

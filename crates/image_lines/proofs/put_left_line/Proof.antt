@@ -16,7 +16,7 @@ add-result c = search needs
 
 -- src/lib.rt:160:9
 returns : tie.Need-returns
-returns c = (λ span e. left-past span (c .before .before .args .name) (omega arith), refl)
+returns c = (λ span e. left-past span (c .before .before .args .name) (c .before .before .args .born) (omega arith), refl)
 
 -- src/lib.rt:164:26
 slice-aggregate-put-line : tie.Need-slice-aggregate-put-line
@@ -33,7 +33,7 @@ same-length c = search needs
 -- src/lib.rt:155:1
 returns-2 : tie.Need-returns-2
 unfolding bytes
-returns-2 c = (λ span e. left-put span (c .before .before .before .before .before .before .before .before .before .args .name) (c .before .before .put-line .ensures .0 (head (bytes "left behind") span) (head-length (bytes "left behind") span (omega arith)) e), c .before .before .put-line .ensures .1)
+returns-2 c = (λ span e. left-put span (c .before .before .before .before .before .before .before .before .before .args .name) (c .before .before .before .before .before .before .before .before .before .args .born) (c .before .before .put-line .ensures .0 (head (bytes "left behind") span) (head-length (bytes "left behind") span (omega arith)) e), c .before .before .put-line .ensures .1)
 
 pub put-left-line-spec : {M : Type 1} → statement M
 put-left-line-spec =

@@ -12,7 +12,7 @@ use Rattle.scope_stack.proofs.needs_revival.Reads as needs-revival-reads
 
 -- src/lib.rt:65:9
 returns : tie.Need-returns
-returns c = refused _ _ _ _ _ (c .before .before .before .pre) (c .if1 .taken)
+returns c = refused _ _ _ _ _ _ (c .before .before .before .pre) (c .if1 .taken)
 
 -- src/lib.rt:70:13
 register-local-requires : tie.Need-register-local-requires
@@ -33,7 +33,7 @@ returns-2 c =
     let s = c .before .before .before .before .before .before .before .before .before .before .before .before .before .before .args .stack in
     let few = c .before .before .before .before .before .before .before .before .before .before .before .if1 .left in
     let all = c .mark .ensures in
-    revived s _ _ _ _ (m .result) few (m .ensures) 0 _ (all .0) (all .1 (m .result) refl refl refl)
+    revived s _ _ _ _ _ (m .result) few (m .ensures) 0 _ (all .0) (all .1 (m .result) refl refl refl)
 
 -- src/lib.rt:59:1
 returns-3 : tie.Need-returns-3
@@ -41,7 +41,7 @@ returns-3 c =
     let m = c .before .before .before .before .before .before .register-local in
     let s = c .before .before .before .before .before .before .before .before .before .before .args .stack in
     let held = c .before .before .before .before .before .before .before .before .before .before .pre .1 in
-    fresh s _ _ _ _ (m .result) (c .before .before .before .before .before .before .before .if1 .left) (m .ensures) held (c .before .needs-revival .ensures (aliveAt (s .states)) (held .word) (c .if2 .left))
+    fresh s _ _ _ _ _ (m .result) (c .before .before .before .before .before .before .before .if1 .left) (m .ensures) held (c .before .needs-revival .ensures (aliveAt (s .states)) (held .word) (c .if2 .left))
 
 pub registered-spec : {M : Type 1} → statement M
 registered-spec =

@@ -4,11 +4,11 @@ use Rattle.lent.proofs.written.Tie as tie
 use Rattle.lent.proofs.written.Reads as reads
 use Rattle.lent.proofs.written.Lts as lts
 
--- src/lib.rt:138:9
+-- src/lib.rt:145:9
 returns : tie.Need-returns
 returns c = simp (eq-eqb _ _ (c .if1 .taken))
 
--- src/lib.rt:134:1
+-- src/lib.rt:141:1
 returns-2 : tie.Need-returns-2
 returns-2 c = simp (ne-eqb _ _ (c .if1 .left))
 

@@ -10,7 +10,7 @@ use Rattle.scope_stack.proofs.States.mark.Reads as mark-reads
 
 -- src/main.rt:75:9
 returns : tie.Need-returns
-returns c = refused _ _ _ _ _ (c .before .before .before .pre) (c .if1 .taken)
+returns c = refused _ _ _ _ _ _ (c .before .before .before .pre) (c .if1 .taken)
 
 -- src/main.rt:80:13
 register-local-requires : tie.Need-register-local-requires
@@ -27,7 +27,7 @@ returns-2 c =
     let s = c .before .before .before .before .before .before .before .before .before .args .old in
     let few = c .before .before .before .before .before .before .if1 .left in
     let all = c .mark .ensures in
-    revived s _ _ _ _ (m .result) few (m .ensures) 0 _ (all .0) (all .1 (m .result) refl refl refl)
+    revived s _ _ _ _ _ (m .result) few (m .ensures) 0 _ (all .0) (all .1 (m .result) refl refl refl)
 
 pub register-by-value-spec : {M : Type 1} → statement M
 register-by-value-spec =

@@ -19,55 +19,55 @@ Inv-loop seed steps t₀ value₀ lent₀ x₀ i₀ t value lent x i = Whole val
 abbrev μ-loop : tie.MeasureT-loop
 μ-loop seed steps t₀ value₀ lent₀ x₀ i₀ t value lent x i = steps - i
 
--- src/main.rt:271:9
+-- src/main.rt:289:9
 empty-requires : tie.Need-empty-requires Inv-loop μ-loop
 empty-requires c κs = search needs
 
--- src/main.rt:272:9
+-- src/main.rt:290:9
 empty-requires-2 : tie.Need-empty-requires-2 Inv-loop μ-loop
 empty-requires-2 c κs = search needs
 
--- src/main.rt:275:5
+-- src/main.rt:293:5
 loop-holds : tie.Need-loop-holds Inv-loop μ-loop
 loop-holds c = search needs
 
--- src/main.rt:276:13
+-- src/main.rt:294:13
 next-number-requires : tie.Need-next-number-requires Inv-loop μ-loop
 next-number-requires c κs = search needs
 
--- src/main.rt:277:9
+-- src/main.rt:295:9
 next-number-requires-2 : tie.Need-next-number-requires-2 Inv-loop μ-loop
 next-number-requires-2 c κs = search needs
 
--- src/main.rt:278:13
+-- src/main.rt:296:13
 step-of-requires : tie.Need-step-of-requires Inv-loop μ-loop
 step-of-requires c κs = search needs
 
--- src/main.rt:279:13
+-- src/main.rt:297:13
 by-value-requires : tie.Need-by-value-requires Inv-loop μ-loop
 by-value-requires c κs = search needs
 
--- src/main.rt:280:13
+-- src/main.rt:298:13
 in-place-requires : tie.Need-in-place-requires Inv-loop μ-loop
 in-place-requires c κs = search needs
 
--- src/main.rt:281:9
+-- src/main.rt:299:9
 counted-requires : tie.Need-counted-requires Inv-loop μ-loop
 counted-requires c κs = search needs
 
--- src/main.rt:284:9
+-- src/main.rt:302:9
 add-i : tie.Need-add-i Inv-loop μ-loop
 add-i c = omega (arith, c .before .before .before .before .before .before .before .before .loop-test .taken, c .before .before .before .before .before .before .before .before .before .before .before .before .fits .steps)
 
--- src/main.rt:275:5
+-- src/main.rt:293:5
 loop-less : tie.Need-loop-less Inv-loop μ-loop
 loop-less c = search needs
 
--- src/main.rt:275:5
+-- src/main.rt:293:5
 loop-again : tie.Need-loop-again Inv-loop μ-loop
 loop-again c = search needs
 
--- src/main.rt:267:1
+-- src/main.rt:285:1
 returns : tie.Need-returns Inv-loop μ-loop
 returns c = search needs
 

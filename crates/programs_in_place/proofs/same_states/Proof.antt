@@ -11,59 +11,59 @@ Inv-loop a b i₀ i = Unit {0}
 abbrev μ-loop : tie.MeasureT-loop
 μ-loop a b i₀ i = 64 - i
 
--- src/main.rt:186:9
+-- src/main.rt:204:9
 returns : tie.Need-returns Inv-loop μ-loop
 returns c = search needs
 
--- src/main.rt:189:5
+-- src/main.rt:207:5
 loop-holds : tie.Need-loop-holds Inv-loop μ-loop
 loop-holds c = search needs
 
--- src/main.rt:190:12
+-- src/main.rt:208:12
 element-copy-out-if2 : tie.Need-element-copy-out-if2 Inv-loop μ-loop
 element-copy-out-if2 c = search needs
 
--- src/main.rt:190:26
+-- src/main.rt:208:26
 element-copy-out-if2-2 : tie.Need-element-copy-out-if2-2 Inv-loop μ-loop
 element-copy-out-if2-2 c = search needs
 
--- src/main.rt:191:13
+-- src/main.rt:209:13
 returns-2 : tie.Need-returns-2 Inv-loop μ-loop
 returns-2 c = search needs
 
--- src/main.rt:193:12
+-- src/main.rt:211:12
 mul-if3 : tie.Need-mul-if3 Inv-loop μ-loop
 mul-if3 c = search needs
 
--- src/main.rt:193:12
+-- src/main.rt:211:12
 element-copy-out-if3 : tie.Need-element-copy-out-if3 Inv-loop μ-loop
 element-copy-out-if3 c = search needs
 
--- src/main.rt:193:27
+-- src/main.rt:211:27
 mul-if3-2 : tie.Need-mul-if3-2 Inv-loop μ-loop
 mul-if3-2 c = search needs
 
--- src/main.rt:193:27
+-- src/main.rt:211:27
 element-copy-out-if3-2 : tie.Need-element-copy-out-if3-2 Inv-loop μ-loop
 element-copy-out-if3-2 c = search needs
 
--- src/main.rt:194:13
+-- src/main.rt:212:13
 returns-3 : tie.Need-returns-3 Inv-loop μ-loop
 returns-3 c = search needs
 
--- src/main.rt:196:9
+-- src/main.rt:214:9
 add-i : tie.Need-add-i Inv-loop μ-loop
 add-i c = search needs
 
--- src/main.rt:189:5
+-- src/main.rt:207:5
 loop-less : tie.Need-loop-less Inv-loop μ-loop
 loop-less c = search needs
 
--- src/main.rt:189:5
+-- src/main.rt:207:5
 loop-again : tie.Need-loop-again Inv-loop μ-loop
 loop-again c = search needs
 
--- src/main.rt:184:1
+-- src/main.rt:202:1
 returns-4 : tie.Need-returns-4 Inv-loop μ-loop
 returns-4 c = search needs
 

@@ -6,15 +6,15 @@ use Rattle.programs_replay.proofs.all_agrees.Reads as reads
 use Rattle.programs_replay.proofs.all_agrees.Lts as lts
 use Rattle.programs_replay.proofs.lavish_agrees.Reads as lavish-agrees-reads
 
--- src/main.rt:331:25
+-- src/main.rt:360:25
 slice-aggregate-lavish-agrees : tie.Need-slice-aggregate-lavish-agrees
 slice-aggregate-lavish-agrees c = zeros 1500000
 
--- src/main.rt:331:5
+-- src/main.rt:360:5
 lavish-agrees-requires : tie.Need-lavish-agrees-requires
 lavish-agrees-requires c κs = search needs
 
--- src/main.rt:327:1
+-- src/main.rt:356:1
 returns : tie.Need-returns
 returns c = search needs
 

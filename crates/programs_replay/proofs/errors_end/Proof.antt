@@ -26,7 +26,7 @@ add-p c = search needs
 loop-holds : tie.Need-loop-holds Inv-loop μ-loop
 loop-holds c = search needs
 
--- src/main.rt:74:38
+-- src/main.rt:74:44
 add-peek : tie.Need-add-peek Inv-loop μ-loop
 add-peek c = search needs
 

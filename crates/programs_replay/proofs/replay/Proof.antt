@@ -18,47 +18,47 @@ Inv-loop s count₀ at₀ count at = (count .agree + count .differ ≤ at) × (a
 abbrev μ-loop : tie.MeasureT-loop
 μ-loop s count₀ at₀ count at = length s - at
 
--- src/main.rt:415:5
+-- src/main.rt:444:5
 loop-holds : tie.Need-loop-holds Inv-loop μ-loop
 loop-holds c = search needs
 
--- src/main.rt:416:13
+-- src/main.rt:445:13
 record-at-requires : tie.Need-record-at-requires Inv-loop μ-loop
 record-at-requires c κs = search needs
 
--- src/main.rt:417:26
+-- src/main.rt:446:26
 enum-known-found : tie.Need-enum-known-found Inv-loop μ-loop
 enum-known-found c = search needs
 
--- src/main.rt:418:13
+-- src/main.rt:447:13
 enum-told : tie.Need-enum-told Inv-loop μ-loop
 enum-told c = search needs
 
--- src/main.rt:418:13
+-- src/main.rt:447:13
 print-bad-requires : tie.Need-print-bad-requires Inv-loop μ-loop
 print-bad-requires c κs = search needs
 
--- src/main.rt:419:13
+-- src/main.rt:448:13
 returns : tie.Need-returns Inv-loop μ-loop
 returns c = tt
 
--- src/main.rt:421:41
+-- src/main.rt:450:41
 agrees-requires : tie.Need-agrees-requires Inv-loop μ-loop
 agrees-requires c κs = let i = whole-inside _ _ (c .before .before .before .record-at .ensures) (c .before .found .given .1) in i .1
 
--- src/main.rt:421:9
+-- src/main.rt:450:9
 counted-requires : tie.Need-counted-requires Inv-loop μ-loop
 counted-requires c κs = let i = whole-inside _ _ (c .before .before .before .before .record-at .ensures) (c .before .before .found .given .1) in omega (arith, i)
 
--- src/main.rt:415:5
+-- src/main.rt:444:5
 loop-less : tie.Need-loop-less Inv-loop μ-loop
 loop-less c = let i = whole-inside _ _ (c .before .before .before .before .before .record-at .ensures) (c .before .before .before .found .given .1) in omega (arith, i)
 
--- src/main.rt:415:5
+-- src/main.rt:444:5
 loop-again : tie.Need-loop-again Inv-loop μ-loop
 loop-again c = let i = whole-inside _ _ (c .before .before .before .before .before .record-at .ensures) (c .before .before .before .found .given .1) in omega (arith, i)
 
--- src/main.rt:407:1
+-- src/main.rt:436:1
 returns-2 : tie.Need-returns-2 Inv-loop μ-loop
 returns-2 c = tt
 

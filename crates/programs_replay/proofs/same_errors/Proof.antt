@@ -43,7 +43,7 @@ same-error-requires c κs = search needs
 returns-2 : tie.Need-returns-2 Inv-loop μ-loop
 returns-2 c = tt
 
--- src/main.rt:212:38
+-- src/main.rt:212:44
 add-peek : tie.Need-add-peek Inv-loop μ-loop
 add-peek c = search needs
 

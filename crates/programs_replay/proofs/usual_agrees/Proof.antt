@@ -10,87 +10,87 @@ use Rattle.image_fields.proofs.wide.Reads as wide-reads
 use Rattle.ownership_pass.proofs.pass.Reads as pass-reads
 use Rattle.programs_replay.proofs.same_answer.Reads as same-answer-reads
 
--- src/main.rt:282:17
+-- src/main.rt:311:17
 add-image : tie.Need-add-image
 add-image c = search needs
 
--- src/main.rt:288:9
+-- src/main.rt:317:9
 peek-requires : tie.Need-peek-requires
 peek-requires c κs = search needs
 
--- src/main.rt:290:9
+-- src/main.rt:319:9
 sub-pass : tie.Need-sub-pass
 sub-pass c = search needs
 
--- src/main.rt:290:9
+-- src/main.rt:319:9
 part-pass-start : tie.Need-part-pass-start
 part-pass-start c = search needs
 
--- src/main.rt:290:9
+-- src/main.rt:319:9
 part-pass-end : tie.Need-part-pass-end
 part-pass-end c = search needs
 
--- src/main.rt:291:9
+-- src/main.rt:320:9
 slice-aggregate-pass : tie.Need-slice-aggregate-pass
 slice-aggregate-pass c = search needs
 
--- src/main.rt:292:9
+-- src/main.rt:321:9
 slice-aggregate-pass-2 : tie.Need-slice-aggregate-pass-2
 slice-aggregate-pass-2 c = search needs
 
--- src/main.rt:293:9
+-- src/main.rt:322:9
 slice-aggregate-pass-3 : tie.Need-slice-aggregate-pass-3
 slice-aggregate-pass-3 c = search needs
 
--- src/main.rt:294:9
+-- src/main.rt:323:9
 slice-aggregate-pass-4 : tie.Need-slice-aggregate-pass-4
 slice-aggregate-pass-4 c = search needs
 
--- src/main.rt:289:11
+-- src/main.rt:318:11
 pass-requires : tie.Need-pass-requires
 pass-requires c κs = search needs
 
--- src/main.rt:296:26
+-- src/main.rt:325:26
 enum-known-fault : tie.Need-enum-known-fault
 enum-known-fault c = search needs
 
--- src/main.rt:296:36
+-- src/main.rt:325:36
 wide-requires : tie.Need-wide-requires
 wide-requires c κs = search needs
 
--- src/main.rt:297:27
+-- src/main.rt:326:27
 enum-known-t : tie.Need-enum-known-t
 enum-known-t c = search needs
 
--- src/main.rt:299:17
+-- src/main.rt:328:17
 returns : tie.Need-returns
 returns c = search needs
 
--- src/main.rt:301:34
+-- src/main.rt:330:34
 slice-aggregate-same-answer : tie.Need-slice-aggregate-same-answer
 slice-aggregate-same-answer c = search needs
 
--- src/main.rt:301:40
+-- src/main.rt:330:40
 slice-aggregate-same-answer-2 : tie.Need-slice-aggregate-same-answer-2
 slice-aggregate-same-answer-2 c = search needs
 
--- src/main.rt:301:47
+-- src/main.rt:330:47
 slice-aggregate-same-answer-3 : tie.Need-slice-aggregate-same-answer-3
 slice-aggregate-same-answer-3 c = search needs
 
--- src/main.rt:301:55
+-- src/main.rt:330:55
 slice-aggregate-same-answer-4 : tie.Need-slice-aggregate-same-answer-4
 slice-aggregate-same-answer-4 c = search needs
 
--- src/main.rt:301:13
+-- src/main.rt:330:13
 same-answer-requires : tie.Need-same-answer-requires
 same-answer-requires c κs = let w = within _ _ _ (c .before .before .before .before .before .before .before .before .before .before .before .before .pass .ensures) (c .before .before .before .before .before .before .t .given .1) in (c .before .before .before .before .before .before .before .before .before .before .before .before .before .before .before .before .before .before .before .before .before .pre, (omega (arith, w .written), omega (arith, w .errors), omega (arith, w .warnings), omega (arith, w .lefts)))
 
--- src/main.rt:279:1
+-- src/main.rt:308:1
 returns-2 : tie.Need-returns-2
 returns-2 c = search needs
 
--- src/main.rt:279:1
+-- src/main.rt:308:1
 returns-3 : tie.Need-returns-3
 returns-3 c = search needs
 

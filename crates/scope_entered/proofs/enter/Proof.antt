@@ -19,33 +19,27 @@ use Rattle.scope_entered.proofs.register.Reads as register-reads
 use Rattle.scope_entered.proofs.register_params.Reads as register-params-reads
 use Rattle.scope_stack.proofs.Locals.new.Reads as new-reads
 
--- src/lib.rt:45:9
 new-requires : tie.Need-new-requires
 new-requires c κs = search needs
 
--- src/lib.rt:46:8
 peek-requires : tie.Need-peek-requires
 peek-requires c κs = search needs
 
--- src/lib.rt:47:46
 add-peek-two : tie.Need-add-peek-two
 add-peek-two c =
     let b = params-behind (c .before .before .before .before .before .args .s .now) (c .before .before .before .before .before .args .at) _ (c .before .peek .ensures .0) (c .if1 .taken) (c .before .before .before .before .before .pre .0) in
     omega (arith, b .inside, c .before .before .before .before .before .pre .1)
 
--- src/lib.rt:47:13
 peek-two-requires : tie.Need-peek-two-requires
 peek-two-requires c κs =
     let b = params-behind (c .before .before .before .before .before .args .s .now) (c .before .before .before .before .before .args .at) _ (c .before .peek .ensures .0) (c .if1 .taken) (c .before .before .before .before .before .pre .0) in
     omega (arith, b .inside, c .before .before .before .before .before .pre .1)
 
--- src/lib.rt:48:52
 add-register-params : tie.Need-add-register-params
 add-register-params c =
     let b = params-behind (c .before .before .before .before .before .before .args .s .now) (c .before .before .before .before .before .before .args .at) _ (c .before .before .peek .ensures .0) (c .before .if1 .taken) (c .before .before .before .before .before .before .pre .0) in
     omega (arith, b .inside, c .before .before .before .before .before .before .pre .1)
 
--- src/lib.rt:48:9
 register-params-requires : tie.Need-register-params-requires
 register-params-requires c κs =
     let b = params-behind (c .before .before .before .before .before .before .args .s .now) (c .before .before .before .before .before .before .args .at) _ (c .before .before .peek .ensures .0) (c .before .if1 .taken) (c .before .before .before .before .before .before .pre .0) in (
@@ -57,7 +51,6 @@ register-params-requires c κs =
       c .before .before .before .before .before .before .pre .2,
     )
 
--- src/lib.rt:48:9
 returns : tie.Need-returns
 returns c =
     let b = params-behind (c .before .before .before .before .before .before .before .args .s .now) (c .before .before .before .before .before .before .before .args .at) _ (c .before .before .before .peek .ensures .0) (c .before .before .if1 .taken) (c .before .before .before .before .before .before .before .pre .0) in
@@ -69,41 +62,34 @@ returns c =
     (locals-are s (c .before .before .before .before .before .before .before .args .at) (subst (λ k. k < 2) (c .before .before .before .peek .ensures .0) (c .before .before .if1 .taken))) (c .before .before .before .before .new .result) r (c .before .before .before .before .new .ensures .1) (c .before .before .before .before .new .ensures .2)
     (omega (arith, adds-count s (c .before .before .before .before .before .before .before .args .tb .now) (c .before .before .before .before .new .result) r (two s (c .before .before .before .before .before .before .before .args .at + 1)) (c .before .before .before .before .before .before .before .args .at + 3) a, b .few, c .before .before .before .before .new .ensures .1)) a
 
--- src/lib.rt:50:71
 add-name-at : tie.Need-add-name-at
 add-name-at c =
     let b = this-behind (c .before .before .before .before .before .args .s .now) (c .before .before .before .before .before .args .at) _ (c .before .peek .ensures .0) (c .if1 .left) (c .before .before .before .before .before .pre .0) in
     omega (arith, b .inside, c .before .before .before .before .before .pre .1)
 
--- src/lib.rt:50:39
 name-at-requires : tie.Need-name-at-requires
 name-at-requires c κs =
     let b = this-behind (c .before .before .before .before .before .args .s .now) (c .before .before .before .before .before .args .at) _ (c .before .peek .ensures .0) (c .if1 .left) (c .before .before .before .before .before .pre .0) in
     omega (arith, b .inside, c .before .before .before .before .before .pre .1)
 
--- src/lib.rt:50:9
 register-requires : tie.Need-register-requires
 register-requires c κs = search needs
 
--- src/lib.rt:51:42
 add-peek-two-2 : tie.Need-add-peek-two-2
 add-peek-two-2 c =
     let b = this-behind (c .before .before .before .before .before .before .before .args .s .now) (c .before .before .before .before .before .before .before .args .at) _ (c .before .before .before .peek .ensures .0) (c .before .before .if1 .left) (c .before .before .before .before .before .before .before .pre .0) in
     omega (arith, b .inside, c .before .before .before .before .before .before .before .pre .1)
 
--- src/lib.rt:51:9
 peek-two-requires-2 : tie.Need-peek-two-requires-2
 peek-two-requires-2 c κs =
     let b = this-behind (c .before .before .before .before .before .before .before .args .s .now) (c .before .before .before .before .before .before .before .args .at) _ (c .before .before .before .peek .ensures .0) (c .before .before .if1 .left) (c .before .before .before .before .before .before .before .pre .0) in
     omega (arith, b .inside, c .before .before .before .before .before .before .before .pre .1)
 
--- src/lib.rt:52:40
 add-register-params-2 : tie.Need-add-register-params-2
 add-register-params-2 c =
     let b = this-behind (c .before .before .before .before .before .before .before .before .args .s .now) (c .before .before .before .before .before .before .before .before .args .at) _ (c .before .before .before .before .peek .ensures .0) (c .before .before .before .if1 .left) (c .before .before .before .before .before .before .before .before .pre .0) in
     omega (arith, b .inside, c .before .before .before .before .before .before .before .before .pre .1)
 
--- src/lib.rt:52:5
 register-params-requires-2 : tie.Need-register-params-requires-2
 register-params-requires-2 c κs =
     let b = this-behind (c .before .before .before .before .before .before .before .before .args .s .now) (c .before .before .before .before .before .before .before .before .args .at) _ (c .before .before .before .before .peek .ensures .0) (c .before .before .before .if1 .left) (c .before .before .before .before .before .before .before .before .pre .0) in (
@@ -115,7 +101,6 @@ register-params-requires-2 c κs =
       c .before .before .before .before .before .before .before .before .pre .2,
     )
 
--- src/lib.rt:41:1
 returns-2 : tie.Need-returns-2
 returns-2 c =
     let b = this-behind (c .before .before .before .before .before .before .before .before .before .args .s .now) (c .before .before .before .before .before .before .before .before .before .args .at) _ (c .before .before .before .before .before .peek .ensures .0) (c .before .before .before .before .if1 .left) (c .before .before .before .before .before .before .before .before .before .pre .0) in

@@ -8,15 +8,12 @@ use Rattle.tables_lookup.proofs.should_auto_delete.Reads as should-auto-delete-
 use Rattle.scope_stack.proofs.Locals.register_local.Reads as register-local-reads
 use Rattle.tables_lookup.proofs.auto_deleted.Reads as auto-deleted-reads
 
--- src/lib.rt:15:9
 auto-deleted-requires : tie.Need-auto-deleted-requires
 auto-deleted-requires c κs = search needs
 
--- src/lib.rt:16:5
 register-local-requires : tie.Need-register-local-requires
 register-local-requires c κs = search needs
 
--- src/lib.rt:11:1
 returns : tie.Need-returns
 returns c =
     adds-one (c .before .before .before .args .tb .now) (c .before .before .before .args .l) (c .register-local .result) (c .before .before .before .args .name) (c .before .before .before .args .ty) _ (c .before .before .before .pre .1) (c .before .auto-deleted .ensures) (c .register-local .ensures)

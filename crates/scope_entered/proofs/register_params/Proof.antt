@@ -18,7 +18,6 @@ Inv-loop s tb many at l₀ i₀ l i = Adds tb (paramsIn s i at) l₀ l × (i ≤
 abbrev μ-loop : tie.MeasureT-loop
 μ-loop s tb many at l₀ i₀ l i = many - i
 
--- src/lib.rt:27:5
 loop-holds : tie.Need-loop-holds Inv-loop μ-loop
 loop-holds c = (
   subst (λ (ps : List Param). Adds (c .before .before .args .tb .now) ps (c .before .before .args .locals) (c .before .before .args .locals)) (sym (params-none (c .before .before .args .s .now) (c .before .before .args .at)))
@@ -26,48 +25,38 @@ loop-holds c = (
   omega arith,
 )
 
--- src/lib.rt:28:22
 mul-p : tie.Need-mul-p Inv-loop μ-loop
 mul-p c = omega (arith, c .before .before .before .before .pre .2, c .before .before .before .before .pre .3, c .before .before .before .before .pre .4, c .loop-test .taken)
 
--- src/lib.rt:28:17
 add-p : tie.Need-add-p Inv-loop μ-loop
 add-p c = omega (arith, c .before .before .before .before .pre .2, c .before .before .before .before .pre .3, c .before .before .before .before .pre .4, c .loop-test .taken)
 
--- src/lib.rt:32:13
 name-at-requires : tie.Need-name-at-requires Inv-loop μ-loop
 name-at-requires c κs = omega (arith, c .before .before .before .before .pre .2, c .before .before .before .before .pre .3, c .before .before .before .before .pre .4, c .loop-test .taken)
 
--- src/lib.rt:33:45
 add-name-at : tie.Need-add-name-at Inv-loop μ-loop
 add-name-at c = omega (arith, c .before .before .before .before .before .pre .2, c .before .before .before .before .before .pre .3, c .before .before .before .before .before .pre .4, c .before .loop-test .taken)
 
--- src/lib.rt:33:13
 name-at-requires-2 : tie.Need-name-at-requires-2 Inv-loop μ-loop
 name-at-requires-2 c κs = omega (arith, c .before .before .before .before .before .pre .2, c .before .before .before .before .before .pre .3, c .before .before .before .before .before .pre .4, c .before .loop-test .taken)
 
--- src/lib.rt:29:9
 register-requires : tie.Need-register-requires Inv-loop μ-loop
 register-requires c κs =
     let n = adds-count (c .before .before .before .before .before .before .args .s .now) (c .before .before .before .before .before .before .args .tb .now) (c .before .before .before .before .before .before .args .locals) (c .before .before .before .loop .l) (c .before .before .before .loop .i) (c .before .before .before .before .before .before .args .at) (c .before .before .before .loop .inv .0) in
     (c .before .before .before .loop .inv .0 .kept, omega (arith, n, c .before .before .before .before .before .before .pre .1, c .before .before .before .before .before .before .pre .2, c .before .before .loop-test .taken), c .before .before .before .before .before .before .pre .5)
 
--- src/lib.rt:35:9
 add-i : tie.Need-add-i Inv-loop μ-loop
 add-i c = omega (arith, c .before .before .before .before .before .before .before .pre .2, c .before .before .before .before .before .before .before .pre .3, c .before .before .before .before .before .before .before .pre .4, c .before .before .before .loop-test .taken)
 
--- src/lib.rt:27:5
 loop-less : tie.Need-loop-less Inv-loop μ-loop
 loop-less c = omega (arith, c .before .before .before .before .before .before .before .pre .2, c .before .before .before .before .before .before .before .pre .3, c .before .before .before .before .before .before .before .pre .4, c .before .before .before .loop-test .taken)
 
--- src/lib.rt:27:5
 loop-again : tie.Need-loop-again Inv-loop μ-loop
 loop-again c = (
   adds-next (c .before .before .before .before .before .before .before .args .s .now) (c .before .before .before .before .before .before .before .args .tb .now) (c .before .before .before .before .before .before .before .args .locals) (c .before .before .before .before .loop .l) (c .register .result) (c .before .before .before .before .loop .i) (c .before .before .before .before .before .before .before .args .at) _ _ (c .before .before .name-at .ensures) (c .before .name-at2 .ensures) (c .before .before .before .before .loop .inv .0) (c .register .ensures),
   omega (arith, c .before .before .before .loop-test .taken),
 )
 
--- src/lib.rt:20:1
 returns : tie.Need-returns Inv-loop μ-loop
 returns c =
     let e : c .before .loop .i ≡ c .before .before .before .before .args .many = omega (arith, c .before .loop .inv .1, c .loop-test .left) in

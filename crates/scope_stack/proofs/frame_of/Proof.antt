@@ -18,39 +18,30 @@ Inv-loop names depths count name i₀ i = (i ≤ count) × ((l : Locals) (g : �
 abbrev μ-loop : tie.MeasureT-loop
 μ-loop names depths count name i₀ i = i
 
--- src/lib.rt:51:5
 loop-holds : tie.Need-loop-holds Inv-loop μ-loop
 loop-holds c = (search needs, λ s g e e′. rw e′)
 
--- src/lib.rt:52:17
 sub-j : tie.Need-sub-j Inv-loop μ-loop
 sub-j c = search needs
 
--- src/lib.rt:53:12
 mul-if1 : tie.Need-mul-if1 Inv-loop μ-loop
 mul-if1 c = search needs
 
--- src/lib.rt:53:12
 element-copy-out-if1 : tie.Need-element-copy-out-if1 Inv-loop μ-loop
 element-copy-out-if1 c = search needs
 
--- src/lib.rt:54:20
 element-copy-out-result : tie.Need-element-copy-out-result Inv-loop μ-loop
 element-copy-out-result c = search needs
 
--- src/lib.rt:54:13
 returns : tie.Need-returns Inv-loop μ-loop
 returns c = λ s g e f e′. ap (λ (xs : List ℕ). getD xs (c .before .before .before .before .loop .i - 1) 0) (sym f) ∙ sym (depth-hit (staticAt s) g _ (c .before .before .before .before .loop .i) (c .before .before .before .loop-test .taken) (rw e (c .before .if1 .taken))) ∙ c .before .before .before .before .loop .inv .1 s g e e′
 
--- src/lib.rt:51:5
 loop-less : tie.Need-loop-less Inv-loop μ-loop
 loop-less c = search needs
 
--- src/lib.rt:51:5
 loop-again : tie.Need-loop-again Inv-loop μ-loop
 loop-again c = (search needs, λ s g e e′. sym (depth-miss (staticAt s) g _ _ (c .before .before .loop-test .taken) (rw e (c .if1 .left))) ∙ c .before .before .before .loop .inv .1 s g e e′)
 
--- src/lib.rt:46:1
 returns-2 : tie.Need-returns-2 Inv-loop μ-loop
 returns-2 c = λ s g e f e′. sym (depth-end (staticAt s) g _ _ (c .loop-test .left)) ∙ c .before .loop .inv .1 s g e e′
 

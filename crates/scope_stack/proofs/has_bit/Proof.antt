@@ -12,11 +12,9 @@ use Rattle.scope_stack.proofs.has_bit.Reads as reads
 use Rattle.scope_stack.proofs.has_bit.Lts as lts
 use Rattle.scope_stack.proofs.bit.Reads as bit-reads
 
--- src/lib.rt:117:9
 bit-requires : tie.Need-bit-requires
 bit-requires c κs = search needs
 
--- src/lib.rt:113:1
 returns : tie.Need-returns
 returns c = λ k n p l e. ap₂ (λ (x y : ℕ). not (eqb (bitAnd x y) 0)) e (c .bit .ensures) ∙ word-bit n (c .before .args .i) (λ j. p (slot k j)) l
 

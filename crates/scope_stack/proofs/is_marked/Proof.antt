@@ -6,19 +6,15 @@ use Rattle.scope_stack.proofs.is_marked.Tie as tie
 use Rattle.scope_stack.proofs.is_marked.Reads as reads
 use Rattle.scope_stack.proofs.is_marked.Lts as lts
 
--- src/lib.rt:66:9
 returns : tie.Need-returns
 returns c = rw (ne-eqb _ _ (c .if1 .taken))
 
--- src/lib.rt:69:9
 returns-2 : tie.Need-returns-2
 returns-2 c = rw (eq-eqb _ _ (c .before .if1 .left), ne-eqb _ _ (c .if2 .taken))
 
--- src/lib.rt:72:9
 returns-3 : tie.Need-returns-3
 returns-3 c = rw (eq-eqb _ _ (c .before .before .if1 .left), eq-eqb _ _ (c .before .if2 .left), c .if3 .taken) (not-not _)
 
--- src/lib.rt:62:1
 returns-4 : tie.Need-returns-4
 returns-4 c = rw (eq-eqb _ _ (c .before .before .if1 .left), eq-eqb _ _ (c .before .if2 .left), c .if3 .left)
 

@@ -21,47 +21,36 @@ Inv-loop names depths alive name depth m₀ m = (p : ℕ → Bool) → alive ≡
 abbrev μ-loop : tie.MeasureT-loop
 μ-loop names depths alive name depth m₀ m = m
 
--- src/lib.rt:239:17
 sub-m : tie.Need-sub-m Inv-loop μ-loop
 sub-m c = omega (arith, c .fits .alive .fits)
 
--- src/lib.rt:240:5
 loop-holds : tie.Need-loop-holds Inv-loop μ-loop
 loop-holds c = λ p e. looked-none _ _ _ _ p _ e
 
--- src/lib.rt:241:13
 newest-requires : tie.Need-newest-requires Inv-loop μ-loop
 newest-requires c κs = search needs
 
--- src/lib.rt:242:12
 mul-if1 : tie.Need-mul-if1 Inv-loop μ-loop
 mul-if1 c = search needs
 
--- src/lib.rt:242:12
 element-copy-out-if1 : tie.Need-element-copy-out-if1 Inv-loop μ-loop
 element-copy-out-if1 c = search needs
 
--- src/lib.rt:243:16
 element-copy-out-if2 : tie.Need-element-copy-out-if2 Inv-loop μ-loop
 element-copy-out-if2 c = search needs
 
--- src/lib.rt:244:17
 returns : tie.Need-returns Inv-loop μ-loop
 returns c = λ p e q. false-true (sym q)
 
--- src/lib.rt:247:9
 without-requires : tie.Need-without-requires Inv-loop μ-loop
 without-requires c κs = (c .before .before .newest .ensures .0 .small, c .before .before .newest .ensures .0 .low)
 
--- src/lib.rt:240:5
 loop-less : tie.Need-loop-less Inv-loop μ-loop
 loop-less c = omega (arith, c .without .ensures, pow-pos (c .before .before .before .newest .result), c .before .before .before .newest .ensures .0 .low)
 
--- src/lib.rt:240:5
 loop-again : tie.Need-loop-again Inv-loop μ-loop
 loop-again c = λ p e. rw (c .without .ensures) (looked-more _ _ _ _ p _ _ (c .before .before .before .before .before .loop .inv p e) (c .before .before .before .newest .ensures .1) (⊎-elim (λ x is. x .2 .left (is .1)) (λ x is. x .left (is .0)) (c .before .if1 .came)))
 
--- src/lib.rt:230:1
 returns-2 : tie.Need-returns-2 Inv-loop μ-loop
 returns-2 c = λ p e q i l off is. looked-all _ _ _ _ p _ (c .before .loop .inv p e) (search needs) i l off is
 

@@ -8,23 +8,18 @@ use Rattle.scope_stack.proofs.since.Reads as reads
 use Rattle.scope_stack.proofs.since.Lts as lts
 use Rattle.scope_stack.proofs.bit.Reads as bit-reads
 
--- src/lib.rt:133:9
 returns : tie.Need-returns
 returns c = λ k n p le e. word-past k n (c .before .args .base) p le (c .if1 .taken)
 
--- src/lib.rt:135:30
 bit-requires : tie.Need-bit-requires
 bit-requires c κs = search needs
 
--- src/lib.rt:135:30
 sub-result : tie.Need-sub-result
 sub-result c = omega (arith, c .bit .ensures, pow-pos (c .before .before .args .base))
 
--- src/lib.rt:135:6
 sub-result-2 : tie.Need-sub-result-2
 sub-result-2 c = search needs
 
--- src/lib.rt:128:1
 returns-2 : tie.Need-returns-2
 returns-2 c = λ k n p le e. rw (e, c .bit .ensures) (word-since k n (c .before .before .args .base) p le (c .before .before .pre))
 

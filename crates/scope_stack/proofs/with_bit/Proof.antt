@@ -8,19 +8,15 @@ use Rattle.scope_stack.proofs.with_bit.Reads as reads
 use Rattle.scope_stack.proofs.with_bit.Lts as lts
 use Rattle.scope_stack.proofs.bit.Reads as bit-reads
 
--- src/lib.rt:89:9
 bit-requires : tie.Need-bit-requires
 bit-requires c κs = search needs
 
--- src/lib.rt:91:9
 returns : tie.Need-returns
 returns c = λ k p e. rw (e, c .before .bit .ensures, c .if1 .taken) (word-set k (c .before .before .args .i) p (c .before .before .pre))
 
--- src/lib.rt:93:10
 sub-result : tie.Need-sub-result
 sub-result c = search needs
 
--- src/lib.rt:85:1
 returns-2 : tie.Need-returns-2
 returns-2 c = λ k p e. rw (e, c .before .bit .ensures, c .if1 .left) (word-clear k (c .before .before .args .i) p (c .before .before .pre))
 

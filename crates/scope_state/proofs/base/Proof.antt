@@ -6,15 +6,12 @@ use Rattle.scope_state.proofs.base.Tie as tie
 use Rattle.scope_state.proofs.base.Reads as reads
 use Rattle.scope_state.proofs.base.Lts as lts
 
--- src/lib.rt:180:16
 sub-result : tie.Need-sub-result
 sub-result c = search needs
 
--- src/lib.rt:180:9
 returns : tie.Need-returns
 returns c = rw (lt-ltb 3 _ (c .if1 .taken))
 
--- src/lib.rt:176:1
 returns-2 : tie.Need-returns-2
 returns-2 c = rw (le-ltb 3 _ (c .if1 .left))
 

@@ -6,19 +6,15 @@ use Rattle.scope_state.proofs.conditional.Tie as tie
 use Rattle.scope_state.proofs.conditional.Reads as reads
 use Rattle.scope_state.proofs.conditional.Lts as lts
 
--- src/lib.rt:191:9
 returns : tie.Need-returns
 returns c = rw (c .if1 .taken)
 
--- src/lib.rt:194:9
 returns-2 : tie.Need-returns-2
 returns-2 c = rw (ne-eqb _ 0 (c .before .if1 .left), lt-ltb 3 _ (c .if2 .taken))
 
--- src/lib.rt:196:5
 add-result : tie.Need-add-result
 add-result c = search needs
 
--- src/lib.rt:186:1
 returns-3 : tie.Need-returns-3
 returns-3 c = rw (ne-eqb _ 0 (c .before .if1 .left), le-ltb 3 _ (c .if2 .left))
 

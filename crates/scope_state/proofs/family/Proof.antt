@@ -9,19 +9,15 @@ use Rattle.scope_state.proofs.family.Reads as reads
 use Rattle.scope_state.proofs.family.Lts as lts
 use Rattle.scope_state.proofs.base.Reads as base-reads
 
--- src/lib.rt:203:9
 base-requires : tie.Need-base-requires
 base-requires c κs = search needs
 
--- src/lib.rt:204:13
 base-requires-2 : tie.Need-base-requires-2
 base-requires-2 c κs = search needs
 
--- src/lib.rt:205:9
 returns : tie.Need-returns
 returns c = c .before .before .base .ensures ∙ rw (eq-eqb _ _ (sym (c .before .before .base .ensures) ∙ c .if1 .taken ∙ c .before .base2 .ensures))
 
--- src/lib.rt:200:1
 returns-2 : tie.Need-returns-2
 returns-2 c = let ne : baseOf (c .before .before .before .args .a) ≡ baseOf (c .before .before .before .args .b) → ⊥ = λ e. c .if1 .left (c .before .before .base .ensures ∙ e ∙ sym (c .before .base2 .ensures)) in rw (ne-eqb _ _ ne)
 

@@ -13,45 +13,37 @@ use Rattle.scope_state.proofs.find_local.Reads as reads
 use Rattle.scope_state.proofs.find_local.Lts as lts
 
 abbrev Inv-loop : tie.InvT-loop
-Inv-loop names count name i₀ i = (i ≤ count) × ((types depths : List ℕ) (at : ℕ → Status) → lookup name (lent names types depths at i) ≡ lookup name (lent names types depths at count))
+Inv-loop names count name i₀ i = (i ≤ count) × ((types depths births : List ℕ) (at : ℕ → Status) → lookup name (lent names types depths births at i) ≡ lookup name (lent names types depths births at count))
 
 abbrev μ-loop : tie.MeasureT-loop
 μ-loop names count name i₀ i = i
 
--- src/lib.rt:55:5
 loop-holds : tie.Need-loop-holds Inv-loop μ-loop
-loop-holds c = (search needs, λ types depths at. refl)
+loop-holds c = (search needs, λ types depths births at. refl)
 
--- src/lib.rt:56:17
 sub-j : tie.Need-sub-j Inv-loop μ-loop
 sub-j c = search needs
 
--- src/lib.rt:57:12
 mul-if1 : tie.Need-mul-if1 Inv-loop μ-loop
 mul-if1 c = search needs
 
--- src/lib.rt:57:12
 element-copy-out-if1 : tie.Need-element-copy-out-if1 Inv-loop μ-loop
 element-copy-out-if1 c = search needs
 
--- src/lib.rt:58:13
 returns : tie.Need-returns Inv-loop μ-loop
 returns c = record {
   below = omega (arith, c .before .before .before .loop .inv .0, c .before .before .loop-test .taken);
-  is = λ types depths at. sym (c .before .before .before .loop .inv .1 types depths at) ∙ find-hit (staticIn (c .before .before .before .before .args .names .now) types depths) at _ _ (c .before .before .loop-test .taken) (c .if1 .taken);
+  is = λ types depths births at. sym (c .before .before .before .loop .inv .1 types depths births at) ∙ find-hit (staticIn (c .before .before .before .before .args .names .now) types depths births) at _ _ (c .before .before .loop-test .taken) (c .if1 .taken);
 }
 
--- src/lib.rt:55:5
 loop-less : tie.Need-loop-less Inv-loop μ-loop
 loop-less c = search needs
 
--- src/lib.rt:55:5
 loop-again : tie.Need-loop-again Inv-loop μ-loop
-loop-again c = (search needs, λ types depths at. sym (find-miss (staticIn (c .before .before .before .before .args .names .now) types depths) at _ _ (c .before .before .loop-test .taken) (c .if1 .left)) ∙ c .before .before .before .loop .inv .1 types depths at)
+loop-again c = (search needs, λ types depths births at. sym (find-miss (staticIn (c .before .before .before .before .args .names .now) types depths births) at _ _ (c .before .before .loop-test .taken) (c .if1 .left)) ∙ c .before .before .before .loop .inv .1 types depths births at)
 
--- src/lib.rt:50:1
 returns-2 : tie.Need-returns-2 Inv-loop μ-loop
-returns-2 c = record { below = tt; is = λ types depths at. sym (c .before .loop .inv .1 types depths at) ∙ find-end (staticIn (c .before .before .args .names .now) types depths) at _ _ (c .loop-test .left) }
+returns-2 c = record { below = tt; is = λ types depths births at. sym (c .before .loop .inv .1 types depths births at) ∙ find-end (staticIn (c .before .before .args .names .now) types depths births) at _ _ (c .loop-test .left) }
 
 pub find-local-spec : {M : Type 1} → statement M
 find-local-spec =

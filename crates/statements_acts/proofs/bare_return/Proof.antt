@@ -14,33 +14,33 @@ use Rattle.statements_acts.proofs.listed.Reads as listed-reads
 use Rattle.statements_acts.proofs.behind.Reads as behind-reads
 use Rattle.statements_acts.proofs.nothing_put.Reads as nothing-put-reads
 
--- src/lib.rt:600:27
+-- src/lib.rt:621:27
 add-span-at : tie.Need-add-span-at
 add-span-at c = search needs
 
--- src/lib.rt:600:9
+-- src/lib.rt:621:9
 span-at-requires : tie.Need-span-at-requires
 span-at-requires c κs = search needs
 
--- src/lib.rt:601:9
+-- src/lib.rt:622:9
 list-left-requires : tie.Need-list-left-requires
 list-left-requires c κs = search needs
 
--- src/lib.rt:602:27
+-- src/lib.rt:623:27
 listed-requires : tie.Need-listed-requires
 listed-requires c κs = search needs
 
--- src/lib.rt:602:44
+-- src/lib.rt:623:44
 nothing-put-requires : tie.Need-nothing-put-requires
 nothing-put-requires c κs = search needs
 
--- src/lib.rt:602:60
+-- src/lib.rt:623:60
 add-behind : tie.Need-add-behind
 add-behind c =
     let start = c .before .before .before .before .before .before .before .before .before .before .before .before .before .before .before in
     let w = room-of (start .pre .0) in omega arith
 
--- src/lib.rt:602:9
+-- src/lib.rt:623:9
 behind-requires : tie.Need-behind-requires
 behind-requires c κs =
     let at-shared-slice-known = c .before .before .before .before .before .before .before .before .before .before .before .before .before .before .before in
@@ -54,15 +54,15 @@ behind-requires c κs =
     let v = bare-reach (a .s .now) small (a .p) (q .1) (q .2) (q .3) in
     (omega arith, v, w .0, omega arith, omega arith)
 
--- src/lib.rt:594:1
+-- src/lib.rt:607:1
 same-length : tie.Need-same-length
 same-length c = search needs
 
--- src/lib.rt:594:1
+-- src/lib.rt:607:1
 same-length-2 : tie.Need-same-length-2
 same-length-2 c = search needs
 
--- src/lib.rt:594:1
+-- src/lib.rt:607:1
 returns : tie.Need-returns
 returns c =
     let at-nothing-put = c .before .before .before .before .before in
@@ -78,7 +78,7 @@ returns c =
     let none = at-nothing-put .nothing-put in
     let place = at-listed .listed in
     let left = at-list-left .list-left in (
-      λ T lt ld g n e. bare-acts (a .s .now) small (a .p) (q .1) (q .2) (q .3) (left .result) (place .result) (place .ensures) (none .result) (none .ensures) (wrote .result) (wrote .ensures) T (lent (a .ln .now) lt ld g n) (at-span-at .span-at .result) (at-span-at .span-at .ensures) (left .ensures .1 T lt ld g n e),
+      λ T lt ld g n e. bare-acts (a .s .now) small (a .p) (q .1) (q .2) (q .3) (left .result) (place .result) (place .ensures) (none .result) (none .ensures) (wrote .result) (wrote .ensures) T (lent (a .ln .now) lt ld (a .lb .now) g n) (at-span-at .span-at .result) (at-span-at .span-at .ensures) (left .ensures .1 T lt ld g n e),
       (
         bare-grows (a .s .now) small (a .p) (q .1) (q .2) (q .3) (left .result) (place .result) (place .ensures) (none .result) (none .ensures) (wrote .result) (wrote .ensures) (left .ensures .0),
         bare-ends (a .s .now) small (a .p) (q .2) (q .3) (wrote .result) (wrote .ensures .at),

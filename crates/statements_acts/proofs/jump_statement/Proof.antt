@@ -1,9 +1,9 @@
 use Rattle.image_fields.specs.Bytes.{Bytes}
-use Rattle.rules.specs.Rules.{states, collect, atJump, concerns}
+use Rattle.rules.specs.Rules.{atJump, concerns}
+use Rattle.rules.specs.Report.{leftAt}
 use Rattle.statements_acts.proofs.Ends.{jump-ends}
 use Rattle.statements_acts.proofs.Acts.{room-of, none-put-is, listed-is, jump-reach, jump-grows, jump-acts}
 use Rattle.statements_acts.proofs.Masked.{stateSince, since-marked, since-drops}
-use Rattle.statements_acts.specs.Drops.{admitted}
 use Rattle.statements_acts.specs.declared.Which.the-variants.{All}
 use Rattle.statements_acts.specs.Marks.{lent, dropIn}
 use native.Mathlib.Omega.{arith}
@@ -68,8 +68,8 @@ returns c =
     let left = c .before .before .before .before .before .before .before .before .before .before .before .list-left in
     let own = c .before .before .before .before .before .before .before .before .before .before .before .before .before .before .since in (
       λ T lt ld g n e loop lo warns. jump-acts (a .s .now) small (a .p) (q .1) (q .2) (left .result) (place .result) (place .ensures) (none .result) (none .ensures) (wrote .result) (wrote .ensures) T
-          (lent (a .ln .now) lt ld g n) loop (collect states T (admitted All) 0 (lent (a .ln .now) lt ld (stateSince (a .base) g) n))
-          (since-drops T lt g (a .base) (a .ln .now) ld (λ x. concerns (atJump loop) x) 0 n (λ i l. lo .own (a .ln .now) lt i l))
+          (lent (a .ln .now) lt ld (a .lb .now) g n) loop (lent (a .ln .now) lt ld (a .lb .now) (stateSince (a .base) g) n)
+          (λ m. since-drops T lt g (a .base) (a .ln .now) ld (a .lb .now) (λ x. concerns (atJump loop) x) (leftAt m) n (λ i l. lo .own (a .ln .now) lt (a .lb .now) i l))
           (c .before .before .before .before .before .before .before .before .before .before .before .before .before .before .before .span-at .result) (c .before .before .before .before .before .before .before .before .before .before .before .before .before .before .before .span-at .ensures)
           (left .ensures .1 T lt ld (stateSince (a .base) g) n (since-marked T lt g (a .base) n _ (own .ensures 0 n (dropIn T lt g) (lo .few) e))) warns,
       (

@@ -11,39 +11,48 @@ use Rattle.expressions_effects.proofs.name_at.Reads as name-at-reads
 use Rattle.statements_acts.proofs.behind.Reads as behind-reads
 use Rattle.statements_acts.proofs.consumed_compiler_temp_from_value.Reads as consumed-compiler-temp-from-value-reads
 use Rattle.statements_acts.proofs.nothing_put.Reads as nothing-put-reads
+use Rattle.expressions_effects.proofs.span_at.Reads as span-at-reads
 
--- src/lib.rt:368:27
+-- src/lib.rt:369:27
+add-span-at : tie.Need-add-span-at
+add-span-at c = search needs
+
+-- src/lib.rt:369:9
+span-at-requires : tie.Need-span-at-requires
+span-at-requires c κs = search needs
+
+-- src/lib.rt:370:27
 add-name-at : tie.Need-add-name-at
 add-name-at c = search needs
 
--- src/lib.rt:368:9
+-- src/lib.rt:370:9
 name-at-requires : tie.Need-name-at-requires
 name-at-requires c κs = search needs
 
--- src/lib.rt:369:25
+-- src/lib.rt:371:25
 add-name-at-2 : tie.Need-add-name-at-2
 add-name-at-2 c = search needs
 
--- src/lib.rt:369:9
+-- src/lib.rt:371:9
 name-at-requires-2 : tie.Need-name-at-requires-2
 name-at-requires-2 c κs = search needs
 
--- src/lib.rt:370:17
+-- src/lib.rt:372:17
 add-value : tie.Need-add-value
 add-value c = search needs
 
--- src/lib.rt:371:9
+-- src/lib.rt:373:9
 consumed-compiler-temp-from-value-requires : tie.Need-consumed-compiler-temp-from-value-requires
 consumed-compiler-temp-from-value-requires c κs = search needs
 
--- src/lib.rt:372:30
+-- src/lib.rt:374:30
 nothing-put-requires : tie.Need-nothing-put-requires
 nothing-put-requires c κs = search needs
 
--- src/lib.rt:372:9
+-- src/lib.rt:374:9
 behind-requires : tie.Need-behind-requires
 behind-requires c κs =
-    let at-shared-slice-known = c .before .before .before .before .before .before .before .before .before .before in
+    let at-shared-slice-known = c .before .before .before .before .before .before .before .before .before .before .before .before in
     let start = at-shared-slice-known .before in
     let a = start .args in
     let b : Bytes (a .s .now) = λ k. omega (arith, at-shared-slice-known .shared-slice-known .given k) in
@@ -52,25 +61,26 @@ behind-requires c κs =
     let r = variable-reach (a .s .now) b (a .p) (a .end) (start .pre .3) (start .pre .4) (start .pre .5) in
     (omega arith, r .1, w .0, omega arith, omega arith)
 
--- src/lib.rt:351:1
+-- src/lib.rt:352:1
 same-length : tie.Need-same-length
 same-length c = search needs
 
--- src/lib.rt:351:1
+-- src/lib.rt:352:1
 returns : tie.Need-returns
 returns c =
     let at-nothing-put = c .before .before .before .before in
     let at-consumed-compiler-temp-from-value = at-nothing-put .before in
     let at-name-at2 = at-consumed-compiler-temp-from-value .before .before in
     let at-name-at = at-name-at2 .before .before in
-    let at-shared-slice-known = at-name-at .before .before .before .before in
+    let at-span-at = at-name-at .before .before in
+    let at-shared-slice-known = at-span-at .before .before .before .before in
     let start = at-shared-slice-known .before in
     let a = start .args in
     let b : Bytes (a .s .now) = λ k. omega (arith, at-shared-slice-known .shared-slice-known .given k) in
     let put = at-nothing-put .nothing-put in
     let w = c .before .before .behind in (
-      λ T h ld g. variable-acts (a .s .now) b (a .p) (a .end) (start .pre .3) (start .pre .4) (start .pre .5) (put .result) (put .ensures) (w .result) (w .ensures) T (lent (a .ln .now) (a .lt .now) ld g (a .n)) _ _
-          (at-consumed-compiler-temp-from-value .consumed-compiler-temp-from-value .result) (at-name-at .name-at .ensures) (at-name-at2 .name-at2 .ensures) (at-consumed-compiler-temp-from-value .consumed-compiler-temp-from-value .ensures T h ld g),
+      λ T h ld births g. variable-acts (a .s .now) b (a .p) (a .end) (start .pre .3) (start .pre .4) (start .pre .5) (put .result) (put .ensures) (w .result) (w .ensures) T (lent (a .ln .now) (a .lt .now) ld births g (a .n)) _ _ _
+          (at-consumed-compiler-temp-from-value .consumed-compiler-temp-from-value .result) (at-name-at .name-at .ensures) (at-name-at2 .name-at2 .ensures) (at-span-at .span-at .ensures) (at-consumed-compiler-temp-from-value .consumed-compiler-temp-from-value .ensures T h ld births g),
       variable-grows (a .s .now) b (a .p) (a .end) (start .pre .3) (start .pre .4) (start .pre .5) (put .result) (put .ensures) (w .result) (w .ensures),
     )
 
@@ -78,6 +88,8 @@ pub variable-statement-spec : {M : Type 1} → statement M
 variable-statement-spec =
     tie.close
     (tie.spec
+    add-span-at
+    span-at-requires
     add-name-at
     name-at-requires
     add-name-at-2

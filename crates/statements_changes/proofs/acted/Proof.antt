@@ -15,15 +15,12 @@ use Rattle.statements_acts.proofs.statement.Reads as statement-reads
 use Rattle.statements_changes.proofs.told.Reads as told-reads
 use Rattle.statements_changes.proofs.turn_of.Reads as turn-of-reads
 
--- src/lib.rt:169:15
 shared-slice-read-tag : tie.Need-shared-slice-read-tag
 shared-slice-read-tag c = let r = c .before .before .before .before .before .before .before .pre in tag-inside _ _ (c .before .before .before .before .before .before .before .args .c) (r .4) (r .5) (r .6) .0
 
--- src/lib.rt:174:9
 told-requires : tie.Need-told-requires
 told-requires c κs = search needs
 
--- src/lib.rt:175:9
 statement-requires : tie.Need-statement-requires
 statement-requires c κs =
     let start = c .before .before .before .before .before .before .before .before .before .before .before in
@@ -31,33 +28,26 @@ statement-requires c κs =
     let e = c .before .before .before .told .ensures in
     (r .0, r .1, r .2, within-told e (r .4 .steady .inside), front-told _ _ _ _ e (front-there _ _ (start .args .c) (r .4) (r .5) (r .6)))
 
--- src/lib.rt:177:9
 told-requires-2 : tie.Need-told-requires-2
 told-requires-2 c κs = search needs
 
--- src/lib.rt:180:18
 sub-turn-of : tie.Need-sub-turn-of
 sub-turn-of c =
     let start = c .before .before .before .before .before .before .before .before .before .before .before .before .before .before .before .before .before .before .before .before .before in
     let r = start .pre in let l = r .4 .steady .within (r .5) .some in omega arith
 
--- src/lib.rt:180:5
 turn-of-requires : tie.Need-turn-of-requires
 turn-of-requires c κs = search needs
 
--- src/lib.rt:146:1
 same-length : tie.Need-same-length
 same-length c = search needs
 
--- src/lib.rt:146:1
 same-length-2 : tie.Need-same-length-2
 same-length-2 c = search needs
 
--- src/lib.rt:146:1
 same-length-3 : tie.Need-same-length-3
 same-length-3 c = search needs
 
--- src/lib.rt:146:1
 returns : tie.Need-returns
 returns c =
     let at-statement = c .before .before .before .before .before .before .before .before .before .before in

@@ -10,26 +10,21 @@ use Rattle.statements_changes.proofs.within.Reads as within-reads
 use Rattle.expressions_scan.proofs.start.Reads as start-reads
 use Rattle.statements_returns.proofs.front_at.Reads as front-at-reads
 
--- src/lib.rt:229:9
 returns : tie.Need-returns
 returns c = search needs
 
--- src/lib.rt:232:9
 front-at-requires : tie.Need-front-at-requires
 front-at-requires c κs =
     let a = c .before .before .before .args in
     let r = c .before .before .before .pre in
     stmt-there (a .s .now) (a .left) (a .c .place .at) (next-there (a .s .now) (a .left) (a .c .left) (a .c .place .at) (r .0 .there) (r .2))
 
--- src/lib.rt:233:5
 start-requires : tie.Need-start-requires
 start-requires c κs = search needs
 
--- src/lib.rt:234:5
 within-requires : tie.Need-within-requires
 within-requires c κs = search needs
 
--- src/lib.rt:220:1
 returns-2 : tie.Need-returns-2
 returns-2 c =
     let a = c .before .before .before .before .before .before .before .args in

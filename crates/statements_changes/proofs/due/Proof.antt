@@ -9,15 +9,12 @@ use Rattle.statements_changes.proofs.due.Reads as reads
 use Rattle.statements_changes.proofs.due.Lts as lts
 use Rattle.statements_changes.proofs.owed.Reads as owed-reads
 
--- src/lib.rt:204:26
 enum-known-taken : tie.Need-enum-known-taken
 enum-known-taken c = search needs
 
--- src/lib.rt:205:9
 owed-requires : tie.Need-owed-requires
 owed-requires c κs = search needs
 
--- src/lib.rt:205:9
 returns : tie.Need-returns
 returns c =
     let a = c .before .before .before .before .args .c in
@@ -35,7 +32,6 @@ returns c =
 enum-told : tie.Need-enum-told
 enum-told c = search needs
 
--- src/lib.rt:208:9
 returns-2 : tie.Need-returns-2
 returns-2 c =
     let a = c .before .before .before .before .args .c in
@@ -43,7 +39,6 @@ returns-2 c =
     let t = c .before .before .enum-told .given .1 in
     (λ s left nodes st. (over-fit s left nodes a st e, λ z. absurd (no-end z), λ z y. absurd (y refl), λ T loop all σ₀ p₀ m₀ σ m g. over-after s left nodes a st t e T loop all σ₀ p₀ m₀ σ m g), refl)
 
--- src/lib.rt:196:1
 returns-3 : tie.Need-returns-3
 returns-3 c =
     let e = c .if1 .left in

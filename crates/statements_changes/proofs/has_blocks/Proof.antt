@@ -5,15 +5,12 @@ use Rattle.statements_changes.proofs.has_blocks.Tie as tie
 use Rattle.statements_changes.proofs.has_blocks.Reads as reads
 use Rattle.statements_changes.proofs.has_blocks.Lts as lts
 
--- src/lib.rt:105:9
 returns : tie.Need-returns
 returns c = rw (eq-eqb _ 1 (c .if1 .taken)) refl
 
--- src/lib.rt:108:9
 returns-2 : tie.Need-returns-2
 returns-2 c = rw (ne-eqb _ 1 (c .before .if1 .left), eq-eqb _ 7 (c .if2 .taken)) refl
 
--- src/lib.rt:101:1
 returns-3 : tie.Need-returns-3
 returns-3 c = rw (ne-eqb _ 1 (c .before .if1 .left), ne-eqb _ 7 (c .if2 .left)) refl
 

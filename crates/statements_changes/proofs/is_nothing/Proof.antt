@@ -8,43 +8,33 @@ use Rattle.statements_changes.proofs.is_nothing.Tie as tie
 use Rattle.statements_changes.proofs.is_nothing.Reads as reads
 use Rattle.statements_changes.proofs.is_nothing.Lts as lts
 
--- src/lib.rt:291:26
 enum-told : tie.Need-enum-told
 enum-told c = search needs
 
--- src/lib.rt:292:23
 enum-told-2 : tie.Need-enum-told-2
 enum-told-2 c = search needs
 
--- src/lib.rt:293:35
 enum-told-3 : tie.Need-enum-told-3
 enum-told-3 c = search needs
 
--- src/lib.rt:294:33
 enum-told-4 : tie.Need-enum-told-4
 enum-told-4 c = search needs
 
--- src/lib.rt:295:28
 enum-told-5 : tie.Need-enum-told-5
 enum-told-5 c = search needs
 
--- src/lib.rt:286:1
 returns : tie.Need-returns
 returns c = is-nothing-yes _ (c .enum-told .given .1)
 
--- src/lib.rt:286:1
 returns-2 : tie.Need-returns-2
 returns-2 c = is-nothing-no _ _ (c .enum-told2 .given .1) (λ e. let z : _≡_ {A = ℕ} 0 1 = cc in omega arith)
 
--- src/lib.rt:286:1
 returns-3 : tie.Need-returns-3
 returns-3 c = is-nothing-no _ _ (c .enum-told3 .given .1) (λ e. let z : _≡_ {A = ℕ} 0 1 = cc in omega arith)
 
--- src/lib.rt:286:1
 returns-4 : tie.Need-returns-4
 returns-4 c = is-nothing-no _ _ (c .enum-told4 .given .1) (λ e. let z : _≡_ {A = ℕ} 0 1 = cc in omega arith)
 
--- src/lib.rt:286:1
 returns-5 : tie.Need-returns-5
 returns-5 c = is-nothing-no _ _ (c .enum-told5 .given .1) (λ e. let z : _≡_ {A = ℕ} 0 1 = cc in omega arith)
 

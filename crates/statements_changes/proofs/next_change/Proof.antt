@@ -19,42 +19,34 @@ use Rattle.statements_changes.proofs.is_nothing.Reads as is-nothing-rea
 use Rattle.statements_changes.proofs.scanned.Reads as scanned-reads
 
 abbrev Inv-loop : tie.InvT-loop
-Inv-loop s tb env ln lt lk lf rows nodes₀ out₀ errs₀ warns₀ lefts₀ c₀ nodes out errs warns lefts c =
-    Turning s tb (env .left) ln lt (stateIn lk lf rows (env .cur) (env .width)) (env .locals) (env .mark) (env .base) nodes₀ c₀ out₀ errs₀ warns₀ lefts₀ nodes c out errs warns lefts
+Inv-loop s tb env ln lt lb lk lf rows nodes₀ out₀ errs₀ warns₀ lefts₀ c₀ nodes out errs warns lefts c =
+    Turning s tb (env .left) ln lt lb (stateIn lk lf rows (env .cur) (env .width)) (env .locals) (env .mark) (env .base) nodes₀ c₀ out₀ errs₀ warns₀ lefts₀ nodes c out errs warns lefts
 
 abbrev μ-loop : tie.MeasureT-loop
-μ-loop s tb env ln lt lk lf rows nodes₀ out₀ errs₀ warns₀ lefts₀ c₀ nodes out errs warns lefts c =
+μ-loop s tb env ln lt lb lk lf rows nodes₀ out₀ errs₀ warns₀ lefts₀ c₀ nodes out errs warns lefts c =
     c .left
 
--- src/lib.rt:329:5
 loop-holds : tie.Need-loop-holds Inv-loop μ-loop
-loop-holds c = let r = c .before .before .before .before .before .before .before .pre in turning-start _ _ _ _ _ _ _ _ _ _ _ _ _ _ _ (r .4) (r .5)
+loop-holds c = let r = c .before .before .before .before .before .before .before .pre in turning-start _ _ _ _ _ _ _ _ _ _ _ _ _ _ _ _ (r .4) (r .5)
 
--- src/lib.rt:330:13
 due-requires : tie.Need-due-requires Inv-loop μ-loop
 due-requires c κs = search needs
 
--- src/lib.rt:331:13
 is-nothing-requires : tie.Need-is-nothing-requires Inv-loop μ-loop
 is-nothing-requires c κs = search needs
 
--- src/lib.rt:332:13
 same-length : tie.Need-same-length Inv-loop μ-loop
 same-length c = c .before .before .before .loop .inv .lent .0
 
--- src/lib.rt:332:13
 same-length-2 : tie.Need-same-length-2 Inv-loop μ-loop
 same-length-2 c = c .before .before .before .loop .inv .lent .1
 
--- src/lib.rt:332:13
 same-length-3 : tie.Need-same-length-3 Inv-loop μ-loop
 same-length-3 c = c .before .before .before .loop .inv .lent .2
 
--- src/lib.rt:332:13
 same-length-4 : tie.Need-same-length-4 Inv-loop μ-loop
 same-length-4 c = c .before .before .before .loop .inv .lent .3
 
--- src/lib.rt:332:13
 returns : tie.Need-returns Inv-loop μ-loop
 returns c =
     let i = c .before .before .before .loop .inv in
@@ -64,7 +56,6 @@ returns c =
       (o .0, i .room, n, λ z. (let a = o .2 n z in let b = i .less in omega arith), grows-as (i .grown) (ap (λ (x : Place). retold x 0) (c .before .before .due .ensures .1))),
     )
 
--- src/lib.rt:334:13
 begun-requires : tie.Need-begun-requires Inv-loop μ-loop
 begun-requires c κs =
     let i = c .before .before .before .before .loop .inv in
@@ -72,7 +63,6 @@ begun-requires c κs =
     let t = c .before .before .before .due .ensures .0 _ _ _ (i .steady) .1 n in
     (i .steady, t .0, t .1, i .room)
 
--- src/lib.rt:335:13
 scanned-requires : tie.Need-scanned-requires Inv-loop μ-loop
 scanned-requires c κs =
     let start = c .before .before .before .before .before .before .before .before .before .before .before .before .before .before .before .before in
@@ -80,11 +70,9 @@ scanned-requires c κs =
     let b = c .before .before .before .begun .ensures in
     (r .0, r .1, b .1, b .2)
 
--- src/lib.rt:336:13
 is-nothing-requires-2 : tie.Need-is-nothing-requires-2 Inv-loop μ-loop
 is-nothing-requires-2 c κs = search needs
 
--- src/lib.rt:337:13
 same-length-5 : tie.Need-same-length-5 Inv-loop μ-loop
 same-length-5 c =
     let at-scanned = c .before .before .before .before .before .before in
@@ -93,7 +81,6 @@ same-length-5 c =
     let i = at-loop .loop .inv in
     omega (arith, v .kept .1 .1 .1 .1 .1 .1 .1 .1 .1 .0, i .lent .0)
 
--- src/lib.rt:337:13
 same-length-6 : tie.Need-same-length-6 Inv-loop μ-loop
 same-length-6 c =
     let at-scanned = c .before .before .before .before .before .before in
@@ -102,19 +89,16 @@ same-length-6 c =
     let i = at-loop .loop .inv in
     omega (arith, v .kept .1 .1 .1 .1 .1 .1 .1 .1 .1 .1 .0, i .lent .1)
 
--- src/lib.rt:337:13
 same-length-7 : tie.Need-same-length-7 Inv-loop μ-loop
 same-length-7 c =
     let at-loop = c .before .before .before .before .before .before .before .before .before .before .before .before .before .before .before in
     at-loop .loop .inv .lent .2
 
--- src/lib.rt:337:13
 same-length-8 : tie.Need-same-length-8 Inv-loop μ-loop
 same-length-8 c =
     let at-loop = c .before .before .before .before .before .before .before .before .before .before .before .before .before .before .before in
     at-loop .loop .inv .lent .3
 
--- src/lib.rt:337:13
 returns-2 : tie.Need-returns-2 Inv-loop μ-loop
 returns-2 c =
     let at-scanned = c .before .before .before .before .before .before in
@@ -125,11 +109,10 @@ returns-2 c =
     let b = at-begun .begun .ensures in
     let v = at-scanned .scanned .ensures in
     let n = c .before .is-nothing2 .ensures .1 (not-true _ (c .if2 .taken)) in (
-      λ T sy ld σ loop h all σ₀ p₀ m₀ g. v .0 T sy (r .lt .now) ld σ (h .held) loop all σ₀ p₀ m₀ _ _ (b .0 T _ all σ₀ p₀ m₀ σ _ _ _ _ (i .stood T sy ld σ loop h all σ₀ p₀ m₀ g)),
+      λ T sy ld σ loop h all σ₀ p₀ m₀ g. v .0 T sy (r .lt .now) ld (r .lb .now) σ (h .held) loop all σ₀ p₀ m₀ _ _ (b .0 T _ all σ₀ p₀ m₀ σ _ _ _ _ (i .stood T sy ld σ loop h all σ₀ p₀ m₀ g)),
       (v .1 .0, v .1 .1, n, λ z. (let x = v .1 .3 n in let y = b .5 in let l = i .less in omega arith), grows-as (i .grown) (v .1 .4 ∙ ap (λ (x : Place). retold x 0) (b .6))),
     )
 
--- src/lib.rt:339:13
 acted-requires : tie.Need-acted-requires Inv-loop μ-loop
 acted-requires c κs =
     let at-is-nothing2 = c .before .before .before .before in
@@ -141,11 +124,9 @@ acted-requires c κs =
     let t = v .2 e in
     (r .0, r .1 .few, r .3, r .2, record { ns = _; steady = nothing-steady _ _ _ _ _ e (v .0) }, t .0, t .1)
 
--- src/lib.rt:340:13
 is-nothing-requires-3 : tie.Need-is-nothing-requires-3 Inv-loop μ-loop
 is-nothing-requires-3 c κs = search needs
 
--- src/lib.rt:341:13
 same-length-9 : tie.Need-same-length-9 Inv-loop μ-loop
 same-length-9 c =
     let at-acted = c .before .before .before .before .before .before .before .before in
@@ -153,9 +134,8 @@ same-length-9 c =
     let at-loop = at-scanned .before .before .before .before .before .before .before .before .before in
     let v = at-scanned .scanned in
     let i = at-loop .loop .inv in
-    omega (arith, at-acted .acted .kept .1 .1 .1 .1 .1 .1 .0, v .kept .1 .1 .1 .1 .1 .1 .1 .1 .1 .0, i .lent .0)
+    omega (arith, at-acted .acted .kept .1 .1 .1 .1 .1 .1 .1 .0, v .kept .1 .1 .1 .1 .1 .1 .1 .1 .1 .0, i .lent .0)
 
--- src/lib.rt:341:13
 same-length-10 : tie.Need-same-length-10 Inv-loop μ-loop
 same-length-10 c =
     let at-scanned = c .before .before .before .before .before .before .before .before .before .before .before .before .before .before .before .before .before .before in
@@ -164,25 +144,22 @@ same-length-10 c =
     let i = at-loop .loop .inv in
     omega (arith, v .kept .1 .1 .1 .1 .1 .1 .1 .1 .1 .1 .0, i .lent .1)
 
--- src/lib.rt:341:13
 same-length-11 : tie.Need-same-length-11 Inv-loop μ-loop
 same-length-11 c =
     let at-acted = c .before .before .before .before .before .before .before .before in
     let at-loop = at-acted .before .before .before .before .before .before .before .before .before .before .before .before .before .before .before .before .before .before .before in
     let a = at-acted .acted in
     let i = at-loop .loop .inv in
-    omega (arith, a .kept .1 .1 .1 .1 .1 .1 .1 .0, i .lent .2)
+    omega (arith, a .kept .1 .1 .1 .1 .1 .1 .1 .1 .0, i .lent .2)
 
--- src/lib.rt:341:13
 same-length-12 : tie.Need-same-length-12 Inv-loop μ-loop
 same-length-12 c =
     let at-acted = c .before .before .before .before .before .before .before .before in
     let at-loop = at-acted .before .before .before .before .before .before .before .before .before .before .before .before .before .before .before .before .before .before .before in
     let a = at-acted .acted in
     let i = at-loop .loop .inv in
-    omega (arith, a .kept .1 .1 .1 .1 .1 .1 .1 .1 .0, i .lent .3)
+    omega (arith, a .kept .1 .1 .1 .1 .1 .1 .1 .1 .1 .0, i .lent .3)
 
--- src/lib.rt:341:13
 returns-3 : tie.Need-returns-3 Inv-loop μ-loop
 returns-3 c =
     let at-acted = c .before .before .before .before .before .before .before .before in
@@ -203,11 +180,10 @@ returns-3 c =
     let n = c .before .is-nothing3 .ensures .1 (not-true _ (c .if3 .taken)) in (
       λ T sy ld σ loop h all σ₀ p₀ m₀ g. a .ensures .0 T sy ld _ σ loop h all σ₀ p₀ m₀ _ _
           (nothing-stood T _ _ _ _ all σ₀ p₀ m₀ _ _ σ _ _ e
-          (v .ensures .0 T sy (r .lt .now) ld σ (h .held) loop all σ₀ p₀ m₀ _ _ (b .0 T _ all σ₀ p₀ m₀ σ _ _ _ _ (k .inv .stood T sy ld σ loop h all σ₀ p₀ m₀ g)))),
+          (v .ensures .0 T sy (r .lt .now) ld (r .lb .now) σ (h .held) loop all σ₀ p₀ m₀ _ _ (b .0 T _ all σ₀ p₀ m₀ σ _ _ _ _ (k .inv .stood T sy ld σ loop h all σ₀ p₀ m₀ g)))),
       (a .ensures .1 .0 _, v .ensures .1 .1, n, λ z. (let y = k .inv .less in omega arith), grows-both (k .inv .grown) (grows-told (v .ensures .1 .4 ∙ ap (λ (x : Place). retold x 0) (b .6)) (a .ensures .1 .3))),
     )
 
--- src/lib.rt:329:5
 loop-less : tie.Need-loop-less Inv-loop μ-loop
 loop-less c =
     let at-acted = c .before .before .before .before .before .before .before .before .before in
@@ -223,7 +199,6 @@ loop-less c =
     let a = at-acted .acted .ensures .1 .1 in
     omega arith
 
--- src/lib.rt:329:5
 loop-again : tie.Need-loop-again Inv-loop μ-loop
 loop-again c =
     let at-acted = c .before .before .before .before .before .before .before .before .before in
@@ -248,10 +223,10 @@ loop-again c =
       room = v .ensures .1 .1;
       less = let y = k .inv .less in omega arith;
       grown = grows-both (k .inv .grown) (grows-told (v .ensures .1 .4 ∙ ap (λ (x : Place). retold x 0) (b .6)) (a .ensures .1 .3));
-      lent = (a .kept .1 .1 .1 .1 .1 .1 .0 ∙ v .kept .1 .1 .1 .1 .1 .1 .1 .1 .1 .0 ∙ l .0, v .kept .1 .1 .1 .1 .1 .1 .1 .1 .1 .1 .0 ∙ l .1, a .kept .1 .1 .1 .1 .1 .1 .1 .0 ∙ l .2, a .kept .1 .1 .1 .1 .1 .1 .1 .1 .0 ∙ l .3);
+      lent = (a .kept .1 .1 .1 .1 .1 .1 .1 .0 ∙ v .kept .1 .1 .1 .1 .1 .1 .1 .1 .1 .0 ∙ l .0, v .kept .1 .1 .1 .1 .1 .1 .1 .1 .1 .1 .0 ∙ l .1, a .kept .1 .1 .1 .1 .1 .1 .1 .1 .0 ∙ l .2, a .kept .1 .1 .1 .1 .1 .1 .1 .1 .1 .0 ∙ l .3);
       stood = λ T sy ld σ loop h all σ₀ p₀ m₀ g. nothing-stood T _ _ _ _ all σ₀ p₀ m₀ _ _ σ _ _ n (a .ensures .0 T sy ld _ σ loop h all σ₀ p₀ m₀ _ _
           (nothing-stood T _ _ _ _ all σ₀ p₀ m₀ _ _ σ _ _ e
-          (v .ensures .0 T sy (r .lt .now) ld σ (h .held) loop all σ₀ p₀ m₀ _ _ (b .0 T _ all σ₀ p₀ m₀ σ _ _ _ _ (k .inv .stood T sy ld σ loop h all σ₀ p₀ m₀ g)))));
+          (v .ensures .0 T sy (r .lt .now) ld (r .lb .now) σ (h .held) loop all σ₀ p₀ m₀ _ _ (b .0 T _ all σ₀ p₀ m₀ σ _ _ _ _ (k .inv .stood T sy ld σ loop h all σ₀ p₀ m₀ g)))));
     }
 
 pub next-change-spec : {M : Type 1} → statement M

@@ -9,11 +9,9 @@ use Rattle.statements_changes.proofs.owed.Reads as reads
 use Rattle.statements_changes.proofs.owed.Lts as lts
 use Rattle.statements_changes.proofs.between.Reads as between-reads
 
--- src/lib.rt:188:9
 between-requires : tie.Need-between-requires
 between-requires c κs = search needs
 
--- src/lib.rt:184:1
 returns : tie.Need-returns
 returns c = ap (λ (x : Cursor). record { cursor = x; turn = Mark (c .before .before .args .name) 1 (c .before .before .args .span) false }) (c .between .ensures)
 

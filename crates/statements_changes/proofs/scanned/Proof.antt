@@ -14,37 +14,29 @@ use Rattle.statements_changes.proofs.told.Reads as told-reads
 use Rattle.statements_changes.proofs.within.Reads as within-reads
 use Rattle.expressions_scan.proofs.scan_on.Reads as scan-on-reads
 
--- src/lib.rt:269:9
 scan-on-requires : tie.Need-scan-on-requires
 scan-on-requires c κs =
     let r = c .before .before .before .before .before .before .before .before .before .pre in
     (r .0, r .1, r .2 .within (r .3) .ready, begun-room _ _ _ (c .before .before .before .before .before .before .before .before .before .args .c) (r .2) (r .3))
 
--- src/lib.rt:270:9
 told-requires : tie.Need-told-requires
 told-requires c κs = search needs
 
--- src/lib.rt:271:9
 within-requires : tie.Need-within-requires
 within-requires c κs = search needs
 
--- src/lib.rt:276:19
 enum-told : tie.Need-enum-told
 enum-told c = search needs
 
--- src/lib.rt:278:40
 enum-known-change : tie.Need-enum-known-change
 enum-known-change c = search needs
 
--- src/lib.rt:238:1
 same-length : tie.Need-same-length
 same-length c = search needs
 
--- src/lib.rt:238:1
 same-length-2 : tie.Need-same-length-2
 same-length-2 c = search needs
 
--- src/lib.rt:238:1
 returns : tie.Need-returns
 returns c =
     let at-scan-on = c .before .before .before .before .before .before .before .before in
@@ -55,7 +47,7 @@ returns c =
     let w = c .before .before .within .ensures in
     let e = within-as _ _ _ w (c .before .before .before .told .ensures) in
     let i = c .enum-told .given .1 in (
-      λ T sy types depths σ h loop all σ₀ p₀ m₀ warns lefts g. stood-as σ (v .result .change) Nothing (stood-on T _ _ _ _ all σ₀ p₀ m₀ _ (a .c) σ _ _ warns lefts g (r .3) _ (v .ensures .0 T sy types depths σ h)) e i,
+      λ T sy types depths births σ h loop all σ₀ p₀ m₀ warns lefts g. stood-as σ (v .result .change) Nothing (stood-on T _ _ _ _ all σ₀ p₀ m₀ _ (a .c) σ _ _ warns lefts g (r .3) _ (v .ensures .0 T sy types depths births σ h)) e i,
       (
         steady-as e (steady-on _ _ _ (a .c) (r .2) (r .3) _ (v .result) (v .ensures .1)),
         sym (length-opens _) ∙ v .ensures .1 .ready .room,
@@ -65,15 +57,12 @@ returns c =
       ),
     )
 
--- src/lib.rt:238:1
 same-length-3 : tie.Need-same-length-3
 same-length-3 c = search needs
 
--- src/lib.rt:238:1
 same-length-4 : tie.Need-same-length-4
 same-length-4 c = search needs
 
--- src/lib.rt:238:1
 returns-2 : tie.Need-returns-2
 returns-2 c =
     let at-told = c .before .before .before .before in
@@ -85,7 +74,7 @@ returns-2 c =
     let w = c .before .before .before .within .ensures in
     let e = within-as _ _ _ w (at-told .told .ensures) in
     let i = c .before .change .given .1 in (
-      λ T sy types depths σ h loop all σ₀ p₀ m₀ warns lefts g. stood-as σ (v .result .change) _ (stood-on T _ _ _ _ all σ₀ p₀ m₀ _ (a .c) σ _ _ warns lefts g (r .3) _ (v .ensures .0 T sy types depths σ h)) e i,
+      λ T sy types depths births σ h loop all σ₀ p₀ m₀ warns lefts g. stood-as σ (v .result .change) _ (stood-on T _ _ _ _ all σ₀ p₀ m₀ _ (a .c) σ _ _ warns lefts g (r .3) _ (v .ensures .0 T sy types depths births σ h)) e i,
       (
         mark-fit _ _ _ _ _ e (steady-on _ _ _ (a .c) (r .2) (r .3) _ (v .result) (v .ensures .1)) (v .result .change) (v .ensures .1 .marks) _ _ _ _ i,
         sym (length-opens _) ∙ v .ensures .1 .ready .room,

@@ -9,59 +9,47 @@ use Rattle.statements_changes.proofs.turn_of.Lts as lts
 use Rattle.statements_changes.proofs.between.Reads as between-reads
 use Rattle.statements_changes.proofs.has_blocks.Reads as has-blocks-reads
 
--- src/lib.rt:117:8
 has-blocks-requires : tie.Need-has-blocks-requires
 has-blocks-requires c κs = search needs
 
--- src/lib.rt:118:13
 between-requires : tie.Need-between-requires
 between-requires c κs = search needs
 
--- src/lib.rt:119:9
 returns : tie.Need-returns
 returns c =
     let a = c .before .before .before .args in
     came-blocks (a .tag) (a .left) (a .place) (a .change) (a .taken) _ (c .between .ensures) (sym (c .before .before .has-blocks .ensures) ∙ c .before .if1 .taken)
 
--- src/lib.rt:124:9
 between-requires-2 : tie.Need-between-requires-2
 between-requires-2 c κs = search needs
 
--- src/lib.rt:128:19
 enum-told : tie.Need-enum-told
 enum-told c = search needs
 
--- src/lib.rt:130:24
 enum-known-change : tie.Need-enum-known-change
 enum-known-change c = search needs
 
--- src/lib.rt:134:26
 enum-known-change-2 : tie.Need-enum-known-change-2
 enum-known-change-2 c = search needs
 
--- src/lib.rt:138:24
 enum-known-change-3 : tie.Need-enum-known-change-3
 enum-known-change-3 c = search needs
 
--- src/lib.rt:114:1
 returns-2 : tie.Need-returns-2
 returns-2 c =
     let a = c .before .before .before .before .before .args in
     came-else (a .tag) (a .left) (a .place) (a .change) (a .taken) _ _ (c .before .before .between2 .ensures) (sym (c .before .before .before .before .has-blocks .ensures) ∙ c .before .before .before .if1 .left) (ap turnOf (sym (c .enum-told .given .1)))
 
--- src/lib.rt:114:1
 returns-3 : tie.Need-returns-3
 returns-3 c =
     let a = c .before .before .before .before .before .before .args in
     came-else (a .tag) (a .left) (a .place) (a .change) (a .taken) _ _ (c .before .before .before .between2 .ensures) (sym (c .before .before .before .before .before .has-blocks .ensures) ∙ c .before .before .before .before .if1 .left) (ap turnOf (sym (c .before .change .given .1)))
 
--- src/lib.rt:114:1
 returns-4 : tie.Need-returns-4
 returns-4 c =
     let a = c .before .before .before .before .before .before .args in
     came-else (a .tag) (a .left) (a .place) (a .change) (a .taken) _ _ (c .before .before .before .between2 .ensures) (sym (c .before .before .before .before .before .has-blocks .ensures) ∙ c .before .before .before .before .if1 .left) (ap turnOf (sym (c .before .change2 .given .1)))
 
--- src/lib.rt:114:1
 returns-5 : tie.Need-returns-5
 returns-5 c =
     let a = c .before .before .before .before .before .before .args in

@@ -6,9 +6,8 @@ use Rattle.scope_stack.proofs.Locals.new.Tie as tie
 use Rattle.scope_stack.proofs.Locals.new.Reads as reads
 use Rattle.scope_stack.proofs.Locals.new.Lts as lts
 
--- src/lib.rt:139:5
 returns : tie.Need-returns
-returns c = (record { small = omega arith; nameRoom = refl; typeRoom = refl; depthRoom = refl; dtorRoom = omega arith }, refl, λ T. sym (word-none 0 _ (λ k l. absurd (omega arith))))
+returns c = (record { small = omega arith; nameRoom = refl; typeRoom = refl; depthRoom = refl; birthRoom = refl; dtorRoom = omega arith }, refl, λ T. sym (word-none 0 _ (λ k l. absurd (omega arith))))
 
 pub new-spec : {M : Type 1} → statement M
 new-spec = tie.close (tie.spec returns)

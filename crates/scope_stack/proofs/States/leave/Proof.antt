@@ -17,15 +17,12 @@ Inv-loop n m self₀ i₀ self i = (n ≤ i) × (i ≤ m) × Leaves n i self₀ 
 abbrev μ-loop : tie.MeasureT-loop
 μ-loop n m self₀ i₀ self i = m - i
 
--- src/lib.rt:219:9
 loop-holds : tie.Need-loop-holds Inv-loop μ-loop
 loop-holds c = (search needs, search needs, leaves-none _ _ (c .pre .0))
 
--- src/lib.rt:220:13
 element-write-self : tie.Need-element-write-self Inv-loop μ-loop
 element-write-self c = search needs
 
--- src/lib.rt:221:13
 mul-self : tie.Need-mul-self Inv-loop μ-loop
 mul-self c = search needs
 
@@ -35,19 +32,15 @@ element-write-self-2 c = search needs
 with-bit-requires : tie.Need-with-bit-requires Inv-loop μ-loop
 with-bit-requires c κs = search needs
 
--- src/lib.rt:223:13
 add-i : tie.Need-add-i Inv-loop μ-loop
 add-i c = search needs
 
--- src/lib.rt:219:9
 loop-less : tie.Need-loop-less Inv-loop μ-loop
 loop-less c = search needs
 
--- src/lib.rt:219:9
 loop-again : tie.Need-loop-again Inv-loop μ-loop
 loop-again c = (search needs, search needs, leaves-more _ _ _ _ _ _ (c .before .before .loop .inv .2) (search needs) (search needs) refl (c .with-bit .ensures 0 _ (c .before .before .loop .inv .2 .held .word)))
 
--- src/lib.rt:214:5
 returns : tie.Need-returns Inv-loop μ-loop
 returns c = let end : c .before .loop .i ≡ c .before .before .args .m = omega (arith, c .before .loop .inv .1, c .loop-test .left) in
     rw end at (c .before .loop .inv .2)

@@ -18,59 +18,45 @@ Inv-loop names depths n name kind place only-alive self₀ depth at₀ self at =
 abbrev μ-loop : tie.MeasureT-loop
 μ-loop names depths n name kind place only-alive self₀ depth at₀ self at = n - at
 
--- src/lib.rt:193:13
 frame-of-requires : tie.Need-frame-of-requires Inv-loop μ-loop
 frame-of-requires c κs = search needs
 
--- src/lib.rt:195:9
 loop-holds : tie.Need-loop-holds Inv-loop μ-loop
 loop-holds c = (search needs, marking-none _ _ _ _ _ _ _ _ (c .before .pre .0))
 
--- src/lib.rt:197:17
 mul-is-marked : tie.Need-mul-is-marked Inv-loop μ-loop
 mul-is-marked c = search needs
 
--- src/lib.rt:197:17
 element-copy-out-is-marked : tie.Need-element-copy-out-is-marked Inv-loop μ-loop
 element-copy-out-is-marked c = search needs
 
--- src/lib.rt:199:17
 element-copy-out-is-marked-2 : tie.Need-element-copy-out-is-marked-2 Inv-loop μ-loop
 element-copy-out-is-marked-2 c = search needs
 
--- src/lib.rt:202:17
 element-copy-out-is-marked-3 : tie.Need-element-copy-out-is-marked-3 Inv-loop μ-loop
 element-copy-out-is-marked-3 c = search needs
 
--- src/lib.rt:196:16
 is-marked-requires : tie.Need-is-marked-requires Inv-loop μ-loop
 is-marked-requires c κs = search needs
 
--- src/lib.rt:204:17
 element-write-self : tie.Need-element-write-self Inv-loop μ-loop
 element-write-self c = search needs
 
--- src/lib.rt:205:17
 mul-self : tie.Need-mul-self Inv-loop μ-loop
 mul-self c = search needs
 
--- src/lib.rt:205:17
 element-write-self-2 : tie.Need-element-write-self-2 Inv-loop μ-loop
 element-write-self-2 c = search needs
 
--- src/lib.rt:206:30
 with-bit-requires : tie.Need-with-bit-requires Inv-loop μ-loop
 with-bit-requires c κs = search needs
 
--- src/lib.rt:208:13
 add-at : tie.Need-add-at Inv-loop μ-loop
 add-at c = search needs
 
--- src/lib.rt:195:9
 loop-less : tie.Need-loop-less Inv-loop μ-loop
 loop-less c = search needs
 
--- src/lib.rt:195:9
 loop-again : tie.Need-loop-again Inv-loop μ-loop
 loop-again c = (
   search needs,
@@ -80,7 +66,6 @@ loop-again c = (
       (c .if1 .came),
 )
 
--- src/lib.rt:180:5
 returns : tie.Need-returns Inv-loop μ-loop
 returns c = let end : c .before .loop .at ≡ c .before .before .before .args .n = omega (arith, c .before .loop .inv .0, c .loop-test .left) in
     (c .before .loop .inv .1 .held, λ l e f q. marks _ _ _ _ _ _ _ _ _ _ (c .before .before .before .pre .2) (c .before .loop .inv .1) l e f (q ∙ sym end) (λ g. c .before .before .frame-of .ensures l g e f q))

@@ -8,7 +8,6 @@ use Rattle.scope_stack.proofs.States.new.Tie as tie
 use Rattle.scope_stack.proofs.States.new.Reads as reads
 use Rattle.scope_stack.proofs.States.new.Lts as lts
 
--- src/lib.rt:169:5
 returns : tie.Need-returns
 returns c = (record { kindRoom = refl; firstRoom = refl; word = word-full 64 _ (λ k l. eq-eqb _ _ (zeros k)) }, zeros)
 

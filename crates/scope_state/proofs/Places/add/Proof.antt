@@ -11,36 +11,28 @@ use Rattle.scope_state.proofs.Places.add.Lts as lts
 use Rattle.scope_state.proofs.Places.has.Reads as has-reads
 use Rattle.image_fields.proofs.wide.Reads as wide-reads
 
--- src/lib.rt:106:12
 has-requires : tie.Need-has-requires
 has-requires c κs = search needs
 
--- src/lib.rt:107:13
 returns : tie.Need-returns
 returns c = fits-ok _ _ (rw (sym (c .before .has .ensures) ∙ c .if1 .taken)) (c .before .before .pre)
 
--- src/lib.rt:114:13
 returns-2 : tie.Need-returns-2
 returns-2 c = let all = listed-length (c .before .before .before .args .self) (c .before .before .before .pre) in
     fits-no _ _ (rw (sym (c .before .before .has .ensures) ∙ c .before .if1 .left) (simp length-append (omega (arith, all, c .if2 .taken))))
 
--- src/lib.rt:120:13
 wide-requires : tie.Need-wide-requires
 wide-requires c κs = search needs
 
--- src/lib.rt:121:9
 mul-out : tie.Need-mul-out
 mul-out c = search needs
 
--- src/lib.rt:121:9
 element-write-out : tie.Need-element-write-out
 element-write-out c = search needs
 
--- src/lib.rt:122:21
 add-out : tie.Need-add-out
 add-out c = search needs
 
--- src/lib.rt:102:5
 returns-3 : tie.Need-returns-3
 returns-3 c = let self = c .before .before .before .before .args .self in
     let at : c .wide .result ≡ self .count = c .wide .ensures .0 in

@@ -23,27 +23,21 @@ Inv-loop self other n out₀ i₀ out i = (i ≤ n) × (n ≡ other .count) × R
 abbrev μ-loop : tie.MeasureT-loop
 μ-loop self other n out₀ i₀ out i = n - i
 
--- src/lib.rt:134:13
 wide-requires : tie.Need-wide-requires Inv-loop μ-loop
 wide-requires c κs = search needs
 
--- src/lib.rt:137:9
 loop-holds : tie.Need-loop-holds Inv-loop μ-loop
 loop-holds c = (search needs, c .wide .ensures .0, c .before .pre .0, refl)
 
--- src/lib.rt:138:21
 mul-p : tie.Need-mul-p Inv-loop μ-loop
 mul-p c = search needs
 
--- src/lib.rt:138:21
 element-copy-out-p : tie.Need-element-copy-out-p Inv-loop μ-loop
 element-copy-out-p c = search needs
 
--- src/lib.rt:139:17
 add-requires : tie.Need-add-requires Inv-loop μ-loop
 add-requires c κs = c .before .before .loop .inv .2
 
--- src/lib.rt:141:17
 returns : tie.Need-returns Inv-loop μ-loop
 returns c = let off : c .before .before .add .result .ok ≡ false = not-true _ (c .if1 .taken) in
     let other = c .before .before .before .before .before .before .before .args .t2 in
@@ -51,15 +45,12 @@ returns c = let off : c .before .before .add .result .ok ≡ false = not-true _ 
     (subst (λ (l : List ℕ). 8 < length l) (c .before .before .before .before .before .loop .inv .3)
     (combine-crowd (listed (c .before .before .before .before .before .loop .out)) (other .list) (c .before .before .before .before .before .loop .i) (other .count) (omega (arith, c .before .before .before .before .loop-test .taken, c .before .before .before .before .before .loop .inv .1)) (omega (arith, c .before .before .before .before .before .before .before .pre .1 .most, c .before .before .before .before .before .before .before .pre .1 .room)) (not-false _ (sym (c .before .before .add .ensures .ok) ∙ off))))
 
--- src/lib.rt:147:13
 add-i : tie.Need-add-i Inv-loop μ-loop
 add-i c = search needs
 
--- src/lib.rt:137:9
 loop-less : tie.Need-loop-less Inv-loop μ-loop
 loop-less c = search needs
 
--- src/lib.rt:137:9
 loop-again : tie.Need-loop-again Inv-loop μ-loop
 loop-again c = let on : c .before .before .before .add .result .ok ≡ true = not-false _ (c .before .if1 .left) in
     let new = c .before .before .before .add .ensures .is on in
@@ -67,7 +58,6 @@ loop-again c = let on : c .before .before .before .add .result .ok ≡ true = no
     let next = combine-next (listed (c .before .before .before .before .before .before .loop .out)) (other .list) (c .before .before .before .before .before .before .loop .i) (other .count) (omega (arith, c .before .before .before .before .before .loop-test .taken, c .before .before .before .before .before .before .loop .inv .1)) (omega (arith, c .before .before .before .before .before .before .before .before .pre .1 .most, c .before .before .before .before .before .before .before .before .pre .1 .room)) in
     (search needs, c .before .before .before .before .before .before .loop .inv .1, new .1, rw (new .0) (sym next ∙ c .before .before .before .before .before .before .loop .inv .3))
 
--- src/lib.rt:130:5
 returns-2 : tie.Need-returns-2 Inv-loop μ-loop
 returns-2 c = fits-ok _ _ (sym (combine-end (listed (c .before .loop .out)) (c .before .before .before .args .t2 .list) (c .before .loop .i) (c .before .before .before .args .t2 .count) (omega (arith, c .loop-test .left, c .before .loop .inv .1))) ∙ c .before .loop .inv .3) (c .before .loop .inv .2)
 

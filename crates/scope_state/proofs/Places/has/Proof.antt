@@ -19,39 +19,30 @@ Inv-loop place self n i₀ i = (i ≤ self .count) × (n ≡ self .count) × (me
 abbrev μ-loop : tie.MeasureT-loop
 μ-loop place self n i₀ i = n - i
 
--- src/lib.rt:90:13
 wide-requires : tie.Need-wide-requires Inv-loop μ-loop
 wide-requires c κs = search needs
 
--- src/lib.rt:92:9
 loop-holds : tie.Need-loop-holds Inv-loop μ-loop
 loop-holds c = (search needs, c .wide .ensures .0, refl)
 
--- src/lib.rt:93:16
 mul-if1 : tie.Need-mul-if1 Inv-loop μ-loop
 mul-if1 c = search needs
 
--- src/lib.rt:93:16
 element-copy-out-if1 : tie.Need-element-copy-out-if1 Inv-loop μ-loop
 element-copy-out-if1 c = search needs
 
--- src/lib.rt:94:17
 returns : tie.Need-returns Inv-loop μ-loop
 returns c = sym (has-hit (c .before .before .before .before .before .args .place) (c .before .before .before .loop .i) (c .before .before .before .before .before .args .t1 .count) (c .before .before .before .before .before .args .t1 .list) (omega (arith, c .before .before .loop-test .taken, c .before .before .before .loop .inv .1)) (search needs) (c .if1 .taken)) ∙ c .before .before .before .loop .inv .2
 
--- src/lib.rt:96:13
 add-i : tie.Need-add-i Inv-loop μ-loop
 add-i c = search needs
 
--- src/lib.rt:92:9
 loop-less : tie.Need-loop-less Inv-loop μ-loop
 loop-less c = search needs
 
--- src/lib.rt:92:9
 loop-again : tie.Need-loop-again Inv-loop μ-loop
 loop-again c = (search needs, c .before .before .before .loop .inv .1, sym (has-miss (c .before .before .before .before .before .args .place) (c .before .before .before .loop .i) (c .before .before .before .before .before .args .t1 .count) (c .before .before .before .before .before .args .t1 .list) (omega (arith, c .before .before .loop-test .taken, c .before .before .before .loop .inv .1)) (search needs) (c .if1 .left)) ∙ c .before .before .before .loop .inv .2)
 
--- src/lib.rt:86:5
 returns-2 : tie.Need-returns-2 Inv-loop μ-loop
 returns-2 c = sym (has-end (c .before .before .before .args .place) (c .before .loop .i) (c .before .before .before .args .t1 .count) (c .before .before .before .args .t1 .list) (omega (arith, c .loop-test .left, c .before .loop .inv .1))) ∙ c .before .loop .inv .2
 

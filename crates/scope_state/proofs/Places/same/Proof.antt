@@ -18,55 +18,42 @@ Inv-loop self other n i₀ i = (i ≤ n) × (n ≡ self .count) × (n ≡ other 
 abbrev μ-loop : tie.MeasureT-loop
 μ-loop self other n i₀ i = n - i
 
--- src/lib.rt:160:13
 wide-requires : tie.Need-wide-requires Inv-loop μ-loop
 wide-requires c κs = search needs
 
--- src/lib.rt:161:17
 wide-requires-2 : tie.Need-wide-requires-2 Inv-loop μ-loop
 wide-requires-2 c κs = search needs
 
--- src/lib.rt:162:13
 returns : tie.Need-returns Inv-loop μ-loop
 returns c = sym (counts-differ (c .before .before .before .args .t1 .count) (c .before .before .before .args .t2 .count) (c .before .before .before .args .t1 .list) (c .before .before .before .args .t2 .list) (search needs) (search needs) (λ e. c .if1 .taken (c .before .before .wide .ensures .0 ∙ e ∙ sym (c .before .wide2 .ensures .0))))
 
--- src/lib.rt:165:9
 loop-holds : tie.Need-loop-holds Inv-loop μ-loop
 loop-holds c = (search needs, c .before .before .wide .ensures .0, c .if1 .left ∙ c .before .wide2 .ensures .0, rw (← c .before .before .wide .ensures .0, ← c .before .wide2 .ensures .0, ← c .if1 .left))
 
--- src/lib.rt:166:16
 mul-if2 : tie.Need-mul-if2 Inv-loop μ-loop
 mul-if2 c = search needs
 
--- src/lib.rt:166:16
 element-copy-out-if2 : tie.Need-element-copy-out-if2 Inv-loop μ-loop
 element-copy-out-if2 c = search needs
 
--- src/lib.rt:166:32
 mul-if2-2 : tie.Need-mul-if2-2 Inv-loop μ-loop
 mul-if2-2 c = search needs
 
--- src/lib.rt:166:32
 element-copy-out-if2-2 : tie.Need-element-copy-out-if2-2 Inv-loop μ-loop
 element-copy-out-if2-2 c = search needs
 
--- src/lib.rt:167:17
 returns-2 : tie.Need-returns-2 Inv-loop μ-loop
 returns-2 c = sym (sym (c .before .before .before .before .loop .inv .3) ∙ same-miss (c .before .before .before .before .loop .i) _ (c .before .before .before .before .before .before .before .before .args .t1 .list) (c .before .before .before .before .before .before .before .before .args .t2 .list) (c .before .before .before .loop-test .taken) (omega (arith, c .before .before .before .before .loop .inv .1, c .before .before .before .before .before .before .before .before .pre .0 .most, c .before .before .before .before .before .before .before .before .pre .0 .room)) (omega (arith, c .before .before .before .before .loop .inv .2, c .before .before .before .before .before .before .before .before .pre .1 .most, c .before .before .before .before .before .before .before .before .pre .1 .room)) (c .if2 .taken))
 
--- src/lib.rt:169:13
 add-i : tie.Need-add-i Inv-loop μ-loop
 add-i c = search needs
 
--- src/lib.rt:165:9
 loop-less : tie.Need-loop-less Inv-loop μ-loop
 loop-less c = search needs
 
--- src/lib.rt:165:9
 loop-again : tie.Need-loop-again Inv-loop μ-loop
 loop-again c = (search needs, c .before .before .before .before .loop .inv .1, c .before .before .before .before .loop .inv .2, sym (same-hit (c .before .before .before .before .loop .i) _ (c .before .before .before .before .before .before .before .before .args .t1 .list) (c .before .before .before .before .before .before .before .before .args .t2 .list) (c .before .before .before .loop-test .taken) (omega (arith, c .before .before .before .before .loop .inv .1, c .before .before .before .before .before .before .before .before .pre .0 .most, c .before .before .before .before .before .before .before .before .pre .0 .room)) (omega (arith, c .before .before .before .before .loop .inv .2, c .before .before .before .before .before .before .before .before .pre .1 .most, c .before .before .before .before .before .before .before .before .pre .1 .room)) (c .if2 .left)) ∙ c .before .before .before .before .loop .inv .3)
 
--- src/lib.rt:156:5
 returns-3 : tie.Need-returns-3 Inv-loop μ-loop
 returns-3 c = sym (sym (c .before .loop .inv .3) ∙ same-end (c .before .loop .i) _ (c .before .before .before .before .before .args .t1 .list) (c .before .before .before .before .before .args .t2 .list) (c .loop-test .left))
 

@@ -9,11 +9,9 @@ use Rattle.scope_state.proofs.State.alive.Reads as reads
 use Rattle.scope_state.proofs.State.alive.Lts as lts
 use Rattle.scope_state.proofs.Places.none.Reads as none-reads
 
--- src/lib.rt:216:21
 none-requires : tie.Need-none-requires
 none-requires c κs = search needs
 
--- src/lib.rt:211:5
 returns : tie.Need-returns
 returns c = (refl, record { known = omega arith; roomy = c .none .ensures .1; given = sym (eq-eqb _ _ (c .none .ensures .2)) })
 

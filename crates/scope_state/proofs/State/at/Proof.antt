@@ -10,11 +10,9 @@ use Rattle.scope_state.proofs.State.at.Reads as reads
 use Rattle.scope_state.proofs.State.at.Lts as lts
 use Rattle.scope_state.proofs.Places.one.Reads as one-reads
 
--- src/lib.rt:227:21
 one-requires : tie.Need-one-requires
 one-requires c κs = search needs
 
--- src/lib.rt:221:5
 returns : tie.Need-returns
 returns c = (
   ap (said (c .before .args .kind)) (c .one .ensures .0),

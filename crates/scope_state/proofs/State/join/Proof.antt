@@ -11,39 +11,30 @@ use Rattle.scope_state.proofs.State.same.Reads as same-reads
 use Rattle.scope_state.proofs.conditional.Reads as conditional-reads
 use Rattle.scope_state.proofs.family.Reads as family-reads
 
--- src/lib.rt:254:23
 conditional-requires : tie.Need-conditional-requires
 conditional-requires c κs = search needs
 
--- src/lib.rt:257:13
 returns : tie.Need-returns
 returns c = join-then-alive (c .before .before .before .before .args .self) (c .before .before .before .before .args .other) (c .before .before .before .before .pre .0) (c .before .before .before .before .pre .1) _ (c .before .if1 .taken) (c .conditional .ensures)
 
--- src/lib.rt:261:23
 conditional-requires-2 : tie.Need-conditional-requires-2
 conditional-requires-2 c κs = search needs
 
--- src/lib.rt:264:13
 returns-2 : tie.Need-returns-2
 returns-2 c = join-else-alive (c .before .before .before .before .before .args .self) (c .before .before .before .before .before .args .other) (c .before .before .before .before .before .pre .0) (c .before .before .before .before .before .pre .1) _ (c .before .if2 .taken) (c .conditional2 .ensures)
 
--- src/lib.rt:266:12
 same-requires : tie.Need-same-requires
 same-requires c κs = search needs
 
--- src/lib.rt:267:13
 returns-3 : tie.Need-returns-3
 returns-3 c = join-same (c .before .before .before .before .before .before .args .self) (c .before .before .before .before .before .before .args .other) (c .before .before .before .before .before .before .pre .0) (c .before .before .before .before .before .before .pre .1) (c .before .before .before .if1 .left) (c .before .before .if2 .left) (sym (c .before .same .ensures) ∙ c .if3 .taken)
 
--- src/lib.rt:272:13
 combine-requires : tie.Need-combine-requires
 combine-requires c κs = search needs
 
--- src/lib.rt:275:19
 family-requires : tie.Need-family-requires
 family-requires c κs = search needs
 
--- src/lib.rt:244:5
 returns-4 : tie.Need-returns-4
 returns-4 c = join-differ (c .before .before .before .before .before .before .before .before .before .args .self) (c .before .before .before .before .before .before .before .before .before .args .other) (c .before .before .before .before .before .before .before .before .before .pre .0) (c .before .before .before .before .before .before .before .before .before .pre .1) (c .before .before .before .before .before .before .if1 .left) (c .before .before .before .before .before .if2 .left) (sym (c .before .before .before .before .same .ensures) ∙ c .before .before .before .if3 .left) _ (c .family .ensures) (c .before .before .combine .result) (c .before .before .combine .ensures)
 

@@ -7,15 +7,12 @@ use Rattle.scope_state.proofs.State.same.Reads as reads
 use Rattle.scope_state.proofs.State.same.Lts as lts
 use Rattle.scope_state.proofs.Places.same.Reads as same-reads
 
--- src/lib.rt:236:13
 returns : tie.Need-returns
 returns c = rw (ne-eqb _ _ (c .if1 .taken))
 
--- src/lib.rt:240:9
 same-requires : tie.Need-same-requires
 same-requires c κs = search needs
 
--- src/lib.rt:231:5
 returns-2 : tie.Need-returns-2
 returns-2 c = rw (eq-eqb _ _ (c .before .before .before .if1 .left)) (c .same .ensures)
 

@@ -112,9 +112,9 @@ pub room-faults : (roomFaultOf small (refused 7) ≡ some 7) × (roomFaultOf sma
 unfolding member sameBytes startsWith firstFrom andThen orElse inside structNamed structShaped structOfGeneric structOfTy structOf hasDestructor shouldAutoDelete classOfTy classOf modifierIn modifierOf isConsuming globalOf countWidth through auto isTempOf isMoveOf consumes globalIn takes handed finish effects exprStmtEffects takeOver assignEffects assignTakes crowded walkFault imageFault
 room-faults = (refl, refl)
 
--- an error has room for as many other places as the limit says; a warning has span and offset, a left-behind entry span and name
-pub entry-numbers : map (entryOf version1) (error 6 15 0 (13 ∷ 12 ∷ []) ∷ warning 21 80 ∷ left 23 4 ∷ [])
-    ≡ (6 ∷ 15 ∷ 0 ∷ 2 ∷ 13 ∷ 12 ∷ 0 ∷ 0 ∷ 0 ∷ 0 ∷ 0 ∷ 0 ∷ []) ∷ (21 ∷ 80 ∷ []) ∷ (23 ∷ 4 ∷ []) ∷ []
+-- an error has room for as many other places as the limit says; a warning has span and offset, a left-behind entry span, name and birth
+pub entry-numbers : map (entryOf version1) (error 6 15 0 (13 ∷ 12 ∷ []) ∷ warning 21 80 ∷ left 23 4 21 ∷ [])
+    ≡ (6 ∷ 15 ∷ 0 ∷ 2 ∷ 13 ∷ 12 ∷ 0 ∷ 0 ∷ 0 ∷ 0 ∷ 0 ∷ 0 ∷ []) ∷ (21 ∷ 80 ∷ []) ∷ (23 ∷ 4 ∷ 21 ∷ []) ∷ []
 entry-numbers = refl
 
 -- blocks of two statements where one is the most: the body, a block, then, else, a loop
