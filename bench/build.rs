@@ -66,28 +66,31 @@ fn copies(here: &Path) {
         let file = out.join(format!("rules_{i}.rs"));
         std::fs::write(&file, rules.replacen(&mistake.old, &mistake.new, 1)).unwrap();
         writeln!(modules, "#[allow(warnings)] #[path = {:?}] mod rules_{i};", file.display().to_string()).unwrap();
-        writeln!(list, "({:?}, {}, rules_{i}::of_image),", format!("{} -> {}", mistake.old, mistake.new), mistake.equivalent).unwrap();
+        let text = format!("{} -> {}", mistake.old, mistake.new);
+        writeln!(list, "({text:?}, {}, {}, rules_{i}::of_switched),", mistake.equivalent, mistake.runs).unwrap();
     }
-    let text = format!("{modules}\npub const ALL: &[(&str, bool, fn(&crate::image::Image) -> crate::answer::Outcome)] = &[{list}];\n");
+    let text = format!("{modules}\npub const ALL: &[(&str, bool, bool, crate::brute::Pass)] = &[{list}];\n");
     std::fs::write(out.join("mistakes.rs"), text).unwrap();
 }
 
 struct Mistake {
     equivalent: bool,
+    runs: bool,
     old: String,
     new: String,
 }
 
-// `-` and a text, `+` and another in its place; `=` says first that no image can tell them apart.
+// `-` and a text, `+` and another in its place; `=` says first that no image can tell them apart, `!` that runs show it too.
 fn mistakes(text: &str) -> Vec<Mistake> {
     let mut list: Vec<Mistake> = vec![];
-    let mut equivalent = false;
+    let (mut equivalent, mut runs) = (false, false);
     for line in text.lines() {
         match line.split_at_checked(2) {
             Some(("= ", _)) => equivalent = true,
+            Some(("! ", _)) => runs = true,
             Some(("- ", old)) => {
-                list.push(Mistake { equivalent, old: old.to_string(), new: String::new() });
-                equivalent = false;
+                list.push(Mistake { equivalent, runs, old: old.to_string(), new: String::new() });
+                (equivalent, runs) = (false, false);
             }
             Some(("+ ", new)) => list.last_mut().unwrap().new = new.to_string(),
             _ => {}

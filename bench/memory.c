@@ -1,6 +1,7 @@
 /* The library over images of a file (bench images FILE), with heap buffers of exactly the lent sizes:
  *   memory check FILE   for valgrind's memcheck: roomy, exactly full, and one short of each kind
  *   memory stack FILE   the machine stack that each entry takes at most, by a thread whose stack is painted
+ * Each image goes through the entries without switches, and through those with them under all on and under 16, which is 17.
  * With REPORTS defined and liblent.a linked, each list of errors goes through ownership_reports too.
  */
 #define _GNU_SOURCE
@@ -55,9 +56,27 @@ static void give_back(struct lent *l) {
     free(l->totals);
 }
 
+/* The switches, or PLAIN for the entries without. */
+enum { PLAIN = -1, ALL_ON = 15, TOO_HIGH = 16 };
+static const int SETTINGS[] = {PLAIN, ALL_ON, TOO_HIGH};
+static int switches;
+
 static uint32_t pass(const uint8_t *image, size_t length, struct lent *l) {
-    return ownership_pass(image, length, l->memory[0], l->size[0], l->memory[1], l->size[1] / 4, l->memory[2], l->size[2] / 4,
-                          l->memory[3], l->size[3] / 4, l->totals);
+    if (switches == PLAIN)
+        return ownership_pass(image, length, l->memory[0], l->size[0], l->memory[1], l->size[1] / 4, l->memory[2], l->size[2] / 4,
+                              l->memory[3], l->size[3] / 4, l->totals);
+    return ownership_pass_switched(switches, image, length, l->memory[0], l->size[0], l->memory[1], l->size[1] / 4, l->memory[2],
+                                   l->size[2] / 4, l->memory[3], l->size[3] / 4, l->totals);
+}
+
+static uint32_t room_of(const uint8_t *image, size_t length, uint64_t *room) {
+    return switches == PLAIN ? ownership_room(image, length, room) : ownership_room_switched(switches, image, length, room);
+}
+
+static uint32_t page_of(const uint8_t *image, size_t length, uint8_t *page, size_t page_len, uint64_t *written) {
+    if (switches == PLAIN)
+        return ownership_page(image, length, page, page_len, written);
+    return ownership_page_switched(switches, image, length, page, page_len, written);
 }
 
 /* A sum over what was reported: memcheck sees it printed, so all of it must have been written. */
@@ -141,7 +160,7 @@ static uint64_t page(const char *label, const uint8_t *image, size_t length, uin
     uint8_t *lent = malloc(room);
     memset(lent, PAINT, room);
     uint64_t *written = malloc(sizeof *written), sum = 0;
-    uint32_t answer = ownership_page(image, length, lent, room, written);
+    uint32_t answer = page_of(image, length, lent, room, written);
     if (answer != fault && !(fault == 0 && answer == 16))
         die("page and room differ", label);
     if (!is_painted(lent + (answer == 0 ? *written : 0), room - (answer == 0 ? *written : 0)))
@@ -153,7 +172,7 @@ static uint64_t page(const char *label, const uint8_t *image, size_t length, uin
     }
     size_t needed = *written;
     lent = malloc(needed);
-    if (ownership_page(image, length, lent, needed, written) != 0 || *written != needed)
+    if (page_of(image, length, lent, needed, written) != 0 || *written != needed)
         die("a page that fits exactly is refused", label);
     for (size_t i = 0; i < needed; i++)
         sum = sum * 31 + lent[i];
@@ -161,7 +180,7 @@ static uint64_t page(const char *label, const uint8_t *image, size_t length, uin
     if (needed > 0) {
         lent = malloc(needed - 1);
         memset(lent, PAINT, needed - 1);
-        if (ownership_page(image, length, lent, needed - 1, written) != 16 || *written != needed)
+        if (page_of(image, length, lent, needed - 1, written) != 16 || *written != needed)
             die("a page a byte short, and not 16", label);
         if (!is_painted(lent, needed - 1))
             die("a page changed on a refusal", label);
@@ -174,7 +193,9 @@ static uint64_t page(const char *label, const uint8_t *image, size_t length, uin
 /* 1 if the image is accepted; *sum is over what was reported. */
 static int check(const char *label, const uint8_t *image, size_t length, uint64_t *sum) {
     uint64_t *room = malloc(sizeof *room);
-    uint32_t fault = ownership_room(image, length, room);
+    uint32_t fault = room_of(image, length, room);
+    if ((fault == 17) != (switches == TOO_HIGH))
+        die("17 is for a value above 15", label);
     size_t many[KINDS] = {fault == 0 ? *room : length, 12 * 4096, 2 * 4096, 3 * 4096}, needed[KINDS];
     free(room);
     *sum += page(label, image, length, fault);
@@ -217,9 +238,9 @@ static void *work(void *given) {
     if (j->entry == 1)
         pass(j->image, j->length, j->lent);
     if (j->entry == 2)
-        ownership_room(j->image, j->length, &j->room);
+        room_of(j->image, j->length, &j->room);
     if (j->entry == 3)
-        ownership_page(j->image, j->length, j->lent->memory[0], j->lent->size[0], &j->room);
+        page_of(j->image, j->length, j->lent->memory[0], j->lent->size[0], &j->room);
     return NULL;
 }
 
@@ -291,10 +312,13 @@ int main(int words, char **word) {
         size_t size = (size_t)file[at] << 24 | file[at + 1] << 16 | file[at + 2] << 8 | file[at + 3];
         uint8_t *image = malloc(size);
         memcpy(image, file + at + 4, size);
-        if (stack)
-            measure(&s, label, image, size);
-        else
-            s.accepted += check(label, image, size, &s.sum);
+        for (size_t k = 0; k < sizeof SETTINGS / sizeof *SETTINGS; k++) {
+            switches = SETTINGS[k];
+            if (stack)
+                measure(&s, label, image, size);
+            else
+                s.accepted += check(label, image, size, &s.sum);
+        }
         if (memcmp(image, file + at + 4, size) != 0)
             die("the image was changed", label);
         free(image);
@@ -305,7 +329,7 @@ int main(int words, char **word) {
         printf("stack over %zu images: pass %zu bytes (%s), room %zu bytes (%s), page %zu bytes (%s); besides %zu of the thread itself\n",
                s.images, s.most[1] - s.most[0], s.label[1], s.most[2] - s.most[0], s.label[2], s.most[3] - s.most[0], s.label[3], s.most[0]);
     else
-        printf("%zu images, %zu accepted, exact fits and one short of each kind; sum %016llx\n", s.images, s.accepted,
+        printf("%zu images under %zu settings, %zu accepted, exact fits and one short of each kind; sum %016llx\n", s.images, sizeof SETTINGS / sizeof *SETTINGS, s.accepted,
                (unsigned long long)s.sum);
 #ifdef REPORTS
     if (!stack)

@@ -63,8 +63,8 @@ fn place_of(path: &str) -> String {
     path.replace("ownership_pass/mod.rs", "ownership_pass/published.rs")
 }
 
-// mod.rs with a note of each registration and each join, of the states at the end, with the file answered from memory, with drops before
-// breaks and continues, and with births.
+// mod.rs with a note of each registration and each join, of the states at the end, with the file answered from memory, with what is left behind
+// as drops before breaks and continues, and with births; or else with the drops of document 02, (e).
 fn probed(pass: String) -> String {
     let pass = replace(
         pass,
@@ -82,7 +82,7 @@ fn probed(pass: String) -> String {
     let pass = replace(pass, 1, looped, &format!("crate::probe::into_loop(loop_stack.len()); {looped} crate::probe::out_of_loop();"));
     let pass = ["Break", "Continue"].iter().fold(pass, |pass, jump| {
         let push = format!("HirStatement::{jump}(span) => statements.push(HirStatement::{jump}(span)),");
-        let drops = "let from = crate::probe::nearest_loop().unwrap_or(scope_stack.len()); statements.extend(self.collect_scope_drops(&scope_stack[from..], None));";
+        let drops = "let from = crate::probe::nearest_loop().unwrap_or(scope_stack.len()); if crate::probe::listing() || crate::probe::switched(2) { statements.extend(self.collect_scope_drops(&scope_stack[from..], None)); }";
         let listed = format!("HirStatement::{jump}(span) => {{ {drops} statements.push(HirStatement::{jump}(span)) }}");
         replace(pass, 1, &push, &listed)
     });
@@ -95,9 +95,34 @@ fn probed(pass: String) -> String {
         .iter()
         .fold(pass, |pass, (of, times, born)| replace(pass, *times, &temp(of), &format!("{} born: {born},", temp(of))));
     let drops = "drops.push(self.delete_stmt_for(\n                        crate::atlas_c::utils::Span::default(),\n                        local.name,\n                        local.ty,\n                    ));";
-    let born = format!("{drops} born_at(drops.last_mut(), local.born);");
+    let born = format!("{drops} if crate::probe::listing() {{ born_at(drops.last_mut(), local.born); }}");
     let pass = replace(pass, 1, drops, &born);
+    let pass = switched(pass);
     replace(pass, 7, "utils::get_file_content(", "crate::probe::file_content(")
+}
+
+// document 02, (e): 1, a bare return drops as one with a value that excludes no name (2 is above); 4, two differing conditional states of one
+// family join to a conditional one; 8, the end of the body's block drops the parameter frame too, unless it surely returns
+fn switched(pass: String) -> String {
+    let ret = "statements.push(HirStatement::Return(ret));";
+    let drops = "if ret.value.is_none() && crate::probe::switched(1) { statements.extend(self.collect_scope_drops(scope_stack, None)); }";
+    let pass = replace(pass, 1, ret, &format!("{drops} {ret}"));
+    let family = "if self.is_delete_family(&then_state) && self.is_delete_family(&else_state) {";
+    let both = "let both = || self.combine_spans(self.state_spans(&then_state), self.state_spans(&else_state));";
+    let kept = ["Deleted", "Moved", "Consumed"].map(|kind| {
+        let state = format!("OwnershipState::Conditionally{kind}");
+        format!("if crate::probe::switched(4) && matches!((&then_state, &else_state), ({state}(_), {state}(_))) {{ {both} return {state}(both()); }}")
+    });
+    let pass = replace(pass, 1, family, &format!("{} {family}", kept.join(" ")));
+    let tail = "statements.extend(tail_drops);";
+    let given = "if crate::probe::switched(8) && scope_stack.len() == 2 {
+                for local in scope_stack[0].locals.iter().rev() {
+                    if matches!(scope_stack[0].states.get(local.name), Some(OwnershipState::Alive)) && self.should_auto_delete_local(local) {
+                        tail_drops.push(self.delete_stmt_for(block.span, local.name, local.ty));
+                    }
+                }
+            }";
+    replace(pass, 1, tail, &format!("{given} {tail}"))
 }
 
 fn replace(text: String, times: usize, old: &str, new: &str) -> String {

@@ -87,6 +87,11 @@ pub fn texts(image: &Image) -> Vec<String> {
 
 /// Of an image within the domain that was read from bytes.
 pub fn of_image(image: &Image) -> Outcome {
+    of_switched(image, 0)
+}
+
+/// The same under switches: with all off the published pass, else its copy with the drops of document 02, (e).
+pub fn of_switched(image: &Image, switches: u32) -> Outcome {
     let names = texts(image);
     let arena = HirArena::new();
     let mut numbers = Numbers::of(image, &names, &arena);
@@ -97,15 +102,25 @@ pub fn of_image(image: &Image) -> Outcome {
     if fault != 0 {
         return Err(fault);
     }
-    let (body, errors, spans) = setting.run(&mut ToHir { numbers: &numbers, marks: Marks::default() });
-    assert_eq!(errors, again, "marks change no error");
+    let mut plain = ToHir { numbers: &numbers, marks: Marks::default() };
+    let (body, errors, spans, states) = if switches == 0 {
+        let (body, errors, spans) = setting.run(&mut plain);
+        assert_eq!(errors, again, "marks change no error");
+        (body, errors, spans, states)
+    } else {
+        probe::switch(Some(switches));
+        let run = setting.probe(&mut plain);
+        probe::switch(None);
+        assert_eq!(run.fault, 0, "switches change no fault");
+        (run.body, run.errors, run.warnings, run.states)
+    };
     let marked_at = |span: &Span| marking.marks.marked[mark_of(*span).expect("a submitted statement")];
     let warnings: Vec<_> = marks.iter().map(|m| (marked_at(m).span, marked_at(m).callee.expect("a call"))).collect();
     let warned: Vec<_> = spans.iter().map(|s| span_number(*s)).collect();
     assert_eq!(warned, warnings.iter().map(|w| w.0).collect::<Vec<_>>(), "marks change no warning");
     let marks = marking.marks;
     let mut lefts = vec![];
-    left_behind(&marked, &marks, &mut numbers, &mut lefts);
+    left_behind(&marked, &marks, switches, &mut numbers, &mut lefts);
     let written = image::write_with(image, &ToImage { numbers: &mut numbers }.block(&body));
 
     Ok(Answer { output: written.bytes, counts_fit: written.counts_fit, errors, warnings, lefts, states })
@@ -200,8 +215,8 @@ fn hint_of(text: &str) -> u32 {
 }
 
 // In a body with marks, what stands before a return that was bare, a break or a continue and has no mark was inserted there: all deletes of
-// locals.
-fn left_behind<'hir>(block: &HirBlock<'hir>, marks: &Marks, numbers: &mut Numbers<'hir>, lefts: &mut Vec<Left>) {
+// locals. What the switches drop is not listed.
+fn left_behind<'hir>(block: &HirBlock<'hir>, marks: &Marks, switches: u32, numbers: &mut Numbers<'hir>, lefts: &mut Vec<Left>) {
     let mut inserted = vec![];
     for s in &block.statements {
         if s.span() == Span::default() {
@@ -209,19 +224,19 @@ fn left_behind<'hir>(block: &HirBlock<'hir>, marks: &Marks, numbers: &mut Number
             continue;
         }
         match s {
-            HirStatement::Block(inner) => left_behind(inner, marks, numbers, lefts),
+            HirStatement::Block(inner) => left_behind(inner, marks, switches, numbers, lefts),
             HirStatement::IfElse(i) => {
-                left_behind(&i.then_branch, marks, numbers, lefts);
-                i.else_branch.iter().for_each(|b| left_behind(b, marks, numbers, lefts));
+                left_behind(&i.then_branch, marks, switches, numbers, lefts);
+                i.else_branch.iter().for_each(|b| left_behind(b, marks, switches, numbers, lefts));
             }
-            HirStatement::While(w) => left_behind(&w.body, marks, numbers, lefts),
+            HirStatement::While(w) => left_behind(&w.body, marks, switches, numbers, lefts),
             HirStatement::Return(r) => {
                 let marked = marks.marked[mark_of(r.span).expect("a submitted statement")];
-                if marked.bare_return {
+                if marked.bare_return && switches & 1 == 0 {
                     lefts.extend(inserted.iter().map(|(name, born)| (marked.span, *name, *born)));
                 }
             }
-            HirStatement::Break(span) | HirStatement::Continue(span) => {
+            HirStatement::Break(span) | HirStatement::Continue(span) if switches & 2 == 0 => {
                 let marked = marks.marked[mark_of(*span).expect("a submitted statement")];
                 lefts.extend(inserted.iter().map(|(name, born)| (marked.span, *name, *born)));
             }

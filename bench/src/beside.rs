@@ -266,12 +266,12 @@ impl Memory {
     fn new(tree: &Image) -> Self {
         let image = image::write(tree).bytes;
         let mut room = 0;
-        assert_eq!(ours::room(&image, &mut room), 0);
+        assert_eq!(ours::room(None, &image, &mut room), 0);
         Memory { image, output: vec![0; room as usize], lists: [1 << 20; 3].map(|n| vec![0; n]), page: vec![0; 1 << 26] }
     }
 
     fn pass(&mut self) -> f64 {
-        self.timed(ours::pass)
+        self.timed(|image, lent| ours::pass(None, image, lent))
     }
 
     fn timed(&mut self, pass: fn(&[u8], Lent<'_>) -> u32) -> f64 {
@@ -288,7 +288,7 @@ impl Memory {
     fn page(&mut self) -> f64 {
         let mut written = 0;
         let start = Instant::now();
-        let answer = ours::page(&self.image, &mut self.page, &mut written);
+        let answer = ours::page(None, &self.image, &mut self.page, &mut written);
         let time = start.elapsed().as_nanos() as f64;
         assert_eq!(answer, 0);
         time
@@ -297,7 +297,7 @@ impl Memory {
     fn room(&mut self) -> f64 {
         let mut room = 0;
         let start = Instant::now();
-        let answer = ours::room(&self.image, &mut room);
+        let answer = ours::room(None, &self.image, &mut room);
         let time = start.elapsed().as_nanos() as f64;
         assert_eq!(answer, 0);
         time

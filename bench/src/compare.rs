@@ -4,6 +4,7 @@ use crate::answer::{self, Answer, Error, Outcome};
 use crate::image::{self, Block, Image, Stmt};
 use crate::{reader, rules};
 use oracle::atlas_c::atlas_hir::arena::HirArena;
+use std::ops::Range;
 
 /// What the images of a run had.
 #[derive(Default)]
@@ -18,13 +19,16 @@ pub struct Seen {
     pub lefts: usize,
     pub changed: usize,
     pub most_places: usize,
+    /// answers under switches, and those that are not the one with all off
+    pub switched: usize,
+    pub other: usize,
     /// differences: what, the image
     pub different: Vec<(String, Vec<u8>)>,
 }
 
 impl Seen {
-    /// The outcome of bytes, after every comparison; None outside the domain.
-    pub fn check(&mut self, label: &str, bytes: &[u8]) -> Option<Outcome> {
+    /// The outcome of bytes with all switches off, after every comparison, under these switches too; None outside the domain.
+    pub fn check(&mut self, label: &str, bytes: &[u8], settings: Range<u32>) -> Option<Outcome> {
         self.images += 1;
         self.bytes += bytes.len();
         let once = self.images % 8 != 0;
@@ -55,8 +59,22 @@ impl Seen {
             must("the room's bound", a.output.len() <= bytes.len() + room_bound(&tree));
             must("the returned image is read", returned_is_read(a));
         }
+        settings.for_each(|w| self.under(w, label, &tree, &rust, bytes));
         self.note(bytes, &rust);
         Some(rust)
+    }
+
+    // The same comparison under switches, and with the outcome that has all off.
+    fn under(&mut self, switches: u32, label: &str, tree: &Image, off: &Outcome, bytes: &[u8]) {
+        let outcome = answer::of_switched(tree, switches);
+        self.switched += 1;
+        self.other += (outcome != *off) as usize;
+        let same = rules::of_switched(tree, switches) == outcome;
+        for (what, holds) in [("the definitions and the Rust", same), ("what these may change", may_be(&outcome, off, switches))] {
+            if !holds {
+                self.different.push((format!("{label} under {switches}: {what}"), bytes.to_vec()));
+            }
+        }
     }
 
     fn note(&mut self, bytes: &[u8], outcome: &Outcome) {
@@ -84,7 +102,11 @@ impl Seen {
             numbered(&self.hints),
             self.most_places
         );
-        println!("  warnings {}, left behind {}; differences {}", self.warnings, self.lefts, self.different.len());
+        println!(
+            "  warnings {}, left behind {}; under switches {}, {} of them other answers",
+            self.warnings, self.lefts, self.switched, self.other
+        );
+        println!("  differences {}", self.different.len());
         let mut smallest: Vec<_> = self.different.iter().collect();
         smallest.sort_by_key(|d| d.1.len());
         for (label, bytes) in smallest.iter().take(5) {
@@ -98,6 +120,23 @@ impl Seen {
 fn numbered(list: &[usize]) -> String {
     let shown: Vec<_> = list.iter().enumerate().skip(1).filter(|(_, n)| **n > 0).map(|(i, n)| format!("{i}: {n}")).collect();
     shown.join(", ")
+}
+
+/// Beside the outcome with all off: the same fault, or the same warnings, and the same errors but for kinds 1 to 3, which under switch 3 may
+/// become 4 to 6. Without switches 1, 2 and 4 the body is the same too, and what 1 or 2 drops is not listed.
+fn may_be(outcome: &Outcome, off: &Outcome, switches: u32) -> bool {
+    let (a, off) = match (outcome, off) {
+        (Ok(a), Ok(off)) => (a, off),
+        _ => return outcome == off,
+    };
+    let kind = |a: u32, off: u32| a == off || switches & 4 != 0 && (1..=3).contains(&off) && a == off + 3;
+    let error = |a: &Error, off: &Error| kind(a.kind, off.kind) && (a.place, a.hint, &a.others) == (off.place, off.hint, &off.others);
+    a.warnings == off.warnings
+        && a.errors.len() == off.errors.len()
+        && a.errors.iter().zip(&off.errors).all(|(a, off)| error(a, off))
+        && (switches & 11 != 0 || a.output == off.output)
+        && (switches & 3 != 0 || a.lefts == off.lefts)
+        && (switches & 3 != 3 || a.lefts.is_empty())
 }
 
 fn round_trip(tree: &Image) -> Vec<u8> {

@@ -2,7 +2,7 @@
 //! bench's; what is lent must be as it was past what is reported, and all of it on a fault. Each list of errors goes on to reports.rs.
 use crate::answer::{self, Answer, LENT_BYTES, LENT_ENTRIES, Outcome};
 use crate::image::{self, Image};
-use crate::ours::{self, Lent, Report};
+use crate::ours::{self, Lent, Report, Switches};
 use crate::page::{self, Pages};
 use crate::random::Random;
 use crate::reports::Reports;
@@ -125,6 +125,8 @@ impl<T: Copy + Eq + std::fmt::Debug> Memory<T> {
 
 /// A run, and what it counts.
 pub struct Differ {
+    /// the entries that are called
+    switches: Switches,
     random: Random,
     output: Memory<u8>,
     lists: [Memory<u32>; 3],
@@ -149,6 +151,7 @@ impl Differ {
         let random = Random::new(seed ^ 0x5eed);
         let (output, reports, pages) = (Memory::new(), Reports::new(seed), Pages::new(seed));
         Differ {
+            switches: None,
             random,
             output,
             lists,
@@ -173,7 +176,7 @@ impl Differ {
         let expected = self.expected(bytes);
         self.left += expected.left.len() / 3;
         self.room(bytes, &expected)?;
-        match self.pages.check(bytes, expected.fault, &expected.page, all) {
+        match self.pages.check(self.switches, bytes, expected.fault, &expected.page, all) {
             found if !found.is_empty() => return Err(found),
             _ => {}
         }
@@ -188,6 +191,9 @@ impl Differ {
     }
 
     fn expected(&mut self, bytes: &[u8]) -> Expected {
+        if self.switches.is_some_and(|w| w > 15) {
+            return Expected::refused(17);
+        }
         let tree = match reader::read(bytes) {
             Err(fault) => return Expected::refused(fault),
             Ok(tree) => tree,
@@ -200,10 +206,10 @@ impl Differ {
 
     fn outcome(&mut self, tree: &Image) -> Outcome {
         if answer::in_domain(tree) {
-            return answer::of_image(tree);
+            return answer::of_switched(tree, self.switches.unwrap_or(0));
         }
         self.outside += 1;
-        rules::of_image(tree)
+        rules::of_switched(tree, self.switches.unwrap_or(0))
     }
 
     // What the program lends, or more than is needed; of a refused image anything, also nothing.
@@ -249,7 +255,7 @@ impl Differ {
             left: left.lend(lent[3], &mut self.random, word),
             totals: &mut totals,
         };
-        let answer = ours::pass(bytes, memory);
+        let answer = ours::pass(self.switches, bytes, memory);
         let fault = expected.fault_with(lent);
         let none = Expected::refused(fault);
         let (want, said) = if fault == 0 { (expected, expected.totals) } else { (&none, before) };
@@ -277,7 +283,7 @@ impl Differ {
     fn room(&mut self, bytes: &[u8], expected: &Expected) -> Result<(), String> {
         let before = self.random.next();
         let mut room = before;
-        let answer = ours::room(bytes, &mut room);
+        let answer = ours::room(self.switches, bytes, &mut room);
         let (least, most) = expected.room;
         if answer != expected.fault as u32 {
             return Err(format!("room answers {answer}, not {}", expected.fault));
@@ -317,6 +323,43 @@ pub fn differ(images: u64, damaged: u64, seed: u64) -> i32 {
     0
 }
 
+/// The same under every setting of the switches, each image under all of them, and under values above 15. Images made by hand are lent
+/// every length of a page under all settings in long runs, in short ones under one that differs from image to image.
+pub fn switched(images: u64, seed: u64) -> i32 {
+    let start = Instant::now();
+    let mut differ = Differ::new(seed);
+    let mut random = Random::new(seed);
+    for (label, bytes) in by_hand() {
+        let lengths = if bytes.len() >= 2000 {
+            Lengths::Few
+        } else if images < 1000 {
+            Lengths::Once
+        } else {
+            Lengths::All
+        };
+        if !differ.settings(&label, &bytes, lengths) {
+            return 1;
+        }
+    }
+    for i in 0..images {
+        let whole = image::write(&generator::short(seed + i)).bytes;
+        let jumping = image::write(&generator::jumping(seed + i)).bytes;
+        let damaged = generator::damaged(&whole, &mut random);
+        let labelled = [("seed", &whole), ("jumping", &jumping), ("damaged", &damaged)];
+        if !labelled[..if i % 8 == 0 { 3 } else { 2 }]
+            .iter()
+            .all(|(label, bytes)| differ.settings(&format!("{label} {}", seed + i), bytes, Lengths::Few))
+        {
+            return 1;
+        }
+        if (i + 1) % 25_000 == 0 {
+            println!("  {} images after {:.0} s", differ.images, start.elapsed().as_secs_f64());
+        }
+    }
+    differ.print(start.elapsed().as_secs_f64());
+    0
+}
+
 // Corners, boundaries, and the stored images of crates/programs_faults.
 fn by_hand() -> Vec<(String, Vec<u8>)> {
     let rows = corners::rows().into_iter().map(|r| (r.label.to_string(), r.image));
@@ -326,7 +369,25 @@ fn by_hand() -> Vec<(String, Vec<u8>)> {
     trees.map(|(label, tree)| (label, image::write(&tree).bytes)).chain(crate::fault_records()).collect()
 }
 
+/// Under which settings an image is lent memory of all lengths.
+#[derive(Clone, Copy, PartialEq)]
+enum Lengths {
+    Few,
+    Once,
+    All,
+}
+
 impl Differ {
+    fn settings(&mut self, label: &str, bytes: &[u8], lengths: Lengths) -> bool {
+        let above = [16, 17, 31, 1 << 31, u32::MAX][self.random.below(5)];
+        let once = self.random.below(16) as u32;
+        (0..16).chain([above]).all(|w| {
+            self.switches = Some(w);
+            let all = lengths == Lengths::All || lengths == Lengths::Once && w == once;
+            self.step(&format!("{label} under {w}"), bytes, all)
+        })
+    }
+
     fn step(&mut self, label: &str, bytes: &[u8], all: bool) -> bool {
         let Err(found) = self.check(bytes, all) else { return true };
         let hex: String = bytes.iter().map(|b| format!("{b:02x}")).collect();

@@ -4,6 +4,7 @@ mod answer;
 #[cfg(ours)]
 mod beside;
 mod boundaries;
+mod brute;
 mod build;
 mod compare;
 mod corners;
@@ -17,6 +18,7 @@ mod mistakes;
 mod ours;
 #[cfg(ours)]
 mod page;
+mod plain;
 mod random;
 mod reader;
 #[cfg(ours)]
@@ -46,12 +48,13 @@ fn command() -> i32 {
         ["compare", images, damaged, seed] => compare(images.parse().unwrap(), damaged.parse().unwrap(), seed.parse().unwrap()),
         #[cfg(ours)]
         ["differ", images, damaged, seed] => differ::differ(images.parse().unwrap(), damaged.parse().unwrap(), seed.parse().unwrap()),
+        #[cfg(ours)]
+        ["switched", images, seed] => differ::switched(images.parse().unwrap(), seed.parse().unwrap()),
         #[cfg(not(ours))]
-        ["differ", ..] => {
-            eprintln!("{NO_LIBRARY}");
-            2
-        }
+        ["differ" | "switched", ..] => not_run(NO_LIBRARY),
+        ["brute", bodies, seed] => brute::brute(bodies.parse().unwrap(), seed.parse().unwrap()),
         ["answer"] => print_answer(),
+        ["show", switches] => show(switches.parse().unwrap()),
         ["image", label] => print_image(label),
         ["images", path, many] => stored::write_images(&files.from.join(path), many.parse().unwrap()),
         ["store", path] => stored::store(&files.from.join(path)),
@@ -65,18 +68,17 @@ fn command() -> i32 {
         #[cfg(all(ours, before))]
         ["before", runs] => beside::before(runs.parse().unwrap()),
         #[cfg(not(all(ours, before)))]
-        ["before", ..] => {
-            eprintln!("there is no library, or no earlier one: OWNERSHIP_PASS_BEFORE names its folder; then build anew");
-            2
-        }
-        _ => {
-            eprintln!(
-                "bench compare IMAGES DAMAGED SEED | differ IMAGES DAMAGED SEED | answer < IMAGE | image LABEL | images FILE MANY | store FILE | replay FILE | records FOLDER BYTES SEED | bodies FOLDER | speed RUNS | before RUNS"
-            );
-            2
-        }
+        ["before", ..] => not_run("there is no library, or no earlier one: OWNERSHIP_PASS_BEFORE names its folder; then build anew"),
+        _ => not_run(USAGE),
     }
 }
+
+fn not_run(why: &str) -> i32 {
+    eprintln!("{why}");
+    2
+}
+
+const USAGE: &str = "bench compare IMAGES DAMAGED SEED | differ IMAGES DAMAGED SEED | switched IMAGES SEED | brute BODIES SEED | answer < IMAGE | show SWITCHES < IMAGE | image LABEL | images FILE MANY | store FILE | replay FILE | records FOLDER BYTES SEED | bodies FOLDER | speed RUNS | before RUNS";
 
 #[cfg(not(ours))]
 const NO_LIBRARY: &str =
@@ -118,6 +120,16 @@ impl Drop for Files {
     }
 }
 
+/// So many images from a seed on, each with all switches off and under one other setting.
+fn each(many: u64, seed: u64, label: &str, mut bytes: impl FnMut(u64) -> Vec<u8>) -> Seen {
+    let mut seen = Seen::default();
+    for i in 0..many {
+        let w = 1 + (i % 15) as u32;
+        seen.check(&format!("{label} {}", seed + i), &bytes(seed + i), w..w + 1);
+    }
+    seen
+}
+
 /// The whole comparison: 0 if nothing differs.
 fn compare(images: u64, damaged: u64, seed: u64) -> i32 {
     let wrong = rows() + example() + fault_images() + unreadable();
@@ -125,13 +137,16 @@ fn compare(images: u64, damaged: u64, seed: u64) -> i32 {
 
     let mut seen = Seen::default();
     for (label, tree) in corners::others() {
-        seen.check(&label, &image::write(&tree).bytes);
+        seen.check(&label, &image::write(&tree).bytes, 1..16);
     }
-    parts.push(("corners of document 01", seen));
+    for row in corners::rows() {
+        seen.check(row.label, &image::write(&row.image).bytes, 1..16);
+    }
+    parts.push(("corners of documents 01 and 02", seen));
 
     let mut seen = Seen::default();
     for (label, tree) in boundaries::all() {
-        let outcome = seen.check(&label, &image::write(&tree).bytes);
+        let outcome = seen.check(&label, &image::write(&tree).bytes, 1..16);
         println!("  {label}: {}", first_line(outcome.as_ref()));
         // of the two that give back most statements, one counts too many whatever is lent
         let too_many = matches!(&outcome, Some(Ok(a)) if lent_fault(a, usize::MAX, usize::MAX) == 15);
@@ -139,25 +154,12 @@ fn compare(images: u64, damaged: u64, seed: u64) -> i32 {
     }
     parts.push(("boundaries", seen));
 
-    let mut seen = Seen::default();
-    for i in 0..images {
-        seen.check(&format!("seed {}", seed + i), &image::write(&generator::image(seed + i)).bytes);
-    }
-    parts.push(("generated", seen));
-
-    let mut seen = Seen::default();
-    for i in 0..images {
-        seen.check(&format!("jumping {}", seed + i), &image::write(&generator::jumping(seed + i)).bytes);
-    }
-    parts.push(("generated with loops and jumps", seen));
-
-    let mut seen = Seen::default();
+    let whole = |seed| image::write(&generator::image(seed)).bytes;
+    parts.push(("generated", each(images, seed, "seed", whole)));
+    let jumping = |seed| image::write(&generator::jumping(seed)).bytes;
+    parts.push(("generated with loops and jumps", each(images, seed, "jumping", jumping)));
     let mut random = Random::new(seed);
-    for i in 0..damaged {
-        let whole = image::write(&generator::image(seed + i)).bytes;
-        seen.check(&format!("damaged, seed {}", seed + i), &generator::damaged(&whole, &mut random));
-    }
-    parts.push(("damaged", seen));
+    parts.push(("damaged", each(damaged, seed, "damaged, seed", |seed| generator::damaged(&whole(seed), &mut random))));
 
     let mut different = 0;
     for (what, seen) in &parts {
@@ -302,6 +304,34 @@ fn print_image(label: &str) -> i32 {
     let Some((_, tree)) = all.into_iter().find(|(l, _)| l == label) else { return 1 };
     let hex: String = image::write(&tree).bytes.iter().map(|b| format!("{b:02x}")).collect();
     println!("{hex}");
+    0
+}
+
+/// The answers of the image on standard input under a switch value, of the library if there is one; 1 if they differ.
+fn show(switches: u32) -> i32 {
+    let mut bytes = vec![];
+    std::io::stdin().read_to_end(&mut bytes).unwrap();
+    let rust = match reader::read(&bytes) {
+        _ if switches > 15 => Some(Err(17)),
+        Err(fault) => Some(Err(fault)),
+        Ok(tree) => answer::in_domain(&tree).then(|| answer::of_switched(&tree, switches)),
+    };
+    let shown = |of: &str, outcome: Option<&Outcome>| {
+        let hex = outcome.and_then(|o| o.as_ref().ok()).map(|a| a.output.iter().map(|b| format!("{b:02x}")).collect::<String>());
+        let text = format!("{}{}", answer_text(outcome), hex.map_or(String::new(), |hex| format!("image {hex}\n")));
+        print!("{of}, switches {switches}:\n{text}");
+        text
+    };
+    let rust = rust.as_ref().map(|outcome| shown("the Rust with document 02 (e)", Some(outcome)));
+    if rust.is_none() {
+        shown("the Rust with document 02 (e)", None);
+    }
+    #[cfg(ours)]
+    {
+        let ours = shown("the library", Some(&ours::answer(Some(switches), &bytes)));
+        return rust.is_some_and(|rust| rust != ours) as i32;
+    }
+    #[cfg(not(ours))]
     0
 }
 

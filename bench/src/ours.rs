@@ -1,5 +1,5 @@
 //! The entries of the static libraries, called as C calls them (include/ownership_pass.h).
-use crate::answer::Error;
+use crate::answer::{Answer, Error, Outcome};
 use std::mem::{align_of, offset_of, size_of};
 
 macro_rules! declare_pass {
@@ -23,6 +23,30 @@ macro_rules! declare_pass {
 }
 
 declare_pass!(ownership_pass);
+
+unsafe extern "C" {
+    fn ownership_pass_switched(
+        switches: u32,
+        image: *const u8,
+        image_len: usize,
+        output: *mut u8,
+        output_len: usize,
+        errors: *mut u32,
+        errors_len: usize,
+        warnings: *mut u32,
+        warnings_len: usize,
+        left: *mut u32,
+        left_len: usize,
+        totals: *mut u64,
+    ) -> u32;
+    fn ownership_room_switched(switches: u32, image: *const u8, image_len: usize, room: *mut u64) -> u32;
+    fn ownership_page_switched(switches: u32, image: *const u8, image_len: usize, page: *mut u8, page_len: usize, written: *mut u64)
+    -> u32;
+}
+
+/// A switch value for the entries that take one, or the plain entries.
+pub type Switches = Option<u32>;
+
 // the entry of an earlier library, under another name
 #[cfg(before)]
 declare_pass!(before_pass);
@@ -92,8 +116,48 @@ pub struct Lent<'a> {
 type Pass = unsafe extern "C" fn(*const u8, usize, *mut u8, usize, *mut u32, usize, *mut u32, usize, *mut u32, usize, *mut u64) -> u32;
 
 /// 0 or the fault's number.
-pub fn pass(image: &[u8], lent: Lent<'_>) -> u32 {
-    call(ownership_pass, image, lent)
+pub fn pass(switches: Switches, image: &[u8], lent: Lent<'_>) -> u32 {
+    let Some(w) = switches else { return call(ownership_pass, image, lent) };
+    // the pointers and lengths are those of slices
+    unsafe {
+        ownership_pass_switched(
+            w,
+            image.as_ptr(),
+            image.len(),
+            lent.output.as_mut_ptr(),
+            lent.output.len(),
+            lent.errors.as_mut_ptr(),
+            lent.errors.len(),
+            lent.warnings.as_mut_ptr(),
+            lent.warnings.len(),
+            lent.left.as_mut_ptr(),
+            lent.left.len(),
+            lent.totals.as_mut_ptr(),
+        )
+    }
+}
+
+/// The answer with as much lent as any image of a bench needs; of the states nothing is known.
+pub fn answer(switches: Switches, image: &[u8]) -> Outcome {
+    let mut output = vec![0; 16 * image.len() + 4096];
+    let [mut errors, mut warnings, mut left] = [12, 2, 3].map(|width| vec![0; width * image.len()]);
+    let mut totals = [0; 4];
+    let lent = Lent { output: &mut output, errors: &mut errors, warnings: &mut warnings, left: &mut left, totals: &mut totals };
+    match pass(switches, image, lent) {
+        0 => {}
+        fault => return Err(fault as u8),
+    }
+    let [bytes, errors_found, warnings_found, left_found] = totals.map(|n| n as usize);
+    output.truncate(bytes);
+    let error = |e: &[u32]| Error { kind: e[0], place: e[1], hint: e[2], others: e[4..4 + e[3] as usize].to_vec() };
+    Ok(Answer {
+        output,
+        counts_fit: true,
+        errors: errors.chunks(12).take(errors_found).map(error).collect(),
+        warnings: warnings.chunks(2).take(warnings_found).map(|w| (w[0], w[1] as usize)).collect(),
+        lefts: left.chunks(3).take(left_found).map(|l| (l[0], l[1] as u16, l[2])).collect(),
+        states: vec![],
+    })
 }
 
 /// The same of the earlier library.
@@ -122,13 +186,23 @@ fn call(pass: Pass, image: &[u8], lent: Lent<'_>) -> u32 {
 }
 
 /// 0 or the fault's number.
-pub fn room(image: &[u8], room: &mut u64) -> u32 {
+pub fn room(switches: Switches, image: &[u8], room: &mut u64) -> u32 {
     // as above
-    unsafe { ownership_room(image.as_ptr(), image.len(), room) }
+    unsafe {
+        match switches {
+            Some(w) => ownership_room_switched(w, image.as_ptr(), image.len(), room),
+            None => ownership_room(image.as_ptr(), image.len(), room),
+        }
+    }
 }
 
 /// 0 or the fault's number.
-pub fn page(image: &[u8], page: &mut [u8], written: &mut u64) -> u32 {
+pub fn page(switches: Switches, image: &[u8], page: &mut [u8], written: &mut u64) -> u32 {
     // as above
-    unsafe { ownership_page(image.as_ptr(), image.len(), page.as_mut_ptr(), page.len(), written) }
+    unsafe {
+        match switches {
+            Some(w) => ownership_page_switched(w, image.as_ptr(), image.len(), page.as_mut_ptr(), page.len(), written),
+            None => ownership_page(image.as_ptr(), image.len(), page.as_mut_ptr(), page.len(), written),
+        }
+    }
 }

@@ -1,7 +1,7 @@
 //! The page of document 02 (a), made from the Rust's answer, and the library's beside it: 16 or the page, and nothing else changed.
 use crate::answer::Answer;
 use crate::differ::Memory;
-use crate::ours;
+use crate::ours::{self, Switches};
 use crate::random::Random;
 
 const KINDS: [&str; 8] =
@@ -48,7 +48,7 @@ impl Pages {
     }
 
     /// Empty, or what differs; `all`: with every length from 0 to one more than is needed, of a long page with those round each line's end.
-    pub fn check(&mut self, image: &[u8], fault: u8, page: &[u8], all: bool) -> String {
+    pub fn check(&mut self, switches: Switches, image: &[u8], fault: u8, page: &[u8], all: bool) -> String {
         self.lines += page.len() / 73;
         let n = page.len();
         let some = [n, n + 1, n.saturating_sub(1), n.saturating_sub(73), self.random.below(n + 1), n + self.random.below(200), 0];
@@ -57,15 +57,15 @@ impl Pages {
             (true, false) => (0..n / 73).flat_map(|k| [73 * k, 73 * k + 1, 73 * k + 72]).chain(some).collect(),
             (true, true) => (0..n + 2).collect(),
         };
-        lengths.iter().map(|lent| self.call(image, fault, page, *lent)).collect()
+        lengths.iter().map(|lent| self.call(switches, image, fault, page, *lent)).collect()
     }
 
-    fn call(&mut self, image: &[u8], fault: u8, page: &[u8], lent: usize) -> String {
+    fn call(&mut self, switches: Switches, image: &[u8], fault: u8, page: &[u8], lent: usize) -> String {
         self.calls += 1;
         let before = self.random.next();
         let mut written = before;
         let memory = self.memory.lend(lent, &mut self.random, |n| (n >> 32) as u8);
-        let answer = ours::page(image, memory, &mut written);
+        let answer = ours::page(switches, image, memory, &mut written);
         let want = if fault == 0 && lent < page.len() { 16 } else { fault };
         self.refused += (want == 16) as usize;
         let (shown, said) = if want == 0 { (page, page.len() as u64) } else { (&[][..], before) };

@@ -6,7 +6,8 @@ use crate::image::{self, Image, Name, Node, SpanNo, Ty, TyNo};
 
 // ---- lookup: First, Ty, Signature, Name ----
 
-pub struct Tables<'a>(&'a Image);
+/// The tables of an image, and the switches.
+pub struct Tables<'a>(&'a Image, u32);
 
 impl Tables<'_> {
     fn inside(&self, array: bool, t: TyNo) -> TyNo {
@@ -286,7 +287,7 @@ fn joinKind(a: Kind, b: Kind) -> Kind {
     if a == b { a } else { Consumed }
 }
 
-fn joinState(a: &State, b: &State) -> State {
+fn joinState(conditional: bool, a: &State, b: &State) -> State {
     match (a, b) {
         (Alive, Alive) => Alive,
         (Alive, Gone(_, k, ps)) | (Gone(_, k, ps), Alive) => Gone(true, *k, ps.clone()),
@@ -294,7 +295,7 @@ fn joinState(a: &State, b: &State) -> State {
             if c == d && k == l && ps == qs {
                 a.clone()
             } else {
-                Gone(false, joinKind(*k, *l), combine(ps.clone(), qs))
+                Gone(conditional && *c && *d && k == l, joinKind(*k, *l), combine(ps.clone(), qs))
             }
         }
     }
@@ -466,16 +467,16 @@ fn register(l: Static, mut s: Stack) -> Stack {
     s
 }
 
-fn joins(s: &Stack, t: &Stack) -> Stack {
-    s.iter().zip(t).map(|((l, a), (_, b))| (*l, joinState(a, b))).collect()
+fn joins(conditional: bool, s: &Stack, t: &Stack) -> Stack {
+    s.iter().zip(t).map(|((l, a), (_, b))| (*l, joinState(conditional, a, b))).collect()
 }
 
-fn merge(then: bool, other: bool, s: Stack, t: Stack, u: Stack) -> Stack {
+fn merge(conditional: bool, then: bool, other: bool, s: Stack, t: Stack, u: Stack) -> Stack {
     match (then, other) {
         (true, true) => s,
         (true, false) => u,
         (false, true) => t,
-        (false, false) => joins(&t, &u),
+        (false, false) => joins(conditional, &t, &u),
     }
 }
 
@@ -491,8 +492,28 @@ impl Tables<'_> {
         s.iter().filter(|(l, a)| q(*l) && *a == Alive && self.auto(l.ty)).map(|(l, _)| (p, l.name, l.born)).collect()
     }
 
-    fn tailDrops(&self, d: usize, p: SpanNo, s: &Stack) -> Vec<Drop> {
-        self.collect(&|l| l.depth == d, p, s)
+    fn bareReturns(&self) -> bool {
+        self.1 & 1 != 0
+    }
+
+    fn jumps(&self) -> bool {
+        self.1 & 2 != 0
+    }
+
+    fn conditional(&self) -> bool {
+        self.1 & 4 != 0
+    }
+
+    fn parameters(&self) -> bool {
+        self.1 & 8 != 0
+    }
+
+    fn endDrops(&self, d: usize, p: SpanNo, s: &Stack) -> Vec<Drop> {
+        self.collect(&|l| (self.parameters() && d == 1 && l.depth == 0) || l.depth == d, p, s)
+    }
+
+    fn jumpDrops(&self, l: Option<usize>, s: &Stack) -> Vec<Drop> {
+        self.collect(&|x| self.jumps() && l.is_some_and(|l| l <= x.depth), 0, s)
     }
 
     fn returnDrops(&self, n: Named, s: &Stack) -> Vec<Drop> {
@@ -544,16 +565,16 @@ impl Tables<'_> {
             IfElse(_, e, _, t, _, u) => {
                 let s = self.evaluate(e, s);
                 let (then, other) = (self.exit(t, d + 1, s.clone()), self.exit(u, d + 1, s.clone()));
-                merge(sureFrom(t, false), sureFrom(u, false), s, then, other)
+                merge(self.conditional(), sureFrom(t, false), sureFrom(u, false), s, then, other)
             }
             IfThen(_, e, _, t) => {
                 let s = self.evaluate(e, s);
                 let then = self.exit(t, d + 1, s.clone());
-                merge(sureFrom(t, false), false, s.clone(), then, s)
+                merge(self.conditional(), sureFrom(t, false), false, s.clone(), then, s)
             }
             While(_, e, _, t) => {
                 let s = self.evaluate(e, s);
-                joins(&self.exit(t, d + 1, s.clone()), &s)
+                joins(self.conditional(), &self.exit(t, d + 1, s.clone()), &s)
             }
         }
     }
@@ -563,10 +584,10 @@ impl Tables<'_> {
     }
 
     /// decide, and flatten of it: the statements given back
-    fn decide(&self, c: &[Stmt<'_>], p: SpanNo, d: usize, mut s: Stack) -> image::Block {
+    fn decide(&self, c: &[Stmt<'_>], p: SpanNo, d: usize, l: Option<usize>, mut s: Stack) -> image::Block {
         let mut out = vec![];
         for stmt in c {
-            let inner = |e: &Expr<'_>, t: &[Stmt<'_>], ts| self.decide(t, ts, d + 1, self.evaluate(e, s.clone()));
+            let inner = |e: &Expr<'_>, t: &[Stmt<'_>], ts, l| self.decide(t, ts, d + 1, l, self.evaluate(e, s.clone()));
             let of = |e: &Expr<'_>| e.of.clone();
             let given = match stmt {
                 ExprStmt(span, e) => {
@@ -584,21 +605,26 @@ impl Tables<'_> {
                     inserts(self.returnDrops(nameIn(e), &self.evaluate(e, s.clone())), &mut out);
                     image::Stmt::Return { span: *span, value: Some(of(e)), ty: *ty }
                 }
-                BareReturn(span, ty) => image::Stmt::Return { span: *span, value: None, ty: *ty },
-                Block(span, c) => image::Stmt::Block(self.decide(c, *span, d + 1, s.clone())),
-                IfElse(span, e, ts, t, us, u) => {
-                    image::Stmt::IfElse { span: *span, condition: of(e), then: inner(e, t, *ts), other: Some(inner(e, u, *us)) }
+                BareReturn(span, ty) => {
+                    inserts(self.collect(&|_| self.bareReturns(), 0, &s), &mut out);
+                    image::Stmt::Return { span: *span, value: None, ty: *ty }
                 }
-                IfThen(span, e, ts, t) => image::Stmt::IfElse { span: *span, condition: of(e), then: inner(e, t, *ts), other: None },
-                While(span, e, ts, t) => image::Stmt::While { span: *span, condition: of(e), body: inner(e, t, *ts) },
-                Jump(false, span) => image::Stmt::Break(*span),
-                Jump(true, span) => image::Stmt::Continue(*span),
+                Block(span, c) => image::Stmt::Block(self.decide(c, *span, d + 1, l, s.clone())),
+                IfElse(span, e, ts, t, us, u) => {
+                    image::Stmt::IfElse { span: *span, condition: of(e), then: inner(e, t, *ts, l), other: Some(inner(e, u, *us, l)) }
+                }
+                IfThen(span, e, ts, t) => image::Stmt::IfElse { span: *span, condition: of(e), then: inner(e, t, *ts, l), other: None },
+                While(span, e, ts, t) => image::Stmt::While { span: *span, condition: of(e), body: inner(e, t, *ts, Some(d + 1)) },
+                Jump(k, span) => {
+                    inserts(self.jumpDrops(l, &s), &mut out);
+                    if *k { image::Stmt::Continue(*span) } else { image::Stmt::Break(*span) }
+                }
             };
             out.push(given);
             s = self.after(stmt, d, s);
         }
         if !sureFrom(c, false) {
-            inserts(self.tailDrops(d, p, &s), &mut out);
+            inserts(self.endDrops(d, p, &s), &mut out);
         }
         image::Block { span: p, statements: out }
     }
@@ -667,7 +693,9 @@ impl Reports {
                 }
                 Variable(_, _, _, _, e) | Return(_, e, _) => self.all(&T.effects(&g, e), s.clone()),
                 Assign(_, e, v, _) => self.all(&T.assignEffects(&g, e, v), s.clone()),
+                BareReturn(_, _) if T.bareReturns() => {}
                 BareReturn(span, _) => self.lefts.extend(T.leftBehind(*span, &|_| true, &s)),
+                Jump(..) if T.jumps() => {}
                 Block(_, c) => self.report(T, c, d + 1, l, at + 7, s.clone()),
                 IfElse(_, e, _, t, _, u) => {
                     self.all(&T.effects(&g, e), s.clone());
@@ -708,13 +736,17 @@ impl Tables<'_> {
             let found = match stmt {
                 Variable(..) => tooMany(&self.after(stmt, d, s.clone())),
                 Block(_, c) => self.walkFault(c, d + 1, s.clone()),
-                IfElse(_, e, _, t, _, u) => into(e, t)
-                    .or_else(|| into(e, u))
-                    .or_else(|| if sureFrom(t, false) || sureFrom(u, false) { None } else { tooWide(&joins(&out(e, t), &out(e, u))) }),
-                IfThen(_, e, _, t) => {
-                    into(e, t).or_else(|| if sureFrom(t, false) { None } else { tooWide(&joins(&out(e, t), &self.evaluate(e, s.clone()))) })
-                }
-                While(_, e, _, t) => into(e, t).or_else(|| tooWide(&joins(&out(e, t), &self.evaluate(e, s.clone())))),
+                IfElse(_, e, _, t, _, u) => into(e, t).or_else(|| into(e, u)).or_else(|| {
+                    if sureFrom(t, false) || sureFrom(u, false) {
+                        None
+                    } else {
+                        tooWide(&joins(self.conditional(), &out(e, t), &out(e, u)))
+                    }
+                }),
+                IfThen(_, e, _, t) => into(e, t).or_else(|| {
+                    if sureFrom(t, false) { None } else { tooWide(&joins(self.conditional(), &out(e, t), &self.evaluate(e, s.clone()))) }
+                }),
+                While(_, e, _, t) => into(e, t).or_else(|| tooWide(&joins(self.conditional(), &out(e, t), &self.evaluate(e, s.clone())))),
                 ExprStmt(..) | Assign(..) | Return(..) | BareReturn(..) | Jump(..) => None,
             };
             if found.is_some() {
@@ -728,13 +760,18 @@ impl Tables<'_> {
 
 /// imageFault, returnedImage, reports, and the states that `exit` leaves.
 pub fn of_image(i: &Image) -> Outcome {
-    let T = Tables(i);
+    of_switched(i, 0)
+}
+
+/// The same under switches.
+pub fn of_switched(i: &Image, switches: u32) -> Outcome {
+    let T = Tables(i, switches);
     let body = code(&i.body);
     let start = T.entered(i);
     if let Some(fault) = tooMany(&start).or_else(|| T.walkFault(&body, 1, start.clone())) {
         return Err(fault);
     }
-    let written = image::write(&Image { body: T.decide(&body, i.body.span, 1, start.clone()), ..i.clone() });
+    let written = image::write(&Image { body: T.decide(&body, i.body.span, 1, None, start.clone()), ..i.clone() });
     let bodyStart = image::write(&Image { body: image::Block::default(), ..i.clone() }).bytes.len();
     let mut r = Reports::default();
     r.report(&T, &body, 1, None, bodyStart, start.clone());

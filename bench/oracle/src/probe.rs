@@ -11,6 +11,20 @@ thread_local! {
     static FAULT: Cell<u8> = const { Cell::new(0) };
     static STATES: RefCell<States> = const { RefCell::new(Vec::new()) };
     static LOOPS: RefCell<Vec<usize>> = const { RefCell::new(Vec::new()) };
+    static SWITCHES: Cell<Option<u32>> = const { Cell::new(None) };
+}
+
+/// The copy makes the drops of these switches; with none it puts what is left behind before breaks and continues, with births.
+pub fn switch(switches: Option<u32>) {
+    SWITCHES.set(switches);
+}
+
+pub fn listing() -> bool {
+    SWITCHES.get().is_none()
+}
+
+pub fn switched(bit: u32) -> bool {
+    SWITCHES.get().is_some_and(|w| w & bit != 0)
 }
 
 /// The body of a loop is the frame of this number.

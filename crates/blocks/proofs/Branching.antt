@@ -10,6 +10,7 @@ use mathlib.Core.Logic.{inl, inr, ⊎-elim}
 use borrow.Author.Tests.{lt-leb}
 use lib.Dec.{eqb}
 use lib.ListN.{length}
+use Rattle.rules.specs.Rules.{Switches, states, switchesOf}
 use Rattle.image_fields.proofs.Tests.{less}
 use Rattle.tables.specs.Tables.{Tables}
 use Rattle.rules.specs.State.{State as Status}
@@ -39,7 +40,7 @@ use Rattle.blocks.proofs.Ending.{fault-walks}
 
 -- the same numbers, with rows from another place on and another loop
 abbrev pub movedOf : Env → ℕ → ℕ → Env
-movedOf env at base = record { left = env .left; limit = env .limit; width = env .width; cur = at; base = base }
+movedOf env at base = record { left = env .left; limit = env .limit; width = env .width; cur = at; base = base; switches = env .switches }
 
 -- the states whose rows end before a place up to which nothing changed
 module _ (l : Locals) (t : States) (rows new : List ℕ) (cur width at : ℕ) (b : Below at rows new) (le : rowOf cur width (l .count) ≤ at) (h : RowsStand (l .count) t rows cur width) where
@@ -147,19 +148,19 @@ module _ (env r : Env) (at : ℕ) {base : ℕ} (is : r ≡ movedOf env at base) 
 
   pub walks-at : (s tb : List ℕ) (l : Locals) (t : States) (rows : List ℕ) (p : Place) (m : Memory) (o : States) (rows′ pl′ : List ℕ) (m′ : Memory)
       → ((T : Tables) → Says s tb T → (loop : Option ℕ) → InLoop loop (r .base) (suc (12 - r .left)) l → (faultIn pl′ ≡ 254 → ⊥)
-      → BlockWalks T s (r .left) (suc (12 - r .left)) loop (view l t rows (r .cur) (r .width)) p m (walkedIn pl′ (view l o rows′ (r .cur) (r .width))) m′)
+      → BlockWalks (switchesOf (r .switches)) T s (r .left) (suc (12 - r .left)) loop (view l t rows (r .cur) (r .width)) p m (walkedIn pl′ (view l o rows′ (r .cur) (r .width))) m′)
       → (T : Tables) → Says s tb T → (loop : Option ℕ) → InLoop loop base (suc (12 - env .left)) l → (faultIn pl′ ≡ 254 → ⊥)
-      → BlockWalks T s (env .left) (suc (12 - env .left)) loop (view l t rows at (env .width)) p m (walkedIn pl′ (view l o rows′ at (env .width))) m′
+      → BlockWalks (switchesOf (env .switches)) T s (env .left) (suc (12 - env .left)) loop (view l t rows at (env .width)) p m (walkedIn pl′ (view l o rows′ at (env .width))) m′
   walks-at s tb l t rows p m o rows′ pl′ m′ h =
       subst (λ (x : Env). (T : Tables) → Says s tb T → (loop : Option ℕ) → InLoop loop (x .base) (suc (12 - x .left)) l → (faultIn pl′ ≡ 254 → ⊥)
-      → BlockWalks T s (x .left) (suc (12 - x .left)) loop (view l t rows (x .cur) (x .width)) p m (walkedIn pl′ (view l o rows′ (x .cur) (x .width))) m′) is h
+      → BlockWalks (switchesOf (x .switches)) T s (x .left) (suc (12 - x .left)) loop (view l t rows (x .cur) (x .width)) p m (walkedIn pl′ (view l o rows′ (x .cur) (x .width))) m′) is h
 
   pub branches-at : {n : ℕ} {t u v : States} {rows : List ℕ} → Branches n t u v rows (env .cur) (env .width) at → Branches n t u v rows (env .cur) (env .width) (r .cur)
   branches-at {n} {t} {u} {v} {rows} h = subst (λ (x : Env). Branches n t u v rows (env .cur) (env .width) (x .cur)) (sym is) h
 
-  pub merges-at : {x : Bool} {n : ℕ} {t u v : States} {rows pl : List ℕ} {o : States} {rows′ pl′ : List ℕ} → MergesElse x n t u v rows (env .cur) (env .width) (r .cur) pl o rows′ pl′
-      → MergesElse x n t u v rows (env .cur) (env .width) at pl o rows′ pl′
-  merges-at {x} {n} {t} {u} {v} {rows} {pl} {o} {rows′} {pl′} h = subst (λ (z : Env). MergesElse x n t u v rows (env .cur) (env .width) (z .cur) pl o rows′ pl′) is h
+  pub merges-at : {w : Switches} {x : Bool} {n : ℕ} {t u v : States} {rows pl : List ℕ} {o : States} {rows′ pl′ : List ℕ} → MergesElse w x n t u v rows (env .cur) (env .width) (r .cur) pl o rows′ pl′
+      → MergesElse w x n t u v rows (env .cur) (env .width) at pl o rows′ pl′
+  merges-at {w} {x} {n} {t} {u} {v} {rows} {pl} {o} {rows′} {pl′} h = subst (λ (z : Env). MergesElse w x n t u v rows (env .cur) (env .width) (z .cur) pl o rows′ pl′) is h
 
   -- what a branch's block is asked
   pub block-asked : {s tb : List ℕ} {l : Locals} {t : States} {rows : List ℕ} {p : Place} (nodes pl : List ℕ) → Enters s tb r l t rows p → BlockThere s (env .left) (p .at)
@@ -241,13 +242,13 @@ module _ (s tb : List ℕ) (env : Env) (l : Locals) (t first : States) (rows pl 
     }
 
     module _ (T : Tables) (loop : Option ℕ) (m m₂ : Memory)
-        (walks : BlockWalks T s (env .left) (suc (12 - env .left)) loop (view l t rows₁ b (env .width)) (placeIn pl) m (walkedIn pl₂ (view l other rows₂ b (env .width))) m₂) where
-      walks-here : BlockWalks T s (env .left) (suc (12 - env .left)) loop (view l t rows (env .cur) (env .width)) (placeIn pl) m (walkedIn pl₂ (view l other rows₂ b (env .width))) m₂
-      walks-here = subst (λ (σ : Scope Status). BlockWalks T s (env .left) (suc (12 - env .left)) loop σ (placeIn pl) m (walkedIn pl₂ (view l other rows₂ b (env .width))) m₂)
+        (walks : BlockWalks (switchesOf (env .switches)) T s (env .left) (suc (12 - env .left)) loop (view l t rows₁ b (env .width)) (placeIn pl) m (walkedIn pl₂ (view l other rows₂ b (env .width))) m₂) where
+      walks-here : BlockWalks (switchesOf (env .switches)) T s (env .left) (suc (12 - env .left)) loop (view l t rows (env .cur) (env .width)) (placeIn pl) m (walkedIn pl₂ (view l other rows₂ b (env .width))) m₂
+      walks-here = subst (λ (σ : Scope Status). BlockWalks (switchesOf (env .switches)) T s (env .left) (suc (12 - env .left)) loop σ (placeIn pl) m (walkedIn pl₂ (view l other rows₂ b (env .width))) m₂)
           (branch-view s tb env l t rows (placeIn pl) h b c yes) walks
 
       -- its fault
-      else-fault : 0 < faultIn pl₂ → ElseMerges T s (env .left) (12 - env .left) loop (sureIn pl) (view l t rows (env .cur) (env .width)) (view l first rows a (env .width)) (placeIn pl) m
+      else-fault : 0 < faultIn pl₂ → ElseMerges (switchesOf (env .switches)) T s (env .left) (12 - env .left) loop (sureIn pl) (view l t rows (env .cur) (env .width)) (view l first rows a (env .width)) (placeIn pl) m
           (walkedIn pl₂ (view l other rows₂ (env .cur) (env .width))) m₂
       else-fault lt = record {
         w = walkedIn pl₂ (view l other rows₂ (env .cur) (env .width));
@@ -257,21 +258,21 @@ module _ (s tb : List ℕ) (env : Env) (l : Locals) (t first : States) (rows pl 
       }
 
       -- or the merge behind it
-      else-merges : faultIn pl₂ ≡ 0 → {r : States} {rows₃ pl₃ : List ℕ} → MergesIn (sureIn pl) (sureIn pl₂) (l .count) t first other rows₂ (env .cur) (env .width) b pl₂ r rows₃ pl₃
+      else-merges : faultIn pl₂ ≡ 0 → {r : States} {rows₃ pl₃ : List ℕ} → MergesIn (switchesOf (env .switches)) (sureIn pl) (sureIn pl₂) (l .count) t first other rows₂ (env .cur) (env .width) b pl₂ r rows₃ pl₃
           → (faultIn pl₃ ≡ 254 → ⊥)
-          → ElseMerges T s (env .left) (12 - env .left) loop (sureIn pl) (view l t rows (env .cur) (env .width)) (view l first rows a (env .width)) (placeIn pl) m
+          → ElseMerges (switchesOf (env .switches)) T s (env .left) (12 - env .left) loop (sureIn pl) (view l t rows (env .cur) (env .width)) (view l first rows a (env .width)) (placeIn pl) m
           (walkedIn pl₃ (view l r rows₃ (env .cur) (env .width))) m₂
       else-merges z {r} {rows₃} {pl₃} g reach = record {
         w = walkedIn pl₂ (view l other rows₂ b (env .width));
         walks = walks-here;
         fault = λ lt. absurd (omega arith);
         merges = λ y.
-            subst (λ (σ : Scope Status). Merges (sureIn pl) σ (view l first rows a (env .width)) (walkedIn pl₂ (view l other rows₂ b (env .width))) (walkedIn pl₃ (view l r rows₃ (env .cur) (env .width)))) base-view
-            (subst (λ (τ : Scope Status). Merges (sureIn pl) (view l t rows₂ (env .cur) (env .width)) τ (walkedIn pl₂ (view l other rows₂ b (env .width))) (walkedIn pl₃ (view l r rows₃ (env .cur) (env .width)))) first-view
+            subst (λ (σ : Scope Status). Merges (switchesOf (env .switches)) (sureIn pl) σ (view l first rows a (env .width)) (walkedIn pl₂ (view l other rows₂ b (env .width))) (walkedIn pl₃ (view l r rows₃ (env .cur) (env .width)))) base-view
+            (subst (λ (τ : Scope Status). Merges (switchesOf (env .switches)) (sureIn pl) (view l t rows₂ (env .cur) (env .width)) τ (walkedIn pl₂ (view l other rows₂ b (env .width))) (walkedIn pl₃ (view l r rows₃ (env .cur) (env .width)))) first-view
             (record { fault = g .fault reach l refl; place = g .place; locals = λ x. g .locals x l refl }));
       }
 
-    else-comes : faultIn pl₂ ≡ 0 → {r : States} {rows₃ pl₃ : List ℕ} {x y : Bool} → MergesIn x y (l .count) t first other rows₂ (env .cur) (env .width) b pl₂ r rows₃ pl₃
+    else-comes : faultIn pl₂ ≡ 0 → {r : States} {rows₃ pl₃ : List ℕ} {x y : Bool} → MergesIn (switchesOf (env .switches)) x y (l .count) t first other rows₂ (env .cur) (env .width) b pl₂ r rows₃ pl₃
         → Comes s tb (env .cur) (env .width) (stmtRows (env .cur) (env .left)) l rows (placeIn pl) r rows₃ pl₃
     else-comes z {r} {rows₃} {pl₃} g = record {
       room = g .room;
@@ -288,7 +289,7 @@ module _ (s tb : List ℕ) (env : Env) (l : Locals) (t first : States) (rows pl 
     }
 
     -- whatever the merge is told
-    module _ {x : Bool} {r : States} {rows₃ pl₃ : List ℕ} (g : MergesElse x (l .count) t first other rows₂ (env .cur) (env .width) b pl₂ r rows₃ pl₃) where
+    module _ {x : Bool} {r : States} {rows₃ pl₃ : List ℕ} (g : MergesElse (switchesOf (env .switches)) x (l .count) t first other rows₂ (env .cur) (env .width) b pl₂ r rows₃ pl₃) where
       pub merged-comes : Comes s tb (env .cur) (env .width) (stmtRows (env .cur) (env .left)) l rows (placeIn pl) r rows₃ pl₃
       merged-comes =
           ⊎-elim
@@ -304,12 +305,12 @@ module _ (s tb : List ℕ) (env : Env) (l : Locals) (t first : States) (rows pl 
 
     module _ (T : Tables) (loop : Option ℕ) (m m₂ : Memory) where
       abbrev Left : Walked → Type 0
-      Left v = ElseMerges T s (env .left) (12 - env .left) loop (sureIn pl) (view l t rows (env .cur) (env .width)) (view l first rows a (env .width)) (placeIn pl) m v m₂
+      Left v = ElseMerges (switchesOf (env .switches)) T s (env .left) (12 - env .left) loop (sureIn pl) (view l t rows (env .cur) (env .width)) (view l first rows a (env .width)) (placeIn pl) m v m₂
 
-      pub else-merged : {r : States} {rows₃ pl₃ : List ℕ} → MergesElse (sureIn pl) (l .count) t first other rows₂ (env .cur) (env .width) b pl₂ r rows₃ pl₃
-          → ((faultIn pl₂ ≡ 254 → ⊥) → BlockWalks T s (env .left) (suc (12 - env .left)) loop (view l t rows₁ b (env .width)) (placeIn pl) m (walkedIn pl₂ (view l other rows₂ b (env .width))) m₂)
+      pub else-merged : {r : States} {rows₃ pl₃ : List ℕ} → MergesElse (switchesOf (env .switches)) (sureIn pl) (l .count) t first other rows₂ (env .cur) (env .width) b pl₂ r rows₃ pl₃
+          → ((faultIn pl₂ ≡ 254 → ⊥) → BlockWalks (switchesOf (env .switches)) T s (env .left) (suc (12 - env .left)) loop (view l t rows₁ b (env .width)) (placeIn pl) m (walkedIn pl₂ (view l other rows₂ b (env .width))) m₂)
           → (faultIn pl₃ ≡ 254 → ⊥)
-          → ElseMerges T s (env .left) (12 - env .left) loop (sureIn pl) (view l t rows (env .cur) (env .width)) (view l first rows a (env .width)) (placeIn pl) m (walkedIn pl₃ (view l r rows₃ (env .cur) (env .width))) m₂
+          → ElseMerges (switchesOf (env .switches)) T s (env .left) (12 - env .left) loop (sureIn pl) (view l t rows (env .cur) (env .width)) (view l first rows a (env .width)) (placeIn pl) m (walkedIn pl₃ (view l r rows₃ (env .cur) (env .width))) m₂
       else-merged {r} {rows₃} {pl₃} g walks reach =
           let w = walks (reach-first g reach) in
           ⊎-elim

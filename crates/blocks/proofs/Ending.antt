@@ -6,12 +6,13 @@ use mathlib.Core.Option.{Option}
 use mathlib.Core.Path.{_≡_, refl, sym, ap, _∙_, subst}
 use mathlib.Core.Bool.{false}
 use mathlib.Core.List.{List}
-use lib.ListN.{length}
+use lib.ListN.{length, getD}
+use Rattle.rules.specs.Rules.{Switches, switchesOf}
 use Rattle.image_fields.specs.Number.{two, four}
 use Rattle.image_fields.specs.Bytes.{Bytes, fourBytes}
 use Rattle.tables.specs.Tables.{Tables}
 use Rattle.rules.specs.State.{State as Status}
-use Rattle.rules.specs.Stack.{shape, pop, Stack as Scope}
+use Rattle.rules.specs.Stack.{Static, shape, pop, Stack as Scope}
 use Rattle.tables_lookup.specs.Lent.{Says}
 use Rattle.tables_lookup.proofs.Lent.{tablesOf, said}
 use Rattle.image_writing.specs.Memory.{Memory, memory}
@@ -23,8 +24,8 @@ use Rattle.statements_acts.specs.declared.Place.{Place}
 use Rattle.statements_acts.specs.Act.{Within, Grows as Further}
 use Rattle.scope_stack.specs.declared.Locals.{Locals}
 use Rattle.scope_stack.specs.declared.States.{States}
-use Rattle.scope_stack.specs.View.{view, Kept, Drops, Nested, Leaves}
-use Rattle.scope_stack.proofs.Scopes.{Extends, extends-own, leaves-pop, sound-leave, nested-view}
+use Rattle.scope_stack.specs.View.{staticAt, stateAt, view, Kept, Drops, Nested, Leaves}
+use Rattle.scope_stack.proofs.Scopes.{Extends, extends-own, nested-at, leaves-pop, sound-leave, nested-view}
 use Rattle.scope_stack.proofs.Frames.{nested-deeper}
 use Rattle.statements_acts.specs.Marks.{lent}
 use Rattle.statements_changes.specs.declared.Cursor.{Cursor}
@@ -42,15 +43,15 @@ use Rattle.blocks.specs.Blocks.{InLoop, Enters, Comes}
 use Rattle.blocks.proofs.Standing.{loop-deeper, Turned, below-both, blocks-fault}
 
 -- what is promised of the walk of a block with so much depth left, from a place and a stack
-pub record Done (s tb : List ℕ) (cur width left base least : ℕ) (start : Place) (outer : Locals) (t₀ : States) (rows₀ : List ℕ) (m : Memory) (r : States) (rows ns′ pl : List ℕ) (m′ : Memory) : Type 0 where
+pub record Done (sw : Switches) (s tb : List ℕ) (cur width left base least : ℕ) (start : Place) (outer : Locals) (t₀ : States) (rows₀ : List ℕ) (m : Memory) (r : States) (rows ns′ pl : List ℕ) (m′ : Memory) : Type 0 where
   pub comes : Comes s tb cur width least outer rows₀ start r rows pl
   pub nodes : length ns′ ≡ 26
   pub walks : (T : Tables) → Says s tb T → (loop : Option ℕ) → InLoop loop base (suc (12 - left)) outer → (faultIn pl ≡ 254 → ⊥)
-      → BlockWalks T s left (suc (12 - left)) loop (view outer t₀ rows₀ cur width) start m (walkedIn pl (view outer r rows cur width)) m′
+      → BlockWalks sw T s left (suc (12 - left)) loop (view outer t₀ rows₀ cur width) start m (walkedIn pl (view outer r rows cur width)) m′
 
 -- a fault alone is told of a walk that has one
-pub fault-walks : {T : Tables} {s : List ℕ} {left d : ℕ} {loop : Option ℕ} {σ : Scope Status} {p : Place} {m m′ n′ : Memory} (w r : Walked) → 0 < w .fault → r .fault ≡ w .fault → BlockWalks T s left d loop σ p m w m′
-    → BlockWalks T s left d loop σ p m r n′
+pub fault-walks : {sw : Switches} {T : Tables} {s : List ℕ} {left d : ℕ} {loop : Option ℕ} {σ : Scope Status} {p : Place} {m m′ n′ : Memory} (w r : Walked) → 0 < w .fault → r .fault ≡ w .fault → BlockWalks sw T s left d loop σ p m w m′
+    → BlockWalks sw T s left d loop σ p m r n′
 fault-walks w r lt e h = record { walks = λ t deep b n read. let g = h .walks t deep b n read in let f = e ∙ g .0 in (f, λ z. let q = ap numberOf z in absurd (omega arith)) }
 
 module _ (s tb : List ℕ) (small : Bytes s) (e : Env) (left : ℕ) (low : 0 < left) (high : left ≤ 12) (el : e .left ≡ left - 1) (start : Place) (outer : Locals) (t₀ : States)
@@ -72,8 +73,8 @@ module _ (s tb : List ℕ) (small : Bytes s) (e : Env) (left : ℕ) (low : 0 < l
   pub fault-done : (least : ℕ) (r : States) (rows′ nodes′ pl′ : List ℕ) (m′ : Memory) → 0 < faultIn pl′ → length nodes′ ≡ 26 → length pl′ ≡ 10 → Below (e .cur) rows₀ rows′
       → (faultIn pl′ ≡ 254 → length rows₀ < least) → (w : Walked) → w .fault ≡ faultIn pl′
       → ((T : Tables) → Says s tb T → (loop : Option ℕ) → InLoop loop (e .base) (12 - e .left) outer → (faultIn pl′ ≡ 254 → ⊥)
-      → StmtsWalk T s (e .left) (12 - e .left) loop (two s (start .at + 4)) (view outer t₀ rows₀ (e .cur) (e .width)) (headed start (start .written + 4)) (memory out₁ errs₀ warns₀ lefts₀) w m′)
-      → Done s tb (e .cur) (e .width) left (e .base) least start outer t₀ rows₀ (memory out₀ errs₀ warns₀ lefts₀) r rows′ nodes′ pl′ m′
+      → StmtsWalk (switchesOf (e .switches)) T s (e .left) (12 - e .left) loop (two s (start .at + 4)) (view outer t₀ rows₀ (e .cur) (e .width)) (headed start (start .written + 4)) (memory out₁ errs₀ warns₀ lefts₀) w m′)
+      → Done (switchesOf (e .switches)) s tb (e .cur) (e .width) left (e .base) least start outer t₀ rows₀ (memory out₀ errs₀ warns₀ lefts₀) r rows′ nodes′ pl′ m′
   fault-done least r rows′ nodes′ pl′ m′ lt en ep below short w ew walks = record {
     comes = record {
       room = ep;
@@ -86,7 +87,7 @@ module _ (s tb : List ℕ) (small : Bytes s) (e : Env) (left : ℕ) (low : 0 < l
     nodes = en;
     walks = λ T sy loop o no.
         fault-walks w (walkedIn pl′ (view outer r rows′ (e .cur) (e .width))) (omega arith) (sym ew)
-        (head-fault T s left (e .left) (two s (start .at + 4)) loop σ₀ start (headed start gap) gap w m₀ (memory out₁ errs₀ warns₀ lefts₀) m′ low high el refl refl (walks T sy loop (inside-loop loop o) no) (omega arith));
+        (head-fault (switchesOf (e .switches)) T s left (e .left) (two s (start .at + 4)) loop σ₀ start (headed start gap) gap w m₀ (memory out₁ errs₀ warns₀ lefts₀) m′ low high el refl refl (walks T sy loop (inside-loop loop o) no) (omega arith));
   }
 
   module _ {rows nodes out errs warns lefts pl : List ℕ} {l : Locals} {t : States} {c : Cursor} where
@@ -94,9 +95,9 @@ module _ (s tb : List ℕ) (small : Bytes s) (e : Env) (left : ℕ) (low : 0 < l
     pub blocks-done : (tag : ℕ) → Turned s tb e start outer t₀ rows₀ out₁ errs₀ warns₀ lefts₀ rows nodes out errs warns lefts pl l t c (Blocks tag) → (p : Place) → p ≡ c .place → {r : States} {rows′ pl′ : List ℕ}
         (enough : ℕ) → Comes s tb (e .cur) (e .width) enough l rows p r rows′ pl′ → {out′ errs′ warns′ lefts′ : List ℕ}
         → ((T : Tables) → Says s tb T → (loop : Option ℕ) → InLoop loop (e .base) (suc (12 - e .left)) l → (faultIn pl′ ≡ 254 → ⊥)
-        → TagWalks T s (e .left) (12 - e .left) loop tag (view l t rows (e .cur) (e .width)) p (memory out errs warns lefts) (walkedIn pl′ (view l r rows′ (e .cur) (e .width))) (memory out′ errs′ warns′ lefts′))
+        → TagWalks (switchesOf (e .switches)) T s (e .left) (12 - e .left) loop tag (view l t rows (e .cur) (e .width)) p (memory out errs warns lefts) (walkedIn pl′ (view l r rows′ (e .cur) (e .width))) (memory out′ errs′ warns′ lefts′))
         → 0 < faultIn pl′ → (nodes′ : List ℕ) → length nodes′ ≡ 26 → (least : ℕ) → (faultIn pl′ ≡ 254 → length rows₀ < least)
-        → Done s tb (e .cur) (e .width) left (e .base) least start outer t₀ rows₀ (memory out₀ errs₀ warns₀ lefts₀) r rows′ nodes′ pl′ (memory out′ errs′ warns′ lefts′)
+        → Done (switchesOf (e .switches)) s tb (e .cur) (e .width) left (e .base) least start outer t₀ rows₀ (memory out₀ errs₀ warns₀ lefts₀) r rows′ nodes′ pl′ (memory out′ errs′ warns′ lefts′)
     blocks-done tag h p ep {r} {rows′} {pl′} enough come {out′} {errs′} {warns′} {lefts′} tag-walks lt nodes′ en least short =
         fault-done least r rows′ nodes′ pl′ (memory out′ errs′ warns′ lefts′) lt en (come .room) (below-both (e .cur) (e .cur) rows₀ rows rows′ (omega arith) (h .owned .below) (come .below)) short
         (walkedIn pl′ (view l r rows′ (e .cur) (e .width))) refl
@@ -125,7 +126,14 @@ module _ (s tb : List ℕ) (small : Bytes s) (e : Env) (left : ℕ) (low : 0 < l
 
       -- the block's own frame is what it registered
       pub end-frame : Nested (12 - left) (shape (view outer t₀ rows₀ (e .cur) (e .width))) → Frame (l .depths) (outer .count) (suc (12 - left)) (l .count)
-      end-frame nested = record { few = h .owned .sound .kept .small; own = extends-own (12 - left) outer l t₀ rows₀ (e .cur) (e .width) outside nested }
+      end-frame nested = record {
+        few = h .owned .sound .kept .small;
+        own = extends-own (12 - left) outer l t₀ rows₀ (e .cur) (e .width) outside nested;
+        outer = λ i li q.
+            let low = nested-at (12 - left) (outer .count) (staticAt outer) (stateAt t₀ rows₀ (e .cur) (e .width)) nested i q in
+            let same : getD (l .depths) i 0 ≡ getD (outer .depths) i 0 = ap (λ (s : Static). s .depth) (outside .older i q) in
+            omega (arith, low, same);
+      }
 
       module _ (least : ℕ) (pl′ : List ℕ) (ended : Ended start (c .place) pl′) (r : States) (v : Leaves (outer .count) (l .count) t r) (kept : Kept outer)
           (drops : (T : Tables) → Says s tb T → Drops T outer)
@@ -159,11 +167,11 @@ module _ (s tb : List ℕ) (small : Bytes s) (e : Env) (left : ℕ) (low : 0 < l
               inserted = omega (arith, within .inserted, ended .inserted, further .on);
             }
 
-        pub end-done : (out′ : List ℕ)
+        pub end-done : (out′ : List ℕ) (value : ℕ) → value ≡ e .switches
             → ((T : Tables) → Says s tb T → (σ : Scope Status) → σ ≡ pop (suc (12 - left)) (view l t rows (e .cur) (e .width))
-            → Ends T s left (suc (12 - left)) (view l t rows (e .cur) (e .width)) start (start .written + 4) (c .place) out (walkedIn pl′ σ) out′)
-            → Done s tb (e .cur) (e .width) left (e .base) least start outer t₀ rows₀ (memory out₀ errs₀ warns₀ lefts₀) r rows nodes pl′ (memory out′ errs warns lefts)
-        end-done out′ ends = record {
+            → Ends (switchesOf value) T s left (suc (12 - left)) (view l t rows (e .cur) (e .width)) start (start .written + 4) (c .place) out (walkedIn pl′ σ) out′)
+            → Done (switchesOf (e .switches)) s tb (e .cur) (e .width) left (e .base) least start outer t₀ rows₀ (memory out₀ errs₀ warns₀ lefts₀) r rows nodes pl′ (memory out′ errs warns lefts)
+        end-done out′ value is ends = record {
           comes = record {
             room = ended .room;
             below = h .owned .below;
@@ -175,19 +183,21 @@ module _ (s tb : List ℕ) (small : Bytes s) (e : Env) (left : ℕ) (low : 0 < l
           nodes = h .long .nodes;
           walks = λ T sy loop o no.
               let w : Walked = record { fault = 0; sure = false; place = c .place; locals = view l t rows (e .cur) (e .width) } in
-              let sw = all-end T s small (e .left) (12 - e .left) loop (two s (start .at + 4)) σ₀ (headed start gap) (memory out₁ errs₀ warns₀ lefts₀) 0 (w .locals) (c .place) (memory out errs warns lefts)
+              let all = all-end (switchesOf (e .switches)) T s small (e .left) (12 - e .left) loop (two s (start .at + 4)) σ₀ (headed start gap) (memory out₁ errs₀ warns₀ lefts₀) 0 (w .locals) (c .place) (memory out errs warns lefts)
               (h .after T sy loop (inside-loop loop o)) (omega arith) w refl refl refl in
-              head-walks T s left (e .left) (two s (start .at + 4)) loop σ₀ start (headed start gap) gap w m₀ (memory out₁ errs₀ warns₀ lefts₀) (memory out errs warns lefts) low high el refl refl sw
-              small (block-there s left (start .at) there .1) refl (omega arith) (walkedIn pl′ (view outer r rows (e .cur) (e .width))) out′ head (ends T sy (view outer r rows (e .cur) (e .width)) popped) refl refl refl;
+              head-walks (switchesOf (e .switches)) T s left (e .left) (two s (start .at + 4)) loop σ₀ start (headed start gap) gap w m₀ (memory out₁ errs₀ warns₀ lefts₀) (memory out errs warns lefts) low high el refl refl all
+              small (block-there s left (start .at) there .1) refl (omega arith) (walkedIn pl′ (view outer r rows (e .cur) (e .width))) out′ head
+              (subst (λ (w : ℕ). Ends (switchesOf w) T s left (suc (12 - left)) (view l t rows (e .cur) (e .width)) start gap (c .place) out (walkedIn pl′ (view outer r rows (e .cur) (e .width))) out′) is
+              (ends T sy (view outer r rows (e .cur) (e .width)) popped)) refl refl refl;
         }
 
 -- said of the numbers that the block was given
 pub done-as : (s tb : List ℕ) (env e : Env) (left least : ℕ) (start p : Place) (outer : Locals) (t₀ : States) (rows₀ : List ℕ) (m : Memory) (r : States) (rows ns′ pl : List ℕ) (m′ : Memory)
-    → e ≡ innerOf env → start ≡ p → Done s tb (e .cur) (e .width) left (e .base) least start outer t₀ rows₀ m r rows ns′ pl m′
-    → Done s tb (env .cur) (env .width) left (env .base) least p outer t₀ rows₀ m r rows ns′ pl m′
+    → e ≡ innerOf env → start ≡ p → Done (switchesOf (e .switches)) s tb (e .cur) (e .width) left (e .base) least start outer t₀ rows₀ m r rows ns′ pl m′
+    → Done (switchesOf (env .switches)) s tb (env .cur) (env .width) left (env .base) least p outer t₀ rows₀ m r rows ns′ pl m′
 done-as s tb env e left least start p outer t₀ rows₀ m r rows ns′ pl m′ is ep d =
-    subst (λ (x : Env). Done s tb (x .cur) (x .width) left (x .base) least p outer t₀ rows₀ m r rows ns′ pl m′) is
-    (subst (λ (x : Place). Done s tb (e .cur) (e .width) left (e .base) least x outer t₀ rows₀ m r rows ns′ pl m′) ep d)
+    subst (λ (x : Env). Done (switchesOf (x .switches)) s tb (x .cur) (x .width) left (x .base) least p outer t₀ rows₀ m r rows ns′ pl m′) is
+    (subst (λ (x : Place). Done (switchesOf (e .switches)) s tb (e .cur) (e .width) left (e .base) least x outer t₀ rows₀ m r rows ns′ pl m′) ep d)
 
 -- a block's statements may be walked where the block may be
 pub enters-inner : (s tb : List ℕ) (env e : Env) (l : Locals) (t : States) (rows : List ℕ) (p : Place) → e ≡ innerOf env → Enters s tb env l t rows p → Enters s tb e l t rows p

@@ -21,7 +21,7 @@ use Rattle.tables_lookup.specs.Ty.{shouldAutoDelete}
 use Rattle.rules.specs.Questions.{auto}
 use Rattle.rules.specs.State.{State as Status}
 use Rattle.rules.specs.Stack.{Static, shape, mark, Stack as Scope}
-use Rattle.rules.specs.Rules.{declared, states, register}
+use Rattle.rules.specs.Rules.{declared, states, register, off, switchesOf}
 use Rattle.rules.specs.Walk.{tooMany}
 use Rattle.scope_state.specs.Kinds.{said, put}
 use Rattle.tables_lookup.specs.Lent.{Lent, Says}
@@ -149,7 +149,7 @@ module _ (s tb : List ℕ) (e : Env) (start : Place) (outer : Locals) (t₀ : St
     pub steady : Steady s (e .left) nodes c
     pub grows : Further s (retold (headed start (start .written + 4)) 0) (retold (c .place) 0)
     pub stood : (T : Tables) → Says s tb T → (loop : Option ℕ) → InLoop loop (e .base) (12 - e .left) outer
-        → Stood T s (e .left) (12 - e .left) loop (two s (start .at + 4)) (view outer t₀ rows₀ (e .cur) (e .width)) (headed start (start .written + 4)) (memory out₀ errs₀ warns₀ lefts₀)
+        → Stood (switchesOf (e .switches)) T s (e .left) (12 - e .left) loop (two s (start .at + 4)) (view outer t₀ rows₀ (e .cur) (e .width)) (headed start (start .written + 4)) (memory out₀ errs₀ warns₀ lefts₀)
         nodes c (view l t rows (e .cur) (e .width)) (memory out errs warns lefts)
 
   -- behind next_change: what is to be done
@@ -159,7 +159,7 @@ module _ (s tb : List ℕ) (e : Env) (start : Place) (outer : Locals) (t₀ : St
     pub fit : Fit s (e .left) nodes c turn
     pub grows : Further s (retold (headed start (start .written + 4)) 0) (retold (c .place) 0)
     pub after : (T : Tables) → Says s tb T → (loop : Option ℕ) → InLoop loop (e .base) (12 - e .left) outer
-        → After T s (e .left) (12 - e .left) loop (two s (start .at + 4)) (view outer t₀ rows₀ (e .cur) (e .width)) (headed start (start .written + 4)) (memory out₀ errs₀ warns₀ lefts₀)
+        → After (switchesOf (e .switches)) T s (e .left) (12 - e .left) loop (two s (start .at + 4)) (view outer t₀ rows₀ (e .cur) (e .width)) (headed start (start .written + 4)) (memory out₀ errs₀ warns₀ lefts₀)
         nodes c (view l t rows (e .cur) (e .width)) (memory out errs warns lefts) turn
 
   -- the loop begins behind the block's head
@@ -177,13 +177,13 @@ module _ (s tb : List ℕ) (e : Env) (start : Place) (outer : Locals) (t₀ : St
       long = record { nodes = en; pl = ep; out = refl; errs = refl; warns = refl; lefts = refl };
       steady = steady-between s (e .left) nodes all p₀ (within-on (h .within) further) (stmts-in s left (e .left) (start .at) all (start .at + 6) el refl refl there);
       grows = grows-none (further .inside);
-      stood = λ T sy loop o. record { between = λ z. all-start T s small (e .left) (12 - e .left) loop all σ₀ p₀ m₀; within = λ z. false-true z };
+      stood = λ T sy loop o. record { between = λ z. all-start (switchesOf (e .switches)) T s small (e .left) (12 - e .left) loop all σ₀ p₀ m₀; within = λ z. false-true z };
     })
 
   -- what next_change is asked
   pub ask-next : Lent s tb → e .left ≤ 12 → e .width ≡ 8 → e .cur < 4294967296 → e .base ≤ 64 → {rows nodes out errs warns lefts pl : List ℕ} {l : Locals} {t : States} {c : Cursor}
       → Standing rows nodes out errs warns lefts pl l t c → (mark : ℕ) (here : Scanning)
-      → here ≡ record { left = e .left; locals = l .count; mark = mark; base = e .base; cur = e .cur; width = e .width }
+      → here ≡ record { switches = e .switches; left = e .left; locals = l .count; mark = mark; base = e .base; cur = e .cur; width = e .width }
       → Lent s tb × AllKept (t .kinds) (t .firsts) rows (here .cur) (here .width) (here .locals)
       × (here .left ≤ 12) × (here .base ≤ 64) × Steady s (here .left) nodes c × (length nodes ≡ 26)
   ask-next lent depth wide low few {rows} {nodes} {out} {errs} {warns} {lefts} {pl} {l} {t} {c} st mark here is =
@@ -196,13 +196,13 @@ module _ (s tb : List ℕ) (e : Env) (start : Place) (outer : Locals) (t₀ : St
       ((T : Tables) → Says s tb T → (ld : List ℕ) (σ : Scope Status) (loop : Option ℕ)
       → Lends T (here .mark) loop (here .base) (l .names) (l .types) ld (l .births) (stateIn (t .kinds) (t .firsts) rows (here .cur) (here .width)) (here .locals) σ
       → (n : ℕ) (τ : Scope Status) (q : Place) (m : Memory)
-      → Stood T s (here .left) (12 - here .left) loop n τ q m nodes c σ (memory out errs warns lefts)
-      → After T s (here .left) (12 - here .left) loop n τ q m nodes′ c′ σ (memory out′ errs′ warns′ lefts′) turn)
+      → Stood (switchesOf (here .switches)) T s (here .left) (12 - here .left) loop n τ q m nodes c σ (memory out errs warns lefts)
+      → After (switchesOf (here .switches)) T s (here .left) (12 - here .left) loop n τ q m nodes′ c′ σ (memory out′ errs′ warns′ lefts′) turn)
       × (Fit s (here .left) nodes′ c′ turn × (length nodes′ ≡ 26) × (turn ≡ Nothing → ⊥) × ((turn ≡ Over → ⊥) → ahead s c′ < ahead s c) × Further s (retold (c .place) 0) (retold (c′ .place) 0))
 
   pub turned : {rows nodes out errs warns lefts pl : List ℕ} {l : Locals} {t : States} {c : Cursor} → Standing rows nodes out errs warns lefts pl l t c → (mark : ℕ)
       → mark ≡ markOf l t → (here : Scanning)
-      → here ≡ record { left = e .left; locals = l .count; mark = mark; base = e .base; cur = e .cur; width = e .width }
+      → here ≡ record { switches = e .switches; left = e .left; locals = l .count; mark = mark; base = e .base; cur = e .cur; width = e .width }
       → {nodes′ out′ errs′ warns′ lefts′ : List ℕ} {c′ : Cursor} {turn turn′ : Turn} → Answers rows nodes out errs warns lefts l t c nodes′ out′ errs′ warns′ lefts′ c′ turn here
       → turn ≡ turn′ → length out′ ≡ length out → length errs′ ≡ length errs → length warns′ ≡ length warns → length lefts′ ≡ length lefts
       → Turned rows nodes′ out′ errs′ warns′ lefts′ pl l t c′ turn′
@@ -234,13 +234,13 @@ module _ (s tb : List ℕ) (e : Env) (start : Place) (outer : Locals) (t₀ : St
           long = h .long;
           steady = h .fit .0;
           grows = h .grows;
-          stood = λ T sy loop o. subst (λ (σ : Scope Status). Stood T s (e .left) (12 - e .left) loop all σ₀ p₀ m₀ nodes c σ (memory out errs warns lefts)) (sym is) (h .after T sy loop o);
+          stood = λ T sy loop o. subst (λ (σ : Scope Status). Stood (switchesOf (e .switches)) T s (e .left) (12 - e .left) loop all σ₀ p₀ m₀ nodes c σ (memory out errs warns lefts)) (sym is) (h .after T sy loop o);
         }
 
     -- a registration, with room for it
     module _ (n y b : ℕ) (h : Turned rows nodes out errs warns lefts pl l t c (Register n y b)) where
       abbrev more : Scope Status
-      more = register states (declared (12 - e .left) b n y) (seen l t rows)
+      more = register (states off) (declared (12 - e .left) b n y) (seen l t rows)
 
       many : length more ≡ l .count + 1
       many = register-length l n y (12 - e .left) b t rows (e .cur) (e .width)
@@ -257,7 +257,7 @@ module _ (s tb : List ℕ) (e : Env) (start : Place) (outer : Locals) (t₀ : St
           long = h .long;
           steady = h .fit;
           grows = h .grows;
-          stood = λ T sy loop o. subst (λ (σ : Scope Status). Stood T s (e .left) (12 - e .left) loop all σ₀ p₀ m₀ nodes c σ (memory out errs warns lefts)) (sym is) (h .after T sy loop o .0 (many-none more (omega (arith, many))));
+          stood = λ T sy loop o. subst (λ (σ : Scope Status). Stood (switchesOf (e .switches)) T s (e .left) (12 - e .left) loop all σ₀ p₀ m₀ nodes c σ (memory out errs warns lefts)) (sym is) (h .after T sy loop o .0 (many-none more (omega (arith, many))));
         }
 
         pub standing-fresh : ((i : ℕ) → i < 64 → aliveAt t i ≡ false → Named (r .names) (r .depths) n (12 - e .left) i → ⊥) → Standing rows nodes out errs warns lefts pl r t c
@@ -273,7 +273,7 @@ module _ (s tb : List ℕ) (e : Env) (start : Place) (outer : Locals) (t₀ : St
 
       -- and without
       pub full : 64 ≤ l .count → (w : Walked) → w .fault ≡ 12 → (T : Tables) → Says s tb T → (loop : Option ℕ) → InLoop loop (e .base) (12 - e .left) outer
-          → StmtsWalk T s (e .left) (12 - e .left) loop (two s (start .at + 4)) (view outer t₀ rows₀ (e .cur) (e .width)) (headed start (start .written + 4)) (memory out₀ errs₀ warns₀ lefts₀) w (memory out errs warns lefts)
+          → StmtsWalk (switchesOf (e .switches)) T s (e .left) (12 - e .left) loop (two s (start .at + 4)) (view outer t₀ rows₀ (e .cur) (e .width)) (headed start (start .written + 4)) (memory out₀ errs₀ warns₀ lefts₀) w (memory out errs warns lefts)
       full few w ew T sy loop o =
           let k = many-some more (omega (arith, many)) in
           let twelve : 0 < numberOf (tooMany version1 more) = subst (λ (x : Option ℕ). 0 < numberOf x) (sym k) (omega arith) in
@@ -304,22 +304,22 @@ module _ (s tb : List ℕ) (e : Env) (start : Place) (outer : Locals) (t₀ : St
 
       module _ (p : Place) (ep : p ≡ c .place) {rows′ out′ errs′ warns′ lefts′ pl′ : List ℕ} {r : States} (least : ℕ) (come : Comes s tb (e .cur) (e .width) least l rows p r rows′ pl′)
           (tag-walks : (T : Tables) → Says s tb T → (loop : Option ℕ) → InLoop loop (e .base) (suc (12 - e .left)) l → (faultIn pl′ ≡ 254 → ⊥)
-          → TagWalks T s (e .left) (12 - e .left) loop tag (view l t rows (e .cur) (e .width)) p (memory out errs warns lefts) (walkedIn pl′ (view l r rows′ (e .cur) (e .width))) (memory out′ errs′ warns′ lefts′)) where
+          → TagWalks (switchesOf (e .switches)) T s (e .left) (12 - e .left) loop tag (view l t rows (e .cur) (e .width)) p (memory out errs warns lefts) (walkedIn pl′ (view l r rows′ (e .cur) (e .width))) (memory out′ errs′ warns′ lefts′)) where
         walks-there : (T : Tables) → Says s tb T → (loop : Option ℕ) → InLoop loop (e .base) (12 - e .left) outer → (faultIn pl′ ≡ 254 → ⊥)
-            → TagWalks T s (e .left) (12 - e .left) loop tag (view l t rows (e .cur) (e .width)) (c .place) (memory out errs warns lefts) (walkedIn pl′ (view l r rows′ (e .cur) (e .width))) (memory out′ errs′ warns′ lefts′)
-        walks-there T sy loop o short = subst (λ (q : Place). TagWalks T s (e .left) (12 - e .left) loop tag (seen l t rows) q (memory out errs warns lefts) (walkedIn pl′ (seen l r rows′)) (memory out′ errs′ warns′ lefts′)) ep
+            → TagWalks (switchesOf (e .switches)) T s (e .left) (12 - e .left) loop tag (view l t rows (e .cur) (e .width)) (c .place) (memory out errs warns lefts) (walkedIn pl′ (view l r rows′ (e .cur) (e .width))) (memory out′ errs′ warns′ lefts′)
+        walks-there T sy loop o short = subst (λ (q : Place). TagWalks (switchesOf (e .switches)) T s (e .left) (12 - e .left) loop tag (seen l t rows) q (memory out errs warns lefts) (walkedIn pl′ (seen l r rows′)) (memory out′ errs′ warns′ lefts′)) ep
             (tag-walks T sy loop (loop-deeper loop (e .base) (12 - e .left) (suc (12 - e .left)) l (omega arith) (loop-extends loop (e .base) (12 - e .left) outer l (h .owned .extends) o)) short)
 
         -- a fault of theirs is the walk's
         pub blocks-fault : 0 < faultIn pl′ → (faultIn pl′ ≡ 254 → ⊥) → (T : Tables) → Says s tb T → (loop : Option ℕ) → InLoop loop (e .base) (12 - e .left) outer
-            → StmtsWalk T s (e .left) (12 - e .left) loop (two s (start .at + 4)) (view outer t₀ rows₀ (e .cur) (e .width)) (headed start (start .written + 4)) (memory out₀ errs₀ warns₀ lefts₀)
+            → StmtsWalk (switchesOf (e .switches)) T s (e .left) (12 - e .left) loop (two s (start .at + 4)) (view outer t₀ rows₀ (e .cur) (e .width)) (headed start (start .written + 4)) (memory out₀ errs₀ warns₀ lefts₀)
             (walkedIn pl′ (view l r rows′ (e .cur) (e .width))) (memory out′ errs′ warns′ lefts′)
         blocks-fault lt short T sy loop o = h .after T sy loop o (walkedIn pl′ (seen l r rows′)) (memory out′ errs′ warns′ lefts′) (walks-there T sy loop o short) .0 lt
 
         -- or the loop goes on behind them
         module _ (small : Bytes s) (left : ℕ) (el : e .left ≡ left - 1) (there : BlockThere s left (start .at)) (some-tables : Tables) (said-some : Says s tb some-tables) (near : Option ℕ) (nearby : InLoop near (e .base) (12 - e .left) outer)
             (z : faultIn pl′ ≡ 0) (nodes′ : List ℕ) (en : length nodes′ ≡ 26) where
-          leads : (T : Tables) → Says s tb T → (loop : Option ℕ) → InLoop loop (e .base) (12 - e .left) outer → LeadsAll T s (e .left) (12 - e .left) loop all σ₀ p₀ m₀ (c .left) (seen l r rows′) (placeIn pl′) (memory out′ errs′ warns′ lefts′)
+          leads : (T : Tables) → Says s tb T → (loop : Option ℕ) → InLoop loop (e .base) (12 - e .left) outer → LeadsAll (switchesOf (e .switches)) T s (e .left) (12 - e .left) loop all σ₀ p₀ m₀ (c .left) (seen l r rows′) (placeIn pl′) (memory out′ errs′ warns′ lefts′)
           leads T sy loop o = h .after T sy loop o (walkedIn pl′ (seen l r rows′)) (memory out′ errs′ warns′ lefts′) (walks-there T sy loop o (λ q. omega arith)) .1 (omega arith)
 
           pub less-behind : (k : ℕ) → ahead s c < k → (q : Place) (c′ : Cursor) → c′ ≡ betweenOf (c .left) q Nobody → ahead s c′ < k
@@ -336,7 +336,7 @@ module _ (s tb : List ℕ) (e : Env) (start : Place) (outer : Locals) (t₀ : St
             };
             long = record { nodes = en; pl = come .room; out = lo ∙ h .long .out; errs = le ∙ h .long .errs; warns = lw ∙ h .long .warns; lefts = ll ∙ h .long .lefts };
             steady = steady-between s (e .left) nodes′ (c .left) (placeIn pl′) (come .within z)
-                (all-rest some-tables s small (e .left) (12 - e .left) near all σ₀ p₀ m₀ (c .left) (seen l r rows′) (placeIn pl′) (memory out′ errs′ warns′ lefts′) (leads some-tables said-some near nearby)
+                (all-rest (switchesOf (e .switches)) some-tables s small (e .left) (12 - e .left) near all σ₀ p₀ m₀ (c .left) (seen l r rows′) (placeIn pl′) (memory out′ errs′ warns′ lefts′) (leads some-tables said-some near nearby)
                 (stmts-in s left (e .left) (start .at) all (start .at + 6) el refl refl there));
             grows = grows-both (h .grows) (subst (λ (x : Place). Further s (retold x 0) (retold (placeIn pl′) 0)) ep (come .grows z));
             stood = λ T sy loop o. record { between = λ y. leads T sy loop o; within = λ y. false-true y };

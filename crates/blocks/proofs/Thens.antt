@@ -10,6 +10,7 @@ use mathlib.Core.Logic.{_⊎_, inl, inr, ⊎-elim}
 use borrow.Author.Tests.{eqb-true, eqb-false}
 use lib.Dec.{eqb}
 use lib.ListN.{length, getD}
+use Rattle.rules.specs.Rules.{Switches, switchesOf}
 use Rattle.image_fields.specs.Bytes.{Bytes}
 use Rattle.image_fields.proofs.Tests.{split, less, false-true}
 use Rattle.tables.specs.Tables.{Tables}
@@ -145,25 +146,25 @@ module _ (s tb : List ℕ) (small : Bytes s) (env : Env) (tag : ℕ) (l : Locals
 
     -- what the walks of the first block say, whatever tables
     abbrev Walks : Tables → Option ℕ → Memory → Memory → Type 0
-    Walks T loop m m₂ = BlockWalks T s (env .left) (suc (12 - env .left)) (ownLoop tag d loop) (view l t rows₁ a (env .width)) (placeIn pl) m (walkedIn pl₂ (view l one rows₂ a (env .width))) m₂
+    Walks T loop m m₂ = BlockWalks (switchesOf (env .switches)) T s (env .left) (suc (12 - env .left)) (ownLoop tag d loop) (view l t rows₁ a (env .width)) (placeIn pl) m (walkedIn pl₂ (view l one rows₂ a (env .width))) m₂
 
-    walks-here : (T : Tables) (loop : Option ℕ) (m m₂ : Memory) → Walks T loop m m₂ → BlockWalks T s (env .left) (suc d) (ownLoop tag d loop) σ (placeIn pl) m (walkedIn pl₂ (view l one rows₂ a (env .width))) m₂
+    walks-here : (T : Tables) (loop : Option ℕ) (m m₂ : Memory) → Walks T loop m m₂ → BlockWalks (switchesOf (env .switches)) T s (env .left) (suc d) (ownLoop tag d loop) σ (placeIn pl) m (walkedIn pl₂ (view l one rows₂ a (env .width))) m₂
     walks-here T loop m m₂ w =
-        subst (λ (τ : Scope Status). BlockWalks T s (env .left) (suc d) (ownLoop tag d loop) τ (placeIn pl) m (walkedIn pl₂ (view l one rows₂ a (env .width))) m₂)
+        subst (λ (τ : Scope Status). BlockWalks (switchesOf (env .switches)) T s (env .left) (suc d) (ownLoop tag d loop) τ (placeIn pl) m (walkedIn pl₂ (view l one rows₂ a (env .width))) m₂)
         (branch-view s tb env l t rows (placeIn pl) h a c yes) w
 
-    walks-if : (T : Tables) (loop : Option ℕ) (m m₂ : Memory) → tag ≡ 7 → Walks T loop m m₂ → BlockWalks T s (env .left) (suc d) loop σ (placeIn pl) m (walkedIn pl₂ (view l one rows₂ a (env .width))) m₂
+    walks-if : (T : Tables) (loop : Option ℕ) (m m₂ : Memory) → tag ≡ 7 → Walks T loop m m₂ → BlockWalks (switchesOf (env .switches)) T s (env .left) (suc d) loop σ (placeIn pl) m (walkedIn pl₂ (view l one rows₂ a (env .width))) m₂
     walks-if T loop m m₂ e w =
-        subst (λ (o : Option ℕ). BlockWalks T s (env .left) (suc d) o σ (placeIn pl) m (walkedIn pl₂ (view l one rows₂ a (env .width))) m₂) (own-if loop e) (walks-here T loop m m₂ w)
+        subst (λ (o : Option ℕ). BlockWalks (switchesOf (env .switches)) T s (env .left) (suc d) o σ (placeIn pl) m (walkedIn pl₂ (view l one rows₂ a (env .width))) m₂) (own-if loop e) (walks-here T loop m m₂ w)
 
     -- its fault
     pub then-fault : (T : Tables) (loop : Option ℕ) (m m₂ : Memory) → Walks T loop m m₂ → 0 < faultIn pl₂ → (tag ≡ 7) ⊎ (tag ≡ 8)
-        → TagWalks T s (env .left) (12 - env .left) loop tag (view l t rows (env .cur) (env .width)) (placeIn pl) m (walkedIn pl₂ (view l one rows₂ (env .cur) (env .width))) m₂
+        → TagWalks (switchesOf (env .switches)) T s (env .left) (12 - env .left) loop tag (view l t rows (env .cur) (env .width)) (placeIn pl) m (walkedIn pl₂ (view l one rows₂ (env .cur) (env .width))) m₂
     then-fault T loop m m₂ w lt which =
         let v = walkedIn pl₂ (view l one rows₂ (env .cur) (env .width)) in
         record {
-          ifs = λ e. if-first T s small (env .left) d loop σ (placeIn pl) m v m₂ (fault-walks (walkedIn pl₂ (view l one rows₂ a (env .width))) v lt refl (walks-if T loop m m₂ e w)) lt;
-          loops = λ e. loop-first T s small (env .left) d (ownLoop tag d loop) σ (placeIn pl) m v m₂ (fault-walks (walkedIn pl₂ (view l one rows₂ a (env .width))) v lt refl (walks-here T loop m m₂ w)) lt loop;
+          ifs = λ e. if-first (switchesOf (env .switches)) T s small (env .left) d loop σ (placeIn pl) m v m₂ (fault-walks (walkedIn pl₂ (view l one rows₂ a (env .width))) v lt refl (walks-if T loop m m₂ e w)) lt;
+          loops = λ e. loop-first (switchesOf (env .switches)) T s small (env .left) d (ownLoop tag d loop) σ (placeIn pl) m v m₂ (fault-walks (walkedIn pl₂ (view l one rows₂ a (env .width))) v lt refl (walks-here T loop m m₂ w)) lt loop;
           others = λ x y. ⊎-elim (λ (q : tag ≡ 7). absurd (x q)) (λ (q : tag ≡ 8). absurd (y q)) which;
         }
 
@@ -173,7 +174,7 @@ module _ (s tb : List ℕ) (small : Bytes s) (env : Env) (tag : ℕ) (l : Locals
       clear = omega arith
 
       pub flag-there : (T : Tables) (loop : Option ℕ) (m m₂ : Memory) → Walks T loop m m₂ → tag ≡ 7 → ElseThere s (env .left) (placeIn pl₂ .at)
-      flag-there T loop m m₂ w e = else-there T s small (env .left) d (ownLoop tag d loop) σ (placeIn pl) m (walkedIn pl₂ (view l one rows₂ a (env .width))) m₂ (walks-here T loop m m₂ w) clear (there .ifs e)
+      flag-there T loop m m₂ w e = else-there (switchesOf (env .switches)) T s small (env .left) d (ownLoop tag d loop) σ (placeIn pl) m (walkedIn pl₂ (view l one rows₂ a (env .width))) m₂ (walks-here T loop m m₂ w) clear (there .ifs e)
 
       module _ (out₂ out₃ pl₃ : List ℕ) (flag : ℕ) (errs warns lefts : List ℕ) where
         -- the place behind the flag, or behind the loop's block
@@ -219,22 +220,22 @@ module _ (s tb : List ℕ) (small : Bytes s) (env : Env) (tag : ℕ) (l : Locals
           }
 
           pub else-walks-to : (T : Tables) (loop : Option ℕ) (m m₄ : Memory) → tag ≡ 7 → Walks T loop m (memory out₂ errs warns lefts) → (r : Walked)
-              → ElseMerges T s (env .left) (12 - env .left) loop (sureIn pl₃) (view l t rows₂ (env .cur) (env .width)) (view l one rows₂ (rowOf (env .cur) (env .width) (l .count)) (env .width)) (placeIn pl₃)
+              → ElseMerges (switchesOf (env .switches)) T s (env .left) (12 - env .left) loop (sureIn pl₃) (view l t rows₂ (env .cur) (env .width)) (view l one rows₂ (rowOf (env .cur) (env .width) (l .count)) (env .width)) (placeIn pl₃)
               (memory out₃ errs warns lefts) r m₄
-              → TagWalks T s (env .left) (12 - env .left) loop tag (view l t rows (env .cur) (env .width)) (placeIn pl) m r m₄
+              → TagWalks (switchesOf (env .switches)) T s (env .left) (12 - env .left) loop tag (view l t rows (env .cur) (env .width)) (placeIn pl) m r m₄
           else-walks-to T loop m m₄ seven w r g =
               let v = walkedIn pl₂ (view l one rows₂ a (env .width)) in
               let bw = walks-if T loop m (memory out₂ errs warns lefts) seven w in
-              let ew = else-block T s (env .left) (suc d) loop σ (placeIn pl₂) (placeIn pl₃) (placeIn pl₃ .written) out₂ out₃ errs warns lefts (f .tells .place)
+              let ew = else-block (switchesOf (env .switches)) T s (env .left) (suc d) loop σ (placeIn pl₂) (placeIn pl₃) (placeIn pl₃ .written) out₂ out₃ errs warns lefts (f .tells .place)
               (subst (λ (k : ℕ). Stored out₂ (placeIn pl₂ .written) (k ∷ []) out₃ (placeIn pl₃ .written)) (f .flag) (f .stored)) (λ q. let k = at-flag in omega arith) (g .w) m₄
-              (subst (λ (τ : Scope Status). BlockWalks T s (env .left) (suc d) loop τ (placeIn pl₃) (memory out₃ errs warns lefts) (g .w) m₄) base-view (g .walks)) in
-              let whole-if : IfWalks T s (env .left) d loop σ (placeIn pl) m r m₄ =
+              (subst (λ (τ : Scope Status). BlockWalks (switchesOf (env .switches)) T s (env .left) (suc d) loop τ (placeIn pl₃) (memory out₃ errs warns lefts) (g .w) m₄) base-view (g .walks)) in
+              let whole-if : IfWalks (switchesOf (env .switches)) T s (env .left) d loop σ (placeIn pl) m r m₄ =
               ⊎-elim
-              (λ (q : 0 < g .w .fault). subst (λ (x : Walked). IfWalks T s (env .left) d loop σ (placeIn pl) m x m₄) (sym (g .fault q))
-              (if-second T s small (env .left) d loop σ (placeIn pl) m v (memory out₂ errs warns lefts) bw clear (g .w) m₄ ew q))
-              (λ (q : g .w .fault ≤ 0). if-walks T s small (env .left) d loop σ (placeIn pl) m v (memory out₂ errs warns lefts) bw clear (g .w) m₄ ew q r
-              (subst (λ (b : Bool). Merges b σ (v .locals) (g .w) r) (f .tells .sure)
-              (subst (λ (τ : Scope Status). Merges (sureIn pl₃) τ (v .locals) (g .w) r) base-view (g .merges q))))
+              (λ (q : 0 < g .w .fault). subst (λ (x : Walked). IfWalks (switchesOf (env .switches)) T s (env .left) d loop σ (placeIn pl) m x m₄) (sym (g .fault q))
+              (if-second (switchesOf (env .switches)) T s small (env .left) d loop σ (placeIn pl) m v (memory out₂ errs warns lefts) bw clear (g .w) m₄ ew q))
+              (λ (q : g .w .fault ≤ 0). if-walks (switchesOf (env .switches)) T s small (env .left) d loop σ (placeIn pl) m v (memory out₂ errs warns lefts) bw clear (g .w) m₄ ew q r
+              (subst (λ (b : Bool). Merges (switchesOf (env .switches)) b σ (v .locals) (g .w) r) (f .tells .sure)
+              (subst (λ (τ : Scope Status). Merges (switchesOf (env .switches)) (sureIn pl₃) τ (v .locals) (g .w) r) base-view (g .merges q))))
               (less 0 (g .w .fault)) in
               record { ifs = λ e7. whole-if; loops = λ e8. absurd (omega arith); others = λ x y. absurd (x seven) }
 
@@ -250,7 +251,7 @@ module _ (s tb : List ℕ) (small : Bytes s) (env : Env) (tag : ℕ) (l : Locals
           low = (cur-low, cur-low);
         }
 
-        module _ {r : States} {rows₄ pl₄ : List ℕ} {x : Bool} (g : MergesIn x false (l .count) t one t rows₂ (env .cur) (env .width) (env .cur) pl₃ r rows₄ pl₄) where
+        module _ {r : States} {rows₄ pl₄ : List ℕ} {x : Bool} (g : MergesIn (switchesOf (env .switches)) x false (l .count) t one t rows₂ (env .cur) (env .width) (env .cur) pl₃ r rows₄ pl₄) where
           pub without-comes : Further s (placeIn pl₂) (placeIn pl₃) → Comes s tb (env .cur) (env .width) (stmtRows (env .cur) (env .left)) l rows (placeIn pl) r rows₄ pl₄
           without-comes on = record {
             room = g .room;
@@ -261,33 +262,33 @@ module _ (s tb : List ℕ) (small : Bytes s) (env : Env) (tag : ℕ) (l : Locals
             grows = λ q. subst (λ (y : Place). Further s (retold (placeIn pl) 0) (retold y 0)) (sym (g .place)) (grows-both (come .grows z) (retold-further on));
           }
 
-          merged : (faultIn pl₄ ≡ 254 → ⊥) → Merges x σ (view l one rows₂ a (env .width)) (record { fault = 0; sure = false; place = placeIn pl₃; locals = σ }) (walkedIn pl₄ (view l r rows₄ (env .cur) (env .width)))
-          merged reach = subst (λ (τ : Scope Status). Merges x τ (view l one rows₂ a (env .width)) (record { fault = 0; sure = false; place = placeIn pl₃; locals = τ }) (walkedIn pl₄ (view l r rows₄ (env .cur) (env .width)))) base-view
+          merged : (faultIn pl₄ ≡ 254 → ⊥) → Merges (switchesOf (env .switches)) x σ (view l one rows₂ a (env .width)) (record { fault = 0; sure = false; place = placeIn pl₃; locals = σ }) (walkedIn pl₄ (view l r rows₄ (env .cur) (env .width)))
+          merged reach = subst (λ (τ : Scope Status). Merges (switchesOf (env .switches)) x τ (view l one rows₂ a (env .width)) (record { fault = 0; sure = false; place = placeIn pl₃; locals = τ }) (walkedIn pl₄ (view l r rows₄ (env .cur) (env .width)))) base-view
               (record { fault = g .fault reach l refl; place = g .place; locals = λ q. g .locals q l refl })
 
           pub without-if : (f : Flags s out₂ pl₂ flag out₃ pl₃) → x ≡ sureIn pl₃ → flag ≡ 0 → tag ≡ 7 → (T : Tables) (loop : Option ℕ) (m : Memory) → Walks T loop m (memory out₂ errs warns lefts) → (faultIn pl₄ ≡ 254 → ⊥)
-              → TagWalks T s (env .left) (12 - env .left) loop tag (view l t rows (env .cur) (env .width)) (placeIn pl) m (walkedIn pl₄ (view l r rows₄ (env .cur) (env .width))) (memory out₃ errs warns lefts)
+              → TagWalks (switchesOf (env .switches)) T s (env .left) (12 - env .left) loop tag (view l t rows (env .cur) (env .width)) (placeIn pl) m (walkedIn pl₄ (view l r rows₄ (env .cur) (env .width))) (memory out₃ errs warns lefts)
           without-if f ex off seven T loop m w reach =
               let v = walkedIn pl₂ (view l one rows₂ a (env .width)) in
               let u : Walked = record { fault = 0; sure = false; place = placeIn pl₃; locals = σ } in
               let bw = walks-if T loop m (memory out₂ errs warns lefts) seven w in
-              let ew = else-none T s (env .left) (suc d) loop σ (placeIn pl₂) (placeIn pl₃) (placeIn pl₃ .written) out₂ out₃ errs warns lefts (f .tells .place)
+              let ew = else-none (switchesOf (env .switches)) T s (env .left) (suc d) loop σ (placeIn pl₂) (placeIn pl₃) (placeIn pl₃ .written) out₂ out₃ errs warns lefts (f .tells .place)
               (subst (λ (k : ℕ). Stored out₂ (placeIn pl₂ .written) (k ∷ []) out₃ (placeIn pl₃ .written)) (f .flag) (f .stored)) (sym (f .flag) ∙ off) u refl in
-              let done = if-walks T s small (env .left) d loop σ (placeIn pl) m v (memory out₂ errs warns lefts) bw clear u (memory out₃ errs warns lefts) ew (omega arith) (walkedIn pl₄ (view l r rows₄ (env .cur) (env .width)))
-              (subst (λ (b : Bool). Merges b σ (v .locals) u (walkedIn pl₄ (view l r rows₄ (env .cur) (env .width)))) (ex ∙ f .tells .sure) (merged reach)) in
+              let done = if-walks (switchesOf (env .switches)) T s small (env .left) d loop σ (placeIn pl) m v (memory out₂ errs warns lefts) bw clear u (memory out₃ errs warns lefts) ew (omega arith) (walkedIn pl₄ (view l r rows₄ (env .cur) (env .width)))
+              (subst (λ (b : Bool). Merges (switchesOf (env .switches)) b σ (v .locals) u (walkedIn pl₄ (view l r rows₄ (env .cur) (env .width)))) (ex ∙ f .tells .sure) (merged reach)) in
               record { ifs = λ e7. done; loops = λ e8. absurd (omega arith); others = λ p q. absurd (p seven) }
 
           pub without-loop : (f : Loops out₂ pl₂ flag out₃ pl₃) → x ≡ sureIn pl₃ → tag ≡ 8 → (T : Tables) (loop : Option ℕ) (m : Memory) → Walks T loop m (memory out₂ errs warns lefts) → (faultIn pl₄ ≡ 254 → ⊥)
-              → TagWalks T s (env .left) (12 - env .left) loop tag (view l t rows (env .cur) (env .width)) (placeIn pl) m (walkedIn pl₄ (view l r rows₄ (env .cur) (env .width))) (memory out₃ errs warns lefts)
+              → TagWalks (switchesOf (env .switches)) T s (env .left) (12 - env .left) loop tag (view l t rows (env .cur) (env .width)) (placeIn pl) m (walkedIn pl₄ (view l r rows₄ (env .cur) (env .width))) (memory out₃ errs warns lefts)
           without-loop f ex eight T loop m w reach =
               let v = walkedIn pl₂ (view l one rows₂ a (env .width)) in
               let u : Walked = record { fault = 0; sure = false; place = placeIn pl₃; locals = σ } in
               let bw = walks-here T loop m (memory out₂ errs warns lefts) w in
-              let done = loop-walks T s small (env .left) d (ownLoop tag d loop) σ (placeIn pl) m v (memory out₂ errs warns lefts) bw clear u (walkedIn pl₄ (view l r rows₄ (env .cur) (env .width))) (f .tells .place) refl refl
-              (subst (λ (b : Bool). Merges b σ (v .locals) u (walkedIn pl₄ (view l r rows₄ (env .cur) (env .width)))) (ex ∙ f .tells .sure) (merged reach)) (own-loop loop eight) loop in
+              let done = loop-walks (switchesOf (env .switches)) T s small (env .left) d (ownLoop tag d loop) σ (placeIn pl) m v (memory out₂ errs warns lefts) bw clear u (walkedIn pl₄ (view l r rows₄ (env .cur) (env .width))) (f .tells .place) refl refl
+              (subst (λ (b : Bool). Merges (switchesOf (env .switches)) b σ (v .locals) u (walkedIn pl₄ (view l r rows₄ (env .cur) (env .width)))) (ex ∙ f .tells .sure) (merged reach)) (own-loop loop eight) loop in
               record {
                 ifs = λ e7. absurd (omega arith);
-                loops = λ e8. subst (λ (o : List ℕ). LoopWalks T s (env .left) d loop σ (placeIn pl) m (walkedIn pl₄ (view l r rows₄ (env .cur) (env .width))) (memory o errs warns lefts)) (sym (f .same)) done;
+                loops = λ e8. subst (λ (o : List ℕ). LoopWalks (switchesOf (env .switches)) T s (env .left) d loop σ (placeIn pl) m (walkedIn pl₄ (view l r rows₄ (env .cur) (env .width))) (memory o errs warns lefts)) (sym (f .same)) done;
                 others = λ p q. absurd (q eight);
               }
 

@@ -6,6 +6,7 @@ use mathlib.Core.List.{List}
 use mathlib.Core.Option.{Option, none, some}
 use lib.Dec.{leb}
 use lib.ListN.{length, getD}
+use Rattle.rules.specs.Rules.{Switches}
 use Rattle.tables.specs.Tables.{Tables}
 use Rattle.rules.specs.State.{State as Status}
 use Rattle.rules.specs.Stack.{shape, Stack as Scope}
@@ -58,8 +59,8 @@ abbrev pub stmtRows : ℕ → ℕ → ℕ
 stmtRows cur left = cur + 1152 * left + 576
 
 -- the second block of an IfElse, and the merge behind it, or its fault
-pub record ElseMerges (T : Tables) (s : List ℕ) (left d : ℕ) (loop : Option ℕ) (sure : Bool) (σ τ : Scope Status) (p : Place) (m : Memory) (r : Walked) (m′ : Memory) : Type 0 where
+pub record ElseMerges (sw : Switches) (T : Tables) (s : List ℕ) (left d : ℕ) (loop : Option ℕ) (sure : Bool) (σ τ : Scope Status) (p : Place) (m : Memory) (r : Walked) (m′ : Memory) : Type 0 where
   pub w : Walked
-  pub walks : BlockWalks T s left (suc d) loop σ p m w m′
+  pub walks : BlockWalks sw T s left (suc d) loop σ p m w m′
   pub fault : 0 < w .fault → r ≡ w
-  pub merges : w .fault ≤ 0 → Merges sure σ τ w r
+  pub merges : w .fault ≤ 0 → Merges sw sure σ τ w r

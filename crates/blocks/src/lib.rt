@@ -8,6 +8,7 @@ ghost use Prim.Native.Nat.{ℕ, suc, _+_, _-_, _*_, _≤_, _<_};
 ghost use lib.ListN.{length};
 ghost use Rattle.tables.specs.Tables.{Tables};
 ghost use Rattle.tables_lookup.specs.Lent.{Says};
+ghost use Rattle.rules.specs.Rules.{switchesOf};
 ghost use Rattle.image_writing.specs.Memory.{memory};
 ghost use Rattle.statements_returns.specs.Returns.{BlockThere};
 ghost use Rattle.scope_stack.specs.View.{rowOf, view};
@@ -42,7 +43,7 @@ fn transform_else(
         × (env .cur + 1152 ≤ 1152 * (12 - env .left)) × RowsStand (l .count) first (now rows) (rowOf (env .cur) (env .width) (l .count)) (env .width) × (length (now nodes) ≡ 26) × (length (now pl) ≡ 10) ⌝ }
     ensures { λ r. ⌜ Comes (now (s .entry)) (now (tb .entry)) (env .cur) (env .width) (stmtRows (env .cur) (env .left)) l (now (rows .entry)) (placeIn (now (pl .entry))) r (now (rows .exit)) (now (pl .exit)) × (length (now (nodes .exit)) ≡ 26) ⌝ }
     ensures { λ r. ⌜ ((T : Tables) → Says (now (s .entry)) (now (tb .entry)) T → (loop : Option ℕ) → InLoop loop (env .base) (suc (12 - env .left)) l → (faultIn (now (pl .exit)) ≡ 254 → ⊥)
-        → ElseMerges T (now (s .entry)) (env .left) (12 - env .left) loop (sureIn (now (pl .entry))) (view l st (now (rows .entry)) (env .cur) (env .width)) (view l first (now (rows .entry)) (rowOf (env .cur) (env .width) (l .count)) (env .width))
+        → ElseMerges (switchesOf (env .switches)) T (now (s .entry)) (env .left) (12 - env .left) loop (sureIn (now (pl .entry))) (view l st (now (rows .entry)) (env .cur) (env .width)) (view l first (now (rows .entry)) (rowOf (env .cur) (env .width) (l .count)) (env .width))
         (placeIn (now (pl .entry))) (memory (now (out .entry)) (now (errs .entry)) (now (warns .entry)) (now (lefts .entry))) (walkedIn (now (pl .exit)) (view l r (now (rows .exit)) (env .cur) (env .width))) (memory (now (out .exit)) (now (errs .exit)) (now (warns .exit)) (now (lefts .exit)))) ⌝ }
 {
     let n = l.count;
@@ -76,7 +77,7 @@ fn transform_blocks(
         × (env .cur + 1152 ≤ 1152 * (12 - env .left)) × (length (now nodes) ≡ 26) × (length (now pl) ≡ 10) ⌝ }
     ensures { λ r. ⌜ Comes (now (s .entry)) (now (tb .entry)) (env .cur) (env .width) (stmtRows (env .cur) (env .left)) l (now (rows .entry)) (placeIn (now (pl .entry))) r (now (rows .exit)) (now (pl .exit)) × (length (now (nodes .exit)) ≡ 26) ⌝ }
     ensures { λ r. ⌜ ((T : Tables) → Says (now (s .entry)) (now (tb .entry)) T → (loop : Option ℕ) → InLoop loop (env .base) (suc (12 - env .left)) l → (faultIn (now (pl .exit)) ≡ 254 → ⊥)
-        → TagWalks T (now (s .entry)) (env .left) (12 - env .left) loop tag (view l st (now (rows .entry)) (env .cur) (env .width))
+        → TagWalks (switchesOf (env .switches)) T (now (s .entry)) (env .left) (12 - env .left) loop tag (view l st (now (rows .entry)) (env .cur) (env .width))
         (placeIn (now (pl .entry))) (memory (now (out .entry)) (now (errs .entry)) (now (warns .entry)) (now (lefts .entry))) (walkedIn (now (pl .exit)) (view l r (now (rows .exit)) (env .cur) (env .width))) (memory (now (out .exit)) (now (errs .exit)) (now (warns .exit)) (now (lefts .exit)))) ⌝ }
 {
     if tag == 1 {
@@ -131,7 +132,7 @@ pub fn transform_block(
         × (env .cur ≤ 1152 * (12 - env .left)) × (length (now nodes) ≡ 26) × (length (now pl) ≡ 10) ⌝ }
     ensures { λ r. ⌜ Comes (now (s .entry)) (now (tb .entry)) (env .cur) (env .width) (blockRows (env .cur) (env .left)) outer (now (rows .entry)) (placeIn (now (pl .entry))) r (now (rows .exit)) (now (pl .exit)) × (length (now (nodes .exit)) ≡ 26) ⌝ }
     ensures { λ r. ⌜ ((T : Tables) → Says (now (s .entry)) (now (tb .entry)) T → (loop : Option ℕ) → InLoop loop (env .base) (suc (12 - env .left)) outer → (faultIn (now (pl .exit)) ≡ 254 → ⊥)
-        → BlockWalks T (now (s .entry)) (env .left) (suc (12 - env .left)) loop (view outer states (now (rows .entry)) (env .cur) (env .width))
+        → BlockWalks (switchesOf (env .switches)) T (now (s .entry)) (env .left) (suc (12 - env .left)) loop (view outer states (now (rows .entry)) (env .cur) (env .width))
         (placeIn (now (pl .entry))) (memory (now (out .entry)) (now (errs .entry)) (now (warns .entry)) (now (lefts .entry))) (walkedIn (now (pl .exit)) (view outer r (now (rows .exit)) (env .cur) (env .width))) (memory (now (out .exit)) (now (errs .exit)) (now (warns .exit)) (now (lefts .exit)))) ⌝ }
 {
     let start = blocks_ends::place_in(&*pl);
@@ -166,6 +167,7 @@ pub fn transform_block(
             Turn::Over => {
                 blocks_ends::end_block(
                     s,
+                    env.switches,
                     env.left,
                     start,
                     c.place,

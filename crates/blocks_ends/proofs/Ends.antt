@@ -6,6 +6,7 @@ use mathlib.Core.Bool.{Bool, _&&_}
 use mathlib.Core.List.{List}
 use lib.Dec.{leb}
 use lib.ListN.{length}
+use Rattle.rules.specs.Rules.{Switches}
 use Rattle.image_fields.specs.Number.{two, four}
 use Rattle.image_fields.specs.Bytes.{twoBytes}
 use Rattle.tables.specs.Tables.{Tables}
@@ -52,13 +53,13 @@ module _ (start p : Place) where
       }
 
   -- the end, from its parts: total and span as the code has them
-  module _ (T : Tables) (s : List ℕ) (left d gap : ℕ) (σ : Scope Status) (out : List ℕ) where
+  module _ (sw : Switches) (T : Tables) (s : List ℕ) (left d gap : ℕ) (σ : Scope Status) (out : List ℕ) where
     pub ends-told : {mid out′ pl : List ℕ} {total span written count next : ℕ} {sure fits : Bool} {q : Place} {after : Scope Status} → total ≡ two s (start .at + 4)
         → span ≡ four s (start .at) → LastReturns s (left - 1) total (p .last) sure
-        → Stored out (p .written) (deleteBytes (tail T sure d span σ)) mid written × (count ≡ length (tail T sure d span σ))
+        → Stored out (p .written) (deleteBytes (tail sw T sure d span σ)) mid written × (count ≡ length (tail sw T sure d span σ))
         → Stored mid gap (twoBytes ((total + p .inserted + count) % 65536)) out′ next
         → fits ≡ (p .fits && leb (total + p .inserted + count) 65535) → Tells pl 0 sure q → q ≡ endedIn start p written fits → after ≡ pop d σ
-        → Ends T s left d σ start gap p out (walkedIn pl after) out′
+        → Ends sw T s left d σ start gap p out (walkedIn pl after) out′
     ends-told {mid} {out′} {pl} {total} {span} {written} {count} {next} {sure} {fits} {q} {after} et es last put stored fit t e is =
-        subst (λ (w : Walked). Ends T s left d σ start gap p out w out′) (sym (told-walked pl 0 sure q (endedIn start p written fits) t e after))
-        (block-ends T s left d σ start gap p out et es last put stored fit is)
+        subst (λ (w : Walked). Ends sw T s left d σ start gap p out w out′) (sym (told-walked pl 0 sure q (endedIn start p written fits) t e after))
+        (block-ends sw T s left d σ start gap p out et es last put stored fit is)

@@ -1,7 +1,7 @@
 -- What the code before, between and behind blocks requires and does; the numbers of a walk are lent.
 use Prim.Native.Nat.{ℕ, _+_, _-_, _%_, _≤_, _<_}
 use mathlib.Core.Path.{_≡_}
-use mathlib.Core.Bool.{Bool, false}
+use mathlib.Core.Bool.{Bool, false, cond, _&&_}
 use mathlib.Core.List.{List, [], _∷_}
 use lib.Dec.{eqb, leb}
 use lib.ListN.{length, getD}
@@ -9,6 +9,8 @@ use Rattle.image_fields.specs.Number.{two, four}
 use Rattle.image_fields.specs.Bytes.{fourBytes}
 use Rattle.rules.specs.State.{State as Status}
 use Rattle.rules.specs.Stack.{Stack as Scope}
+use Rattle.rules.specs.Rules.{Switches, switchesOf, atEnd, concerns}
+use Rattle.scope_state.specs.Locals.{staticIn}
 use Rattle.image_writing.specs.Stored.{Stored}
 use Rattle.statements_returns.specs.Returns.{StmtThere}
 use Rattle.statements_acts.specs.declared.Named.the-variants.{Nobody}
@@ -42,7 +44,7 @@ pub record Tells (pl : List ℕ) (k : ℕ) (b : Bool) (p : Place) : Type 0 where
 
 -- the numbers of the walk of a block's statements
 abbrev pub innerOf : Env → Env
-innerOf env = record { left = env .left - 1; limit = env .limit; width = env .width; cur = env .cur; base = env .base }
+innerOf env = record { left = env .left - 1; limit = env .limit; width = env .width; cur = env .cur; base = env .base; switches = env .switches }
 
 -- the head of the block at a place: its span, and room for its count
 pub record Heads (s : List ℕ) (p : Place) (out : List ℕ) (c : Cursor) (out′ : List ℕ) : Type 0 where
@@ -60,10 +62,20 @@ pub record Flags (s out pl : List ℕ) (r : ℕ) (out′ pl′ : List ℕ) : Typ
   pub stored : Stored out (placeIn pl .written) (r ∷ []) out′ (placeIn pl′ .written)
   pub tells : Tells pl′ (faultIn pl) (sureIn pl) (flagged (placeIn pl) (placeIn pl′ .written))
 
--- of n locals, at most 64, those from base on, and no others, are of depth d: a block's own frame
+-- of n locals, at most 64, those from base on, and no others, are of depth d: a block's own frame; those before are of lesser depth
 pub record Frame (depths : List ℕ) (base d n : ℕ) : Type 0 where
   pub few : n ≤ 64
   pub own : (i : ℕ) → i < n → eqb (getD depths i 0) d ≡ leb base i
+  pub outer : (i : ℕ) → i < n → i < base → getD depths i 0 < d
+
+-- those from base on, and no others, are deleted at the end of a block of depth d
+pub record Due (w : Switches) (depths : List ℕ) (base d n : ℕ) : Type 0 where
+  pub few : n ≤ 64
+  pub own : (names types births : List ℕ) (i : ℕ) → i < n → concerns w (atEnd d) (staticIn names types depths births i) ≡ leb base i
+
+-- the first of them: of the block's own locals, or, at the end of the body's block with switch 4 on, of all (02, e)
+abbrev pub firstOf : ℕ → ℕ → ℕ → ℕ
+firstOf v left base = cond (switchesOf v .parameters && leb 12 left) 0 base
 
 -- what the end of a block requires
 pub record EndThere (s : List ℕ) (left : ℕ) (start p : Place) : Type 0 where

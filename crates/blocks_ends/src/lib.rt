@@ -9,6 +9,7 @@ ghost use lib.Dec.{leb, eqb};
 ghost use lib.ListN.{length, getD};
 ghost use Rattle.tables.specs.Tables.{Tables};
 ghost use Rattle.rules.specs.State.{State as Status};
+ghost use Rattle.rules.specs.Rules.{Switches, switchesOf};
 ghost use Rattle.rules.specs.Stack.{pop, Stack as Scope};
 ghost use Rattle.image_writing.specs.Stored.{Stored};
 ghost use Rattle.statements_steps.specs.Drops.{deleteBytes};
@@ -19,7 +20,7 @@ ghost use Rattle.statements_changes.specs.Turns.{betweenOf};
 ghost use Rattle.statements_acts.specs.Marks.{lent, Marked};
 ghost use Rattle.blocks_laws.specs.Ends.{LastReturns, tail, Ends};
 ghost use Rattle.blocks_laws.specs.Places.{headed};
-ghost use Rattle.blocks_ends.specs.Ends.{placeIn, walkedIn, Tells, innerOf, Heads, Loops, Flags, Frame, EndThere, Ended};
+ghost use Rattle.blocks_ends.specs.Ends.{placeIn, walkedIn, Tells, innerOf, Heads, Loops, Flags, firstOf, Due, Frame, EndThere, Ended};
 use scope_state::Names;
 use scope_state::Types;
 use statements_acts::Named;
@@ -27,13 +28,14 @@ use statements_acts::Place;
 use statements_changes::Cursor;
 
 // How much depth is left for blocks, how many locals and places there may be, where the rows of this stack begin, and how many locals there
-// were before the nearest loop, 64 outside any.
+// were before the nearest loop, 64 outside any; and the switches.
 pub struct Env {
     pub left: usize,
     pub limit: usize,
     pub width: usize,
     pub cur: usize,
     pub base: usize,
+    pub switches: u32,
 }
 
 pub fn place_in(pl: &[usize; 10]) -> Place
@@ -99,6 +101,7 @@ pub fn inner(env: Env) -> Env
         width: env.width,
         cur: env.cur,
         base: env.base,
+        switches: env.switches,
     }
 }
 
@@ -111,7 +114,7 @@ pub fn full(env: Env, count: usize) -> bool
 
 // Those for the walk up to the next change of a stack of so many locals.
 pub fn scanning(env: Env, count: usize, mark: u64) -> expressions_scan::Env
-    ensures { λ r. ⌜ r ≡ record { left = env .left; locals = count; mark = mark; base = env .base; cur = env .cur; width = env .width } ⌝ }
+    ensures { λ r. ⌜ r ≡ record { left = env .left; locals = count; mark = mark; base = env .base; cur = env .cur; width = env .width; switches = env .switches } ⌝ }
 {
     expressions_scan::Env {
         left: env.left,
@@ -120,6 +123,7 @@ pub fn scanning(env: Env, count: usize, mark: u64) -> expressions_scan::Env
         base: env.base,
         cur: env.cur,
         width: env.width,
+        switches: env.switches,
     }
 }
 
@@ -200,9 +204,9 @@ fn put_tail<'a>(
     at: usize,
 ) -> statements_acts::Put
     requires { ⌜ (at < 4294900000) × (base ≤ 64) ⌝ }
-    ensures { λ r. ⌜ (r .at ≤ at + 1344) × (r .count ≤ 64) × ((T : Tables) (ld births : List ℕ) (g : ℕ → Status) (n depth : ℕ) → Marked T (now (lt .entry)) g n mark → Frame ld base depth n
-        → Stored (now (out .entry)) at (deleteBytes (tail T «sure» depth span (lent (now (ln .entry)) (now (lt .entry)) ld births g n))) (now (out .exit)) (r .at)
-        × (r .count ≡ length (tail T «sure» depth span (lent (now (ln .entry)) (now (lt .entry)) ld births g n)))) ⌝ }
+    ensures { λ r. ⌜ (r .at ≤ at + 1344) × (r .count ≤ 64) × ((w : Switches) (T : Tables) (ld births : List ℕ) (g : ℕ → Status) (n depth : ℕ) → Marked T (now (lt .entry)) g n mark → Due w ld base depth n
+        → Stored (now (out .entry)) at (deleteBytes (tail w T «sure» depth span (lent (now (ln .entry)) (now (lt .entry)) ld births g n))) (now (out .exit)) (r .at)
+        × (r .count ≡ length (tail w T «sure» depth span (lent (now (ln .entry)) (now (lt .entry)) ld births g n)))) ⌝ }
 {
     if sure {
         return statements_acts::Put { at: at, count: 0 };
@@ -239,9 +243,22 @@ fn ended(start: Place, p: Place, at: usize, fits: bool) -> Place
     }
 }
 
-// The end of the block that began at a place: the deletes of its own locals, those from base on, and the count.
+// The locals that the end of a block deletes begin with its own; with switch 4, at the end of the body's block, with the first.
+fn first_of(switches: u32, left: usize, base: usize) -> usize
+    ensures { λ r. ⌜ r ≡ firstOf switches left base ⌝ }
+{
+    if statements_acts::has_switch(switches, 8) {
+        if 12 <= left {
+            return 0;
+        }
+    }
+    base
+}
+
+// The end of the block that began at a place: the deletes of its own locals, those from base on (but for first_of), and the count.
 pub fn end_block<'a>(
     s: &[u8],
+    switches: u32,
     left: usize,
     start: Place,
     p: Place,
@@ -255,14 +272,15 @@ pub fn end_block<'a>(
     requires { ⌜ EndThere (now s) left start p × (base ≤ 64) × (length (now pl) ≡ 10) ⌝ }
     ensures { λ r. ⌜ ((T : Tables) (ld births : List ℕ) (g : ℕ → Status) (n : ℕ) → Marked T (now (lt .entry)) g n mark → Frame ld base (suc (12 - left)) n
         → (σ : Scope Status) → σ ≡ pop (suc (12 - left)) (lent (now (ln .entry)) (now (lt .entry)) ld births g n)
-        → Ends T (now (s .entry)) left (suc (12 - left)) (lent (now (ln .entry)) (now (lt .entry)) ld births g n) start (start .written + 4) p (now (out .entry))
+        → Ends (switchesOf switches) T (now (s .entry)) left (suc (12 - left)) (lent (now (ln .entry)) (now (lt .entry)) ld births g n) start (start .written + 4) p (now (out .entry))
         (walkedIn (now (pl .exit)) σ) (now (out .exit)))
         × Ended start p (now (pl .exit)) ⌝ }
 {
     let total = image_fields::two_at(s, start.at + 4);
     let sure = ends_in_return(s, left - 1, total, p.last);
     let span = expressions_effects::span_at(s, start.at);
-    let put = put_tail(ln, lt, mark, base, sure, span, out, p.written);
+    let first = first_of(switches, left, base);
+    let put = put_tail(ln, lt, mark, first, sure, span, out, p.written);
     let count = total + p.inserted + put.count;
     image_writing::put_two(out, start.written + 4, (count % 65536) as u16);
     let fits = fitting(p.fits, count);

@@ -20,7 +20,7 @@ use Rattle.image_body.proofs.Statements.{BlockParts}
 use Rattle.image_encoding.specs.Body.{size, encodeCode, withCount, encodeBlock}
 use Rattle.rules.specs.State.{State as Status}
 use Rattle.rules.specs.Stack.{Stack as Scope}
-use Rattle.rules.specs.Rules.{Drop, states, sureFrom, exit}
+use Rattle.rules.specs.Rules.{Drop, states, sureFrom, exit, Switches}
 use Rattle.rules.specs.Report.{Report, report, inserts, errors, warnings, lefts, codeBytes}
 use Rattle.rules.specs.Verdict.{entriesOf, countsFit}
 use Rattle.statements_steps.specs.Drops.{deleteBytes}
@@ -81,20 +81,20 @@ pub record Inside (s : List ℕ) (p q : Place) (gap : ℕ) : Type 0 where
   pub fits : q .fits ≡ p .fits
   pub paged : q .paged ≡ p .paged
 
-module _ (T : Tables) (s : List ℕ) (t : Reading) (deep : t .exprDepth ≡ 24) (left d : ℕ) (loop : Option ℕ) (b : Block) (n : ℕ) (σ σ′ : Scope Status)
+module _ (sw : Switches) (T : Tables) (s : List ℕ) (t : Reading) (deep : t .exprDepth ≡ 24) (left d : ℕ) (loop : Option ℕ) (b : Block) (n : ℕ) (σ σ′ : Scope Status)
     (p q p′ : Place) (m m₁ m₂ : Memory) (gap : ℕ) (r : Walked) (out′ : List ℕ)
     (parts : BlockParts t s left (p .at) b n) (inside : Inside s p q gap)
     (head : Stored (m .out) (p .written) (fourBytes (four s (p .at))) (m₁ .out) gap)
-    (g : Leads T s t (left - 1) d loop (two s (p .at + 4)) (b .code) σ q m₁ 0 σ′ p′ m₂ n)
-    (e : Ends T s left d σ′ p gap p′ (m₂ .out) r out′) where
+    (g : Leads sw T s t (left - 1) d loop (two s (p .at + 4)) (b .code) σ q m₁ 0 σ′ p′ m₂ n)
+    (e : Ends sw T s left d σ′ p gap p′ (m₂ .out) r out′) where
   abbrev ds : List Drop
-  ds = tail T (r .sure) d (four s (p .at)) σ′
+  ds = tail sw T (r .sure) d (four s (p .at)) σ′
 
   abbrev count : ℕ
   count = two s (p .at + 4) + p′ .inserted + length ds
 
   ended : (g .c ≡ done tt) × (n ≡ p′ .at)
-  ended = leads-end T s t (left - 1) d loop (two s (p .at + 4)) (b .code) σ q m₁ n σ′ p′ m₂ g
+  ended = leads-end sw T s t (left - 1) d loop (two s (p .at + 4)) (b .code) σ q m₁ n σ′ p′ m₂ g
 
   -- the last statement says whether the block surely returns
   surely : (k : ℕ) → two s (p .at + 4) ≡ k → r .sure ≡ g .f
@@ -107,14 +107,14 @@ module _ (T : Tables) (s : List ℕ) (t : Reading) (deep : t .exprDepth ≡ 24) 
   sure = surely (two s (p .at + 4)) refl
 
   -- what is left of the statements are the deletes
-  left-over : (c : Tree) → g .c ≡ c → c ≡ done tt → returned T (g .c) (four s (p .at)) d (g .f) σ′ ≡ inserts ds (done tt)
-  left-over c ec ed = ap (λ (x : Tree). returned T x (four s (p .at)) d (g .f) σ′) (ec ∙ ed) ∙ ap (λ (f : Bool). inserts (tail T f d (four s (p .at)) σ′) (done tt)) (sym sure)
+  left-over : (c : Tree) → g .c ≡ c → c ≡ done tt → returned sw T (g .c) (four s (p .at)) d loop (g .f) σ′ ≡ inserts ds (done tt)
+  left-over c ec ed = ap (λ (x : Tree). returned sw T x (four s (p .at)) d loop (g .f) σ′) (ec ∙ ed) ∙ ap (λ (f : Bool). inserts (tail sw T f d (four s (p .at)) σ′) (done tt)) (sym sure)
 
-  over : returned T (g .c) (four s (p .at)) d (g .f) σ′ ≡ inserts ds (done tt)
+  over : returned sw T (g .c) (four s (p .at)) d loop (g .f) σ′ ≡ inserts ds (done tt)
   over = left-over (done tt) (ended .0) refl
 
   abbrev whole : Tree
-  whole = returned T (b .code) (four s (p .at)) d false σ
+  whole = returned sw T (b .code) (four s (p .at)) d loop false σ
 
   code : encodeCode whole ≡ g .o .bytes ++ deleteBytes ds
   code = g .bytes (four s (p .at)) ∙ ap (λ (x : Tree). g .o .bytes ++ encodeCode x) over ∙ ap (λ (x : List ℕ). g .o .bytes ++ x) (code-end ds)
@@ -157,13 +157,13 @@ module _ (T : Tables) (s : List ℕ) (t : Reading) (deep : t .exprDepth ≡ 24) 
       let h = two-length (size whole) in
       omega (arith, head .place, inside .written, g .wrote .long, e .deletes .place)
 
-  told : report T (b .code) d loop (p .at + 6) σ ≡ g .o .reports
+  told : report sw T (b .code) d loop (p .at + 6) σ ≡ g .o .reports
   told =
-      ap (λ (k : ℕ). report T (b .code) d loop k σ) (sym (inside .at)) ∙ g .reports
-      ∙ ap (λ (x : Tree). g .o .reports ++ report T x d loop (p′ .at) σ′) (ended .0) ∙ append-nil (g .o .reports)
+      ap (λ (k : ℕ). report sw T (b .code) d loop k σ) (sym (inside .at)) ∙ g .reports
+      ∙ ap (λ (x : Tree). g .o .reports ++ report sw T x d loop (p′ .at) σ′) (ended .0) ∙ append-nil (g .o .reports)
 
   -- where a page is made, head, deletes and count are past the end
-  block-lines : p .paged ≡ true → length (m .out) ≤ p .written → Lined (cursorsAt p) (report T (b .code) d loop (p .at + 6) σ) (m .out) (cursorsAt (r .place)) out′
+  block-lines : p .paged ≡ true → length (m .out) ≤ p .written → Lined (cursorsAt p) (report sw T (b .code) d loop (p .at + 6) σ) (m .out) (cursorsAt (r .place)) out′
   block-lines y h =
       let a = past head h in
       let i = inside .written in
@@ -185,7 +185,7 @@ module _ (T : Tables) (s : List ℕ) (t : Reading) (deep : t .exprDepth ≡ 24) 
 
   -- lists are stored by the statements alone
   listed : (f : List Report → List Report) {old old₁ new new₁ : List ℕ} {i j k l : ℕ} → old₁ ≡ old → new ≡ new₁ → j ≡ i → l ≡ k
-      → Stored old₁ j (entriesOf version1 (f (g .o .reports))) new₁ k → Stored old i (entriesOf version1 (f (report T (b .code) d loop (p .at + 6) σ))) new l
+      → Stored old₁ j (entriesOf version1 (f (g .o .reports))) new₁ k → Stored old i (entriesOf version1 (f (report sw T (b .code) d loop (p .at + 6) σ))) new l
   listed f {old} {old₁} {new} {new₁} {i} {j} {k} {l} eo en ej el x =
       stored-as (ap (λ (y : List Report). entriesOf version1 (f y)) told)
       (record {
@@ -194,25 +194,25 @@ module _ (T : Tables) (s : List ℕ) (t : Reading) (deep : t .exprDepth ≡ 24) 
       })
 
   pub block-done : (m′ : Memory) → m₁ .errs ≡ m .errs → m₁ .warns ≡ m .warns → m₁ .lefts ≡ m .lefts
-      → m′ .out ≡ out′ → m′ .errs ≡ m₂ .errs → m′ .warns ≡ m₂ .warns → m′ .lefts ≡ m₂ .lefts → BlockDone T b d loop σ p m r m′ n
+      → m′ .out ≡ out′ → m′ .errs ≡ m₂ .errs → m′ .warns ≡ m₂ .warns → m′ .lefts ≡ m₂ .lefts → BlockDone sw T b d loop σ p m r m′ n
   block-done m′ a₁ a₂ a₃ b₀ b₁ b₂ b₃ = record {
     wrote = record {
       bytes = λ n fit.
-          subst (λ (x : List ℕ). Stored (m .out) (p .written) (withCount (b .span) (size (returned T (b .code) (b .span) d false σ)) (encodeCode (returned T (b .code) (b .span) d false σ))) x (r .place .written)) (sym b₀)
-          (subst (λ (sp : ℕ). Stored (m .out) (p .written) (withCount sp (size (returned T (b .code) sp d false σ)) (encodeCode (returned T (b .code) sp d false σ))) out′ (r .place .written)) (sym (parts .span))
+          subst (λ (x : List ℕ). Stored (m .out) (p .written) (withCount (b .span) (size (returned sw T (b .code) (b .span) d loop false σ)) (encodeCode (returned sw T (b .code) (b .span) d loop false σ))) x (r .place .written)) (sym b₀)
+          (subst (λ (sp : ℕ). Stored (m .out) (p .written) (withCount sp (size (returned sw T (b .code) sp d loop false σ)) (encodeCode (returned sw T (b .code) sp d loop false σ))) out′ (r .place .written)) (sym (parts .span))
           (block-bytes n fit));
       errors = λ n. listed errors a₁ b₁ (inside .errors) (e .errors) (g .wrote .errors (inside .paged ∙ n));
       warnings = λ n. listed warnings a₂ b₂ (inside .warnings) (e .warnings) (g .wrote .warnings (inside .paged ∙ n));
       lefts = λ n. listed lefts a₃ b₃ (inside .lefts) (e .lefts) (g .wrote .lefts (inside .paged ∙ n));
-      lines = λ y h. subst (λ (x : List ℕ). Lined (cursorsAt p) (report T (b .code) d loop (p .at + 6) σ) (m .out) (cursorsAt (r .place)) x) (sym b₀) (block-lines y h);
+      lines = λ y h. subst (λ (x : List ℕ). Lined (cursorsAt p) (report sw T (b .code) d loop (p .at + 6) σ) (m .out) (cursorsAt (r .place)) x) (sym b₀) (block-lines y h);
       paged = e .paged ∙ g .wrote .paged ∙ inside .paged;
-      long = subst (λ (sp : ℕ). r .place .written ≡ p .written + length (withCount sp (size (returned T (b .code) sp d false σ)) (encodeCode (returned T (b .code) sp d false σ)))) (sym (parts .span)) block-long;
-      fits = subst (λ (sp : ℕ). r .place .fits ≡ (p .fits && (leb (size (returned T (b .code) sp d false σ)) 65535 && countsFit 65535 (returned T (b .code) sp d false σ)))) (sym (parts .span)) block-fits;
+      long = subst (λ (sp : ℕ). r .place .written ≡ p .written + length (withCount sp (size (returned sw T (b .code) sp d loop false σ)) (encodeCode (returned sw T (b .code) sp d loop false σ)))) (sym (parts .span)) block-long;
+      fits = subst (λ (sp : ℕ). r .place .fits ≡ (p .fits && (leb (size (returned sw T (b .code) sp d loop false σ)) 65535 && countsFit 65535 (returned sw T (b .code) sp d loop false σ)))) (sym (parts .span)) block-fits;
     };
     inserted = e .inserted;
     last = e .last;
     at = e .at ∙ sym (ended .1);
-    locals = e .locals ∙ sym (g .after ∙ ap (λ (x : Tree). exit states T x d σ′) (ended .0));
+    locals = e .locals ∙ sym (g .after ∙ ap (λ (x : Tree). exit (states sw) T x d σ′) (ended .0));
     sure = sure ∙ sym (g .sure ∙ ap (λ (x : Tree). sureFrom x (g .f)) (ended .0));
   }
 
@@ -227,10 +227,10 @@ block-end s small t left at b next e =
     let k = length-append (twoBytes (size (b .code))) (encodeCode (b .code)) in
     omega arith
 
-module _ (T : Tables) (s : List ℕ) (small : Bytes s) (t : Reading) (left d : ℕ) (loop : Option ℕ) (σ : Scope Status) (p : Place) (m : Memory) where
+module _ (sw : Switches) (T : Tables) (s : List ℕ) (small : Bytes s) (t : Reading) (left d : ℕ) (loop : Option ℕ) (σ : Scope Status) (p : Place) (m : Memory) where
   -- a Block statement
-  pub block-blocks : (b : Block) (r : Walked) (m′ : Memory) (next : ℕ) → (r .fault ≡ numberOf (walkFault version1 T (b .code) (suc d) σ))
-      × (walkFault version1 T (b .code) (suc d) σ ≡ none → BlockDone T b (suc d) loop σ p m r m′ next) → (c : Tree) → BlocksWalk T (block (b .span) (b .code) c) d loop σ p m r m′ next
+  pub block-blocks : (b : Block) (r : Walked) (m′ : Memory) (next : ℕ) → (r .fault ≡ numberOf (walkFault version1 sw T (b .code) (suc d) σ))
+      × (walkFault version1 sw T (b .code) (suc d) σ ≡ none → BlockDone sw T b (suc d) loop σ p m r m′ next) → (c : Tree) → BlocksWalk sw T (block (b .span) (b .code) c) d loop σ p m r m′ next
   block-blocks b r m′ next h c = record {
     fault = h .0;
     done = λ e. let g = h .1 e in record { wrote = g .wrote; inserted = g .inserted; last = g .last; at = g .at; locals = g .locals };

@@ -11,7 +11,7 @@ use Rattle.image_fields.specs.Bytes.{twoBytes}
 use Rattle.tables.specs.Tables.{Tables}
 use Rattle.rules.specs.State.{State as Status}
 use Rattle.rules.specs.Stack.{pop, Stack as Scope}
-use Rattle.rules.specs.Rules.{Drop, states, tailDrops}
+use Rattle.rules.specs.Rules.{Drop, states, Switches, concerns, endDrops}
 use Rattle.image_writing.specs.Stored.{Stored}
 use Rattle.statements_acts.specs.declared.Place.{Place}
 use Rattle.statements_acts.proofs.Laws.{none-put}
@@ -23,14 +23,14 @@ use Rattle.statements_steps.specs.Drops.{deleteBytes}
 abbrev Puts : List ℕ → ℕ → List Drop → List ℕ → ℕ → ℕ → Type 0
 Puts old at x new next count = Stored old at (deleteBytes x) new next × (count ≡ length x)
 
-module _ (T : Tables) (sure : Bool) (d sp : ℕ) (σ : Scope Status) where
+module _ (sw : Switches) (T : Tables) (sure : Bool) (d sp : ℕ) (σ : Scope Status) where
   -- a block that surely returns has no deletes at its end
-  pub tail-none : sure ≡ true → (old : List ℕ) (at : ℕ) → Puts old at (tail T sure d sp σ) old at 0
-  tail-none e old at = none-put old at (tail T sure d sp σ) (rw e refl)
+  pub tail-none : sure ≡ true → (old : List ℕ) (at : ℕ) → Puts old at (tail sw T sure d sp σ) old at 0
+  tail-none e old at = none-put old at (tail sw T sure d sp σ) (rw e refl)
 
   -- another has those of its frame, however they are come by
-  pub tail-frame : sure ≡ false → {x : List Drop} → x ≡ tailDrops states T d sp σ → {old : List ℕ} {at : ℕ} {new : List ℕ} {next count : ℕ} → Puts old at x new next count
-      → Puts old at (tail T sure d sp σ) new next count
+  pub tail-frame : sure ≡ false → {x : List Drop} → x ≡ endDrops (states sw) T (concerns sw) d sp σ → {old : List ℕ} {at : ℕ} {new : List ℕ} {next count : ℕ} → Puts old at x new next count
+      → Puts old at (tail sw T sure d sp σ) new next count
   tail-frame e ex {old} {at} {new} {next} {count} h = rw e (subst (λ (y : List Drop). Puts old at y new next count) ex h)
 
 -- what the walk comes to
@@ -43,15 +43,15 @@ endedAt start p written fits sure after = record {
 }
 
 -- the end of a block, from its parts: total and span as the code has them
-module _ (T : Tables) (s : List ℕ) (left d : ℕ) (σ : Scope Status) (start : Place) (gap : ℕ) (p : Place) (out : List ℕ) where
+module _ (sw : Switches) (T : Tables) (s : List ℕ) (left d : ℕ) (σ : Scope Status) (start : Place) (gap : ℕ) (p : Place) (out : List ℕ) where
   pub block-ends : {mid out′ : List ℕ} {total span written count next : ℕ} {sure fits : Bool} {after : Scope Status} → total ≡ two s (start .at + 4)
       → span ≡ four s (start .at) → LastReturns s (left - 1) total (p .last) sure
-      → Puts out (p .written) (tail T sure d span σ) mid written count → Stored mid gap (twoBytes ((total + p .inserted + count) % 65536)) out′ next
+      → Puts out (p .written) (tail sw T sure d span σ) mid written count → Stored mid gap (twoBytes ((total + p .inserted + count) % 65536)) out′ next
       → fits ≡ (p .fits && leb (total + p .inserted + count) 65535) → after ≡ pop d σ
-      → Ends T s left d σ start gap p out (endedAt start p written fits sure after) out′
+      → Ends sw T s left d σ start gap p out (endedAt start p written fits sure after) out′
   block-ends {mid} {out′} {total} {span} {written} {count} {next} {sure} {fits} {after} et es last put stored fit is =
-      let tails : tail T sure d span σ ≡ tail T sure d (four s (start .at)) σ = rw es in
-      let many : total + p .inserted + count ≡ two s (start .at + 4) + p .inserted + length (tail T sure d (four s (start .at)) σ) = rw (et, put .1, tails) in
+      let tails : tail sw T sure d span σ ≡ tail sw T sure d (four s (start .at)) σ = rw es in
+      let many : total + p .inserted + count ≡ two s (start .at + 4) + p .inserted + length (tail sw T sure d (four s (start .at)) σ) = rw (et, put .1, tails) in
       record {
         none-last = λ z. last .none (et ∙ z);
         some-last = λ h. last .some (subst (λ (k : ℕ). 0 < k) (sym et) h);

@@ -7,6 +7,7 @@ use mathlib.Core.Bool.{Bool, true, false, _&&_}
 use mathlib.Core.List.{List, _++_, append-nil}
 use mathlib.Core.Option.{Option, none}
 use lib.ListN.{length}
+use Rattle.rules.specs.Rules.{Switches}
 use Rattle.image_fields.specs.Parsed.{ok}
 use Rattle.image_fields.specs.Bytes.{Bytes}
 use Rattle.tables.specs.Limits.{version1}
@@ -58,9 +59,9 @@ pub record Told (p q : Place) : Type 0 where
 at-place : {xs ys vs : List ℕ} {i j k : ℕ} → i ≡ j → Stored xs i vs ys k → Stored xs j vs ys k
 at-place {xs} {ys} {vs} {i} {j} {k} e x = subst (λ (n : ℕ). Stored xs n vs ys k) e x
 
-module _ (T : Tables) (c : Tree) (d : ℕ) (loop : Option ℕ) (σ : Scope Status) (p q : Place) (a : Act) (out out₁ errs warns left out′ errs′ warns′ left′ : List ℕ) (e : Told p q)
+module _ (sw : Switches) (T : Tables) (c : Tree) (d : ℕ) (loop : Option ℕ) (σ : Scope Status) (p q : Place) (a : Act) (out out₁ errs warns left out′ errs′ warns′ left′ : List ℕ) (e : Told p q)
     (told : Listed (p .paged) (toldAll T (valuesOf c) σ) errs out (p .errors) errs′ out₁ (q .errors))
-    (acts : Acts T c loop (valued T c σ) q out₁ warns left a out′ warns′ left′) where
+    (acts : Acts sw T c loop (valued T c σ) q out₁ warns left a out′ warns′ left′) where
   abbrev before-it : Memory
   before-it = record { out = out; errs = errs; warns = warns; lefts = left }
 
@@ -71,27 +72,27 @@ module _ (T : Tables) (c : Tree) (d : ℕ) (loop : Option ℕ) (σ : Scope Statu
   here = all-errors (resolveAll (shape σ) (group T false (valuesOf c))) σ
 
   abbrev fronts : List Report
-  fronts = frontReports T c loop (p .at) (valued T c σ)
+  fronts = frontReports sw T c loop (p .at) (valued T c σ)
 
-  pub front-wrote : Wrote (frontOwn T c loop (p .at) σ) p before-it (a .place) after-it
+  pub front-wrote : Wrote (frontOwn sw T c loop (p .at) σ) p before-it (a .place) after-it
   front-wrote = record {
     bytes = λ n h. at-place (e .written) (stored-from (told .numbers n .0) (acts .bytes (e .paged ∙ n)));
     long = let l = acts .long in let w = e .written in omega arith;
     errors = λ n.
         let g : errors (toldAll T (valuesOf c) σ ++ fronts) ≡ toldAll T (valuesOf c) σ =
-        errors-append (toldAll T (valuesOf c) σ) fronts ∙ ap (λ (x : List Report). errors (toldAll T (valuesOf c) σ) ++ x) (front-errors T c loop (p .at) (valued T c σ))
+        errors-append (toldAll T (valuesOf c) σ) fronts ∙ ap (λ (x : List Report). errors (toldAll T (valuesOf c) σ) ++ x) (front-errors sw T c loop (p .at) (valued T c σ))
         ∙ append-nil (errors (toldAll T (valuesOf c) σ)) ∙ here .0 in
         let t = told .numbers n .1 in
         stored-as (ap (entriesOf version1) g) (record { cells = t .cells; place = acts .errors ∙ t .place });
     warnings = λ n.
-        let g : warnings (toldAll T (valuesOf c) σ ++ fronts) ≡ warnings (frontReports T c loop (q .at) (valued T c σ)) =
+        let g : warnings (toldAll T (valuesOf c) σ ++ fronts) ≡ warnings (frontReports sw T c loop (q .at) (valued T c σ)) =
         warnings-append (toldAll T (valuesOf c) σ) fronts ∙ ap (λ (x : List Report). x ++ warnings fronts) (here .1)
-        ∙ ap (λ (k : ℕ). warnings (frontReports T c loop k (valued T c σ))) (sym (e .at)) in
+        ∙ ap (λ (k : ℕ). warnings (frontReports sw T c loop k (valued T c σ))) (sym (e .at)) in
         stored-as (ap (entriesOf version1) g) (at-place (e .warnings) (acts .warned (e .paged ∙ n)));
     lefts = λ n.
-        let g : lefts (toldAll T (valuesOf c) σ ++ fronts) ≡ lefts (frontReports T c loop (q .at) (valued T c σ)) =
+        let g : lefts (toldAll T (valuesOf c) σ ++ fronts) ≡ lefts (frontReports sw T c loop (q .at) (valued T c σ)) =
         lefts-append (toldAll T (valuesOf c) σ) fronts ∙ ap (λ (x : List Report). x ++ lefts fronts) (here .2)
-        ∙ ap (λ (k : ℕ). lefts (frontReports T c loop k (valued T c σ))) (sym (e .at)) in
+        ∙ ap (λ (k : ℕ). lefts (frontReports sw T c loop k (valued T c σ))) (sym (e .at)) in
         stored-as (ap (entriesOf version1) g) (at-place (e .lefts) (acts .listed (e .paged ∙ n)));
     lines = λ y h.
         let t = told .lines y in
@@ -100,7 +101,7 @@ module _ (T : Tables) (c : Tree) (d : ℕ) (loop : Option ℕ) (σ : Scope Statu
         let u = lined-errors (p .errors) (p .warnings) (p .lefts) (here .0) (here .1) (here .2) t in
         let v = acts .lines (e .paged ∙ y) (omega arith) in
         let same : cursorsAt q ≡ cursors (q .errors) (p .warnings) (p .lefts) = rw (e .warnings, e .lefts) in
-        let reported : frontReports T c loop (q .at) (valued T c σ) ≡ fronts = ap (λ (k : ℕ). frontReports T c loop k (valued T c σ)) (e .at) in
+        let reported : frontReports sw T c loop (q .at) (valued T c σ) ≡ fronts = ap (λ (k : ℕ). frontReports sw T c loop k (valued T c σ)) (e .at) in
         lined-both u (subst (λ (x : Cursors). Lined x fronts out₁ (cursorsAt (a .place)) out′) same (subst (λ (x : List Report). Lined (cursorsAt q) x out₁ (cursorsAt (a .place)) out′) reported v));
     fits = and-none (a .place .fits) (p .fits) (acts .fits ∙ e .fits);
     paged = acts .paged ∙ e .paged;
@@ -108,11 +109,11 @@ module _ (T : Tables) (c : Tree) (d : ℕ) (loop : Option ℕ) (σ : Scope Statu
 
   -- a statement without blocks: the place behind its front is the place behind it
   pub plain-done : (s : List ℕ) → Bytes s → (t : Reading) (left : ℕ) (x : Stmt) (next : ℕ) → stmtIn t s left (p .at) ≡ ok x next → (r : Tree) → before x r ≡ c → blockless c ≡ true
-      → (σ′ : Scope Status) → σ′ ≡ settle T c d (valued T c σ) → StmtDone T c d loop σ p before-it (a .place) after-it σ′ next
+      → (σ′ : Scope Status) → σ′ ≡ settle T c d (valued T c σ) → StmtDone sw T c d loop σ p before-it (a .place) after-it σ′ next
   plain-done s small t left x next read r is plain σ′ loc = record {
-    wrote = wrote-as (ap (both (frontOwn T c loop (p .at) σ)) (blockless-own T c d loop (p .at + frontSize c) (valued T c σ) plain))
+    wrote = wrote-as (ap (both (frontOwn sw T c loop (p .at) σ)) (blockless-own sw T c d loop (p .at + frontSize c) (valued T c σ) plain))
         (wrote-both front-wrote (wrote-nothing (record { written = refl; errors = refl; warnings = refl; lefts = refl; fits = refl; paged = refl })));
-    inserted = acts .inserted ∙ ap (λ (k : ℕ). k + length (frontDrops T c (valued T c σ))) (e .inserted);
+    inserted = acts .inserted ∙ ap (λ (k : ℕ). k + length (frontDrops sw T c loop (valued T c σ))) (e .inserted);
     last = acts .last ∙ e .at;
     at =
         let w = subst (λ (b : Tree). next ≡ p .at + frontSize b + blocksSize b) is (stmt-end s small t left (p .at) x next read r) in
@@ -120,18 +121,18 @@ module _ (T : Tables) (c : Tree) (d : ℕ) (loop : Option ℕ) (σ : Scope Statu
         let u = acts .at in
         let v = e .at in
         omega arith;
-    locals = loc ∙ sym (blockless-after T c d (valued T c σ) plain);
+    locals = loc ∙ sym (blockless-after sw T c d (valued T c σ) plain);
   }
 
   -- a statement with blocks
-  pub blocks-done : (r : Walked) (m′ : Memory) (next : ℕ) → BlocksWalk T c d loop (valued T c σ) (a .place) after-it r m′ next → ownFault T c d σ ≡ none
-      → StmtDone T c d loop σ p before-it (r .place) m′ (r .locals) next
+  pub blocks-done : (r : Walked) (m′ : Memory) (next : ℕ) → BlocksWalk sw T c d loop (valued T c σ) (a .place) after-it r m′ next → ownFault sw T c d σ ≡ none
+      → StmtDone sw T c d loop σ p before-it (r .place) m′ (r .locals) next
   blocks-done r m′ next g clear =
       let b = g .done clear in
       record {
-        wrote = wrote-as (ap (λ (k : ℕ). both (frontOwn T c loop (p .at) σ) (blocksOwn T c d loop k (valued T c σ))) (sym (acts .at ∙ ap (λ (k : ℕ). k + frontSize c) (e .at))))
+        wrote = wrote-as (ap (λ (k : ℕ). both (frontOwn sw T c loop (p .at) σ) (blocksOwn sw T c d loop k (valued T c σ))) (sym (acts .at ∙ ap (λ (k : ℕ). k + frontSize c) (e .at))))
             (wrote-both front-wrote (b .wrote));
-        inserted = b .inserted ∙ acts .inserted ∙ ap (λ (k : ℕ). k + length (frontDrops T c (valued T c σ))) (e .inserted);
+        inserted = b .inserted ∙ acts .inserted ∙ ap (λ (k : ℕ). k + length (frontDrops sw T c loop (valued T c σ))) (e .inserted);
         last = b .last ∙ acts .last ∙ e .at;
         at = b .at;
         locals = b .locals;

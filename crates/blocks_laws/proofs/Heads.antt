@@ -7,6 +7,7 @@ use mathlib.Core.List.{List}
 use mathlib.Core.Option.{Option, none}
 use lib.ListN.{length}
 use lib.Seq.{slice}
+use Rattle.rules.specs.Rules.{Switches}
 use Rattle.image_fields.specs.Parsed.{ok}
 use Rattle.image_fields.specs.Number.{two, four}
 use Rattle.image_fields.specs.Bytes.{Bytes, fourBytes}
@@ -63,26 +64,26 @@ stmts-in s left left′ at total at′ el et ep b =
     }
 
 -- the walk of a block's statements, said of the block: depths and places as the code has them
-module _ (T : Tables) (s : List ℕ) (left left′ total : ℕ) (loop : Option ℕ) (σ : Scope Status) (p q : Place) (gap : ℕ) (w : Walked) (m m₁ m₂ : Memory)
+module _ (sw : Switches) (T : Tables) (s : List ℕ) (left left′ total : ℕ) (loop : Option ℕ) (σ : Scope Status) (p q : Place) (gap : ℕ) (w : Walked) (m m₁ m₂ : Memory)
     (low : 0 < left) (high : left ≤ 12) (el : left′ ≡ left - 1) (et : total ≡ two s (p .at + 4)) (eq : q ≡ headed p gap)
-    (sw : StmtsWalk T s left′ (12 - left′) loop total σ q m₁ w m₂) where
+    (walk : StmtsWalk sw T s left′ (12 - left′) loop total σ q m₁ w m₂) where
   -- a walk of the statements of depth suc (12 - left)
   depth-same : 12 - left′ ≡ suc (12 - left)
   depth-same = omega arith
 
   inner : (t : Reading) → t .exprDepth ≡ 24 → (b : Block) (n : ℕ) → blockAt t s left (p .at) ≡ ok b n
-      → (w .fault ≡ numberOf (walkFault version1 T (b .code) (suc (12 - left)) σ))
-      × (walkFault version1 T (b .code) (suc (12 - left)) σ ≡ none
-      → Leads T s t (left - 1) (suc (12 - left)) loop (two s (p .at + 4)) (b .code) σ (headed p gap) m₁ 0 (w .locals) (w .place) m₂ n)
+      → (w .fault ≡ numberOf (walkFault version1 sw T (b .code) (suc (12 - left)) σ))
+      × (walkFault version1 sw T (b .code) (suc (12 - left)) σ ≡ none
+      → Leads sw T s t (left - 1) (suc (12 - left)) loop (two s (p .at + 4)) (b .code) σ (headed p gap) m₁ 0 (w .locals) (w .place) m₂ n)
   inner t deep b n e =
       let g = block-parts t s left (p .at) b n e in
-      let sw1 = subst (λ (l : ℕ). StmtsWalk T s l (12 - left′) loop total σ q m₁ w m₂) el sw in
-      let sw2 = subst (λ (d : ℕ). StmtsWalk T s (left - 1) d loop total σ q m₁ w m₂) depth-same sw1 in
-      let sw3 = subst (λ (k : ℕ). StmtsWalk T s (left - 1) (suc (12 - left)) loop k σ q m₁ w m₂) et sw2 in
-      let sw4 = subst (λ (x : Place). StmtsWalk T s (left - 1) (suc (12 - left)) loop (two s (p .at + 4)) σ x m₁ w m₂) eq sw3 in
+      let sw1 = subst (λ (l : ℕ). StmtsWalk sw T s l (12 - left′) loop total σ q m₁ w m₂) el walk in
+      let sw2 = subst (λ (d : ℕ). StmtsWalk sw T s (left - 1) d loop total σ q m₁ w m₂) depth-same sw1 in
+      let sw3 = subst (λ (k : ℕ). StmtsWalk sw T s (left - 1) (suc (12 - left)) loop k σ q m₁ w m₂) et sw2 in
+      let sw4 = subst (λ (x : Place). StmtsWalk sw T s (left - 1) (suc (12 - left)) loop (two s (p .at + 4)) σ x m₁ w m₂) eq sw3 in
       sw4 .walks t deep (b .code) n (g .stmts)
 
-  pub head-fault : 0 < w .fault → BlockWalks T s left (suc (12 - left)) loop σ p m w m₂
+  pub head-fault : 0 < w .fault → BlockWalks sw T s left (suc (12 - left)) loop σ p m w m₂
   head-fault lt = record {
     walks = λ t deep b n e.
         let i = inner t deep b n e in
@@ -92,16 +93,16 @@ module _ (T : Tables) (s : List ℕ) (left left′ total : ℕ) (loop : Option �
 
   pub head-walks : (small : Bytes s) (room : p .at + 6 ≤ length s) (eg : gap ≡ p .written + 4) → w .fault ≤ 0 → (r : Walked) (out′ : List ℕ)
       → Stored (m .out) (p .written) (fourBytes (four s (p .at))) (m₁ .out) gap
-      → Ends T s left (suc (12 - left)) (w .locals) p gap (w .place) (m₂ .out) r out′
+      → Ends sw T s left (suc (12 - left)) (w .locals) p gap (w .place) (m₂ .out) r out′
       → m₁ .errs ≡ m .errs → m₁ .warns ≡ m .warns → m₁ .lefts ≡ m .lefts
-      → BlockWalks T s left (suc (12 - left)) loop σ p m r (memory out′ (m₂ .errs) (m₂ .warns) (m₂ .lefts))
+      → BlockWalks sw T s left (suc (12 - left)) loop σ p m r (memory out′ (m₂ .errs) (m₂ .warns) (m₂ .lefts))
   head-walks small room eg z r out′ head ends a₁ a₂ a₃ = record {
     walks = λ t deep b n e.
         let i = inner t deep b n e in
         let f = i .0 in
-        let clear = real-none (walkFault version1 T (b .code) (suc (12 - left)) σ) (real-walk version1 T (b .code) (suc (12 - left)) σ) (sym f ∙ omega arith) in (
+        let clear = real-none (walkFault version1 sw T (b .code) (suc (12 - left)) σ) (real-walk version1 sw T (b .code) (suc (12 - left)) σ) (sym f ∙ omega arith) in (
           ends .fault ∙ ap numberOf (sym clear),
-          λ nil. block-done T s t deep left (suc (12 - left)) loop b n σ (w .locals) p (headed p gap) (w .place) m m₁ m₂ gap r out′
+          λ nil. block-done sw T s t deep left (suc (12 - left)) loop b n σ (w .locals) p (headed p gap) (w .place) m m₁ m₂ gap r out′
               (block-parts t s left (p .at) b n e) (head-inside s p gap room eg) head (i .1 clear) ends (memory out′ (m₂ .errs) (m₂ .warns) (m₂ .lefts)) a₁ a₂ a₃ refl refl refl refl,
         );
   }

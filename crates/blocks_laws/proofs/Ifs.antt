@@ -7,6 +7,7 @@ use mathlib.Core.Bool.{false}
 use mathlib.Core.List.{List, [], _∷_}
 use mathlib.Core.Option.{Option, none, some}
 use lib.ListN.{length, getD}
+use Rattle.rules.specs.Rules.{Switches}
 use Rattle.image_fields.specs.Parsed.{ok}
 use Rattle.image_fields.specs.Bytes.{Bytes}
 use Rattle.tables.specs.Limits.{version1}
@@ -52,11 +53,11 @@ module _ (s : List ℕ) (p q : Place) (written b : ℕ) (out out₁ : List ℕ) 
       subst (Grows s p) (sym eq) (let w : written ≡ p .written + 1 = x .place in
       record { on = omega arith; inside = omega arith; written = omega arith; errors = omega arith; warnings = omega arith; lefts = omega arith; inserted = omega arith })
 
-module _ (T : Tables) (s : List ℕ) (left d : ℕ) (loop : Option ℕ) (σ : Scope Status) (p q : Place) (written : ℕ) (out out₁ errs warns lefts : List ℕ) (eq : q ≡ flagged p written)
+module _ (sw : Switches) (T : Tables) (s : List ℕ) (left d : ℕ) (loop : Option ℕ) (σ : Scope Status) (p q : Place) (written : ℕ) (out out₁ errs warns lefts : List ℕ) (eq : q ≡ flagged p written)
     (x : Stored out (p .written) (getD s (p .at) 0 ∷ []) out₁ written) where
   -- no second block
   pub else-none : getD s (p .at) 0 ≡ 0 → (r : Walked) → r ≡ record { fault = 0; sure = false; place = q; locals = σ }
-      → ElseWalks T s left d loop σ p (memory out errs warns lefts) r (memory out₁ errs warns lefts)
+      → ElseWalks sw T s left d loop σ p (memory out errs warns lefts) r (memory out₁ errs warns lefts)
   else-none z r er = record {
     without = λ h. (
       ap (λ (w : Walked). w .fault) er,
@@ -74,8 +75,8 @@ module _ (T : Tables) (s : List ℕ) (left d : ℕ) (loop : Option ℕ) (σ : Sc
   }
 
   -- the second block
-  pub else-block : (getD s (p .at) 0 ≡ 0 → ⊥) → (r : Walked) (m′ : Memory) → BlockWalks T s left d loop σ q (memory out₁ errs warns lefts) r m′
-      → ElseWalks T s left d loop σ p (memory out errs warns lefts) r m′
+  pub else-block : (getD s (p .at) 0 ≡ 0 → ⊥) → (r : Walked) (m′ : Memory) → BlockWalks sw T s left d loop σ q (memory out₁ errs warns lefts) r m′
+      → ElseWalks sw T s left d loop σ p (memory out errs warns lefts) r m′
   else-block nz r m′ w = record {
     without = λ h. absurd (nz h);
     with = λ h t deep b next e.
@@ -85,7 +86,7 @@ module _ (T : Tables) (s : List ℕ) (left d : ℕ) (loop : Option ℕ) (σ : Sc
           λ clear.
               let a = g .1 clear in
               record {
-                wrote = subst (λ (k : ℕ). Wrote (both (byte 1) (blockOwn T (b .span) (b .code) d loop k σ)) p (memory out errs warns lefts) (r .place) m′) at
+                wrote = subst (λ (k : ℕ). Wrote (both (byte 1) (blockOwn sw T (b .span) (b .code) d loop k σ)) p (memory out errs warns lefts) (r .place) m′) at
                     (wrote-both (flag-wrote s p q written 1 out out₁ errs warns lefts eq (subst (λ (k : ℕ). Stored out (p .written) (k ∷ []) out₁ written) h x)) (a .wrote));
                 inserted = a .inserted ∙ ap (λ (y : Place). y .inserted) eq;
                 last = a .last ∙ ap (λ (y : Place). y .last) eq;
@@ -100,31 +101,31 @@ module _ (T : Tables) (s : List ℕ) (left d : ℕ) (loop : Option ℕ) (σ : Sc
 pub then-there : (s : List ℕ) (left at : ℕ) → IfThere s left at → BlockThere s left at
 then-there s left at i = let h = i .there in record { t = h .t; deep = h .deep; b = h .b; next = h .flag; read = h .body }
 
-module _ (T : Tables) (s : List ℕ) (small : Bytes s) (left d : ℕ) (loop : Option ℕ) (σ : Scope Status) (p : Place) (m : Memory) (v : Walked) (m₁ : Memory) (bw : BlockWalks T s left (suc d) loop σ p m v m₁) where
+module _ (sw : Switches) (T : Tables) (s : List ℕ) (small : Bytes s) (left d : ℕ) (loop : Option ℕ) (σ : Scope Status) (p : Place) (m : Memory) (v : Walked) (m₁ : Memory) (bw : BlockWalks sw T s left (suc d) loop σ p m v m₁) where
   -- a fault of the first block
-  pub if-first : 0 < v .fault → IfWalks T s left d loop σ p m v m₁
+  pub if-first : 0 < v .fault → IfWalks sw T s left d loop σ p m v m₁
   if-first lt = record {
-    without = λ t deep b q e z sp x c. first-fault T s small t left d loop σ p m (ifThen sp x (b .span) (b .code) c) b _ refl v m₁ (q + 1) (bw .walks t deep b q e .0) lt;
-    with = λ t deep b q e z u next e′ sp x c. first-fault T s small t left d loop σ p m (ifElse sp x (b .span) (b .code) (u .span) (u .code) c) b _ refl v m₁ next (bw .walks t deep b q e .0) lt;
+    without = λ t deep b q e z sp x c. first-fault sw T s small t left d loop σ p m (ifThen sp x (b .span) (b .code) c) b _ refl v m₁ (q + 1) (bw .walks t deep b q e .0) lt;
+    with = λ t deep b q e z u next e′ sp x c. first-fault sw T s small t left d loop σ p m (ifElse sp x (b .span) (b .code) (u .span) (u .code) c) b _ refl v m₁ next (bw .walks t deep b q e .0) lt;
   }
 
-  pub loop-first : 0 < v .fault → (outer : Option ℕ) → LoopWalks T s left d outer σ p m v m₁
-  loop-first lt outer = record { walks = λ t deep b q e sp x c. first-fault T s small t left d outer σ p m (while sp x (b .span) (b .code) c) b _ refl v m₁ q (bw .walks t deep b q e .0) lt }
+  pub loop-first : 0 < v .fault → (outer : Option ℕ) → LoopWalks sw T s left d outer σ p m v m₁
+  loop-first lt outer = record { walks = λ t deep b q e sp x c. first-fault sw T s small t left d outer σ p m (while sp x (b .span) (b .code) c) b _ refl v m₁ q (bw .walks t deep b q e .0) lt }
 
   module _ (z : v .fault ≤ 0) where
     -- the first block without a fault
-    first-clear : (t : Reading) → t .exprDepth ≡ 24 → (b : Block) (q : ℕ) → blockAt t s left (p .at) ≡ ok b q → walkFault version1 T (b .code) (suc d) σ ≡ none
+    first-clear : (t : Reading) → t .exprDepth ≡ 24 → (b : Block) (q : ℕ) → blockAt t s left (p .at) ≡ ok b q → walkFault version1 sw T (b .code) (suc d) σ ≡ none
     first-clear t deep b q e =
         let f = bw .walks t deep b q e .0 in
-        real-none (walkFault version1 T (b .code) (suc d) σ) (real-walk version1 T (b .code) (suc d) σ) (sym f ∙ omega arith)
+        real-none (walkFault version1 sw T (b .code) (suc d) σ) (real-walk version1 sw T (b .code) (suc d) σ) (sym f ∙ omega arith)
 
-    first-done : (t : Reading) (deep : t .exprDepth ≡ 24) (b : Block) (q : ℕ) → blockAt t s left (p .at) ≡ ok b q → BlockDone T b (suc d) loop σ p m v m₁ q
+    first-done : (t : Reading) (deep : t .exprDepth ≡ 24) (b : Block) (q : ℕ) → blockAt t s left (p .at) ≡ ok b q → BlockDone sw T b (suc d) loop σ p m v m₁ q
     first-done t deep b q e = bw .walks t deep b q e .1 (first-clear t deep b q e)
 
-    pub loop-walks : (w r : Walked) → w .place ≡ v .place → w .locals ≡ σ → w .sure ≡ false → Merges false σ (v .locals) w r → loop ≡ some (suc d) → (outer : Option ℕ) → LoopWalks T s left d outer σ p m r m₁
+    pub loop-walks : (w r : Walked) → w .place ≡ v .place → w .locals ≡ σ → w .sure ≡ false → Merges sw false σ (v .locals) w r → loop ≡ some (suc d) → (outer : Option ℕ) → LoopWalks sw T s left d outer σ p m r m₁
     loop-walks w r ew ev es g own outer = record {
       walks = λ t deep b q e sp x c.
-          loop-blocks T s small t left d loop σ p m b v m₁ q (first-clear t deep b q e) (first-done t deep b q e) sp x c w r ew ev es g own outer;
+          loop-blocks sw T s small t left d loop σ p m b v m₁ q (first-clear t deep b q e) (first-done t deep b q e) sp x c w r ew ev es g own outer;
     }
 
     -- the flag was read where the first block ends
@@ -140,7 +141,7 @@ module _ (T : Tables) (s : List ℕ) (small : Bytes s) (left d : ℕ) (loop : Op
               record { t = h .t; deep = h .deep; b = o .0; next = o .1; read = subst (λ (k : ℕ). blockAt (h .t) s left (k + 1) ≡ ok (o .0) (o .1)) (sym at) (o .2) };
         }
 
-    module _ (w : Walked) (m₂ : Memory) (ew : ElseWalks T s left (suc d) loop σ (v .place) m₁ w m₂) where
+    module _ (w : Walked) (m₂ : Memory) (ew : ElseWalks sw T s left (suc d) loop σ (v .place) m₁ w m₂) where
       flag-at : (t : Reading) (deep : t .exprDepth ≡ 24) (b : Block) (q : ℕ) → blockAt t s left (p .at) ≡ ok b q → {k : ℕ} → getD s q 0 ≡ k → getD s (v .place .at) 0 ≡ k
       flag-at t deep b q e {k} h = subst (λ (i : ℕ). getD s i 0 ≡ k) (sym (first-done t deep b q e .at)) h
 
@@ -149,21 +150,21 @@ module _ (T : Tables) (s : List ℕ) (small : Bytes s) (left d : ℕ) (loop : Op
       other-at t deep b q e u next e′ = subst (λ (i : ℕ). blockAt t s left (i + 1) ≡ ok u next) (sym (first-done t deep b q e .at)) e′
 
       -- a fault of the second block
-      pub if-second : 0 < w .fault → IfWalks T s left d loop σ p m w m₂
+      pub if-second : 0 < w .fault → IfWalks sw T s left d loop σ p m w m₂
       if-second lt = record {
         without = λ t deep b q e h sp x c. let f = ew .without (flag-at t deep b q e h) .0 in absurd (omega arith);
         with = λ t deep b q e h u next e′ sp x c.
-            second-fault T s small t left d loop σ p m b v m₁ q (first-clear t deep b q e) (first-done t deep b q e) sp x u c w m₂ next
+            second-fault sw T s small t left d loop σ p m b v m₁ q (first-clear t deep b q e) (first-done t deep b q e) sp x u c w m₂ next
             (ew .with (flag-at t deep b q e h) t deep u next (other-at t deep b q e u next e′) .0) lt;
       }
 
-      pub if-walks : w .fault ≤ 0 → (r : Walked) → Merges (v .sure) σ (v .locals) w r → IfWalks T s left d loop σ p m r m₂
+      pub if-walks : w .fault ≤ 0 → (r : Walked) → Merges sw (v .sure) σ (v .locals) w r → IfWalks sw T s left d loop σ p m r m₂
       if-walks y r g = record {
         without = λ t deep b q e h sp x c.
-            if-then T s small t left d loop σ p m b v m₁ q (first-clear t deep b q e) (first-done t deep b q e) w r m₂ g sp x c (ew .without (flag-at t deep b q e h) .1);
+            if-then sw T s small t left d loop σ p m b v m₁ q (first-clear t deep b q e) (first-done t deep b q e) w r m₂ g sp x c (ew .without (flag-at t deep b q e h) .1);
         with = λ t deep b q e h u next e′ sp x c.
             let k = ew .with (flag-at t deep b q e h) t deep u next (other-at t deep b q e u next e′) in
             let f = k .0 in
-            let free = real-none (walkFault version1 T (u .code) (suc d) σ) (real-walk version1 T (u .code) (suc d) σ) (sym f ∙ omega arith) in
-            if-else T s small t left d loop σ p m b v m₁ q (first-clear t deep b q e) (first-done t deep b q e) w r m₂ g sp x u next c (block-end s small t left (p .at) b q e) free (k .1 free);
+            let free = real-none (walkFault version1 sw T (u .code) (suc d) σ) (real-walk version1 sw T (u .code) (suc d) σ) (sym f ∙ omega arith) in
+            if-else sw T s small t left d loop σ p m b v m₁ q (first-clear t deep b q e) (first-done t deep b q e) w r m₂ g sp x u next c (block-end s small t left (p .at) b q e) free (k .1 free);
       }

@@ -9,6 +9,7 @@ use mathlib.Core.List.{List}
 use borrow.Author.Tests.{eqb-true, eqb-false}
 use lib.Dec.{eqb}
 use lib.ListN.{getD}
+use Rattle.rules.specs.Rules.{Switches}
 use Rattle.image_fields.proofs.Tests.{false-true}
 use Rattle.image_fields.specs.Parsed.{ok}
 use Rattle.image_fields.specs.Number.{four}
@@ -97,36 +98,36 @@ module _ (s : List ℕ) (small : Bytes s) (t : Reading) (deep : t .exprDepth ≡
       either-block false false false ea eb ec h n = false-true h
 
   -- and what it says of the statement
-  module _ (T : Tables) (d : ℕ) (loop : Option ℕ) (σ : Scope Status) (m : Memory) (r : Walked) (m′ : Memory) (w : TagWalks T s left d loop (getD s at 0) σ z m r m′) (c : Tree) where
-    as-tree : (a b : Tree) → a ≡ b → BlocksWalk T b d loop σ z m r m′ next → BlocksWalk T a d loop σ z m r m′ next
-    as-tree a b e h = subst (λ (y : Tree). BlocksWalk T y d loop σ z m r m′ next) (sym e) h
+  module _ (sw : Switches) (T : Tables) (d : ℕ) (loop : Option ℕ) (σ : Scope Status) (m : Memory) (r : Walked) (m′ : Memory) (w : TagWalks sw T s left d loop (getD s at 0) σ z m r m′) (c : Tree) where
+    as-tree : (a b : Tree) → a ≡ b → BlocksWalk sw T b d loop σ z m r m′ next → BlocksWalk sw T a d loop σ z m r m′ next
+    as-tree a b e h = subst (λ (y : Tree). BlocksWalk sw T y d loop σ z m r m′ next) (sym e) h
 
-    of-if : getD s at 0 ≡ 7 → BlocksWalk T (before x c) d loop σ z m r m′ next
+    of-if : getD s at 0 ≡ 7 → BlocksWalk sw T (before x c) d loop σ z m r m′ next
     of-if k =
         let i = if-at k in
         let g = i .0 in
         let body : blockAt t s left (z .at) ≡ ok (g .b) (g .q) = subst (λ (j : ℕ). blockAt t s left j ≡ ok (g .b) (g .q)) (i .1) (g .body) in
         go (w .ifs k) g body (getD s (g .q) 0) refl
       where
-        go : IfWalks T s left d loop σ z m r m′ → (g : Branched (blockAt t s left) t s at x next) → blockAt t s left (z .at) ≡ ok (g .b) (g .q) → (k : ℕ) → getD s (g .q) 0 ≡ k
-            → BlocksWalk T (before x c) d loop σ z m r m′ next
+        go : IfWalks sw T s left d loop σ z m r m′ → (g : Branched (blockAt t s left) t s at x next) → blockAt t s left (z .at) ≡ ok (g .b) (g .q) → (k : ℕ) → getD s (g .q) 0 ≡ k
+            → BlocksWalk sw T (before x c) d loop σ z m r m′ next
         go f g body zero h =
             as-tree _ _ (g .without h .1 c)
-            (subst (λ (n : ℕ). BlocksWalk T (ifThen (four s (at + 1)) (g .e) (g .b .span) (g .b .code) c) d loop σ z m r m′ n) (sym (g .without h .0))
+            (subst (λ (n : ℕ). BlocksWalk sw T (ifThen (four s (at + 1)) (g .e) (g .b .span) (g .b .code) c) d loop σ z m r m′ n) (sym (g .without h .0))
             (f .without t deep (g .b) (g .q) body h (four s (at + 1)) (g .e) c))
         go f g body (suc k) h =
             let o = g .with (omega arith) in
             let one : getD s (g .q) 0 ≡ 1 = let l = g .flag in omega arith in
             as-tree _ _ (o .2 c) (f .with t deep (g .b) (g .q) body one (o .0) next (o .1) (four s (at + 1)) (g .e) c)
 
-    pub tag-walks : blocked (getD s at 0) ≡ true → BlocksWalk T (before x c) d loop σ z m r m′ next
+    pub tag-walks : blocked (getD s at 0) ≡ true → BlocksWalk sw T (before x c) d loop σ z m r m′ next
     tag-walks has = go (eqb (getD s at 0) 1) (eqb (getD s at 0) 7) (eqb (getD s at 0) 8) refl refl refl has
       where
-        go : (a b e : Bool) → eqb (getD s at 0) 1 ≡ a → eqb (getD s at 0) 7 ≡ b → eqb (getD s at 0) 8 ≡ e → (a || (b || e)) ≡ true → BlocksWalk T (before x c) d loop σ z m r m′ next
+        go : (a b e : Bool) → eqb (getD s at 0) 1 ≡ a → eqb (getD s at 0) 7 ≡ b → eqb (getD s at 0) 8 ≡ e → (a || (b || e)) ≡ true → BlocksWalk sw T (before x c) d loop σ z m r m′ next
         go true b e ea eb ee h =
             let k : getD s at 0 ≡ 1 = eqb-true _ _ ea in
             let g = block-at k in
-            as-tree _ _ (g .2 c) (block-blocks T s small t left d loop σ z m (g .0) r m′ next (w .others (λ u. absurd (omega arith)) (λ u. absurd (omega arith)) .walks t deep (g .0) next (g .1)) c)
+            as-tree _ _ (g .2 c) (block-blocks sw T s small t left d loop σ z m (g .0) r m′ next (w .others (λ u. absurd (omega arith)) (λ u. absurd (omega arith)) .walks t deep (g .0) next (g .1)) c)
         go false true e ea eb ee h = of-if (eqb-true _ _ eb)
         go false false true ea eb ee h =
             let k : getD s at 0 ≡ 8 = eqb-true _ _ ee in

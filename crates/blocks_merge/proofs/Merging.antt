@@ -9,6 +9,7 @@ use mathlib.Core.Logic.{_⊎_, inl, inr, ⊎-elim}
 use lib.ListN.{length, getD, set}
 use Rattle.image_fields.proofs.Tests.{false-true}
 use Rattle.tables.specs.Limits.{version1}
+use Rattle.rules.specs.Rules.{Switches}
 use Rattle.scope_stack.specs.declared.Locals.{Locals}
 use Rattle.scope_stack.specs.declared.States.{States}
 use Rattle.scope_stack.specs.View.{rowOf, saidAt, view, Known, Rowed}
@@ -51,6 +52,11 @@ module _ (n : ℕ) (t : States) (rows new : List ℕ) (src cur width : ℕ) (h :
   copied-view l e =
       view-copied l t rows new src cur width (subst (λ (k : ℕ). Rowed k t rows src width) (sym e) h)
       (subst (λ (k : ℕ). Copies k width (t .kinds) rows src cur true new) (sym e) c)
+
+-- a join by another name of the same answer
+pub joins-as : {k m : Bool} {n width : ℕ} {t u : States} {rows : List ℕ} {a b : ℕ} {r : States} {new : List ℕ} {told : ℕ} → k ≡ m
+    → JoinsAll k n width t u rows a b r new told → JoinsAll m n width t u rows a b r new told
+joins-as {n = n} {width} {t} {u} {rows} {a} {b} {r} {new} {told} e j = subst (λ (x : Bool). JoinsAll x n width t u rows a b r new told) e j
 
 -- the fault of a join, by what it told
 abbrev FaultOf : ℕ → ℕ → Type 0
@@ -97,8 +103,8 @@ module _ (n : ℕ) (base first other : States) (rows : List ℕ) (cur width b : 
       }
 
   -- both surely return
-  pub merges-base : (x y : Bool) → x ≡ true → y ≡ true → MergesIn x y n base first other rows cur width b pl base rows pl
-  merges-base x y e f = rw (e, f) (record {
+  pub merges-base : (sw : Switches) (x y : Bool) → x ≡ true → y ≡ true → MergesIn sw x y n base first other rows cur width b pl base rows pl
+  merges-base sw x y e f = rw (e, f) (record {
     room = h .2;
     below = record { room = refl; same = λ k lk. refl };
     place = refl;
@@ -109,9 +115,9 @@ module _ (n : ℕ) (base first other : States) (rows : List ℕ) (cur width b : 
   })
 
   -- then does
-  pub merges-other : (x y : Bool) → x ≡ true → y ≡ false → (new : List ℕ) → Copies n width (other .kinds) rows b cur true new
-      → MergesIn x y n base first other rows cur width b pl other new pl
-  merges-other x y e f new c =
+  pub merges-other : (sw : Switches) (x y : Bool) → x ≡ true → y ≡ false → (new : List ℕ) → Copies n width (other .kinds) rows b cur true new
+      → MergesIn sw x y n base first other rows cur width b pl other new pl
+  merges-other sw x y e f new c =
       let r = h .0 .other .rowed in
       rw (e, f) (record {
         room = h .2;
@@ -124,9 +130,9 @@ module _ (n : ℕ) (base first other : States) (rows : List ℕ) (cur width b : 
       })
 
   -- the other does
-  pub merges-first : (x y : Bool) → x ≡ false → y ≡ true → (new : List ℕ) (a : ℕ) → a ≡ rowOf cur width n → Copies n width (first .kinds) rows a cur true new
-      → MergesIn x y n base first other rows cur width b pl first new pl
-  merges-first x y e f new a ea ca =
+  pub merges-first : (sw : Switches) (x y : Bool) → x ≡ false → y ≡ true → (new : List ℕ) (a : ℕ) → a ≡ rowOf cur width n → Copies n width (first .kinds) rows a cur true new
+      → MergesIn sw x y n base first other rows cur width b pl first new pl
+  merges-first sw x y e f new a ea ca =
       let c : Copies n width (first .kinds) rows (rowOf cur width n) cur true new = subst (λ (k : ℕ). Copies n width (first .kinds) rows k cur true new) ea ca in
       let r = h .0 .first .rowed in
       rw (e, f) (record {
@@ -140,16 +146,16 @@ module _ (n : ℕ) (base first other : States) (rows : List ℕ) (cur width b : 
       })
 
   -- neither: joined states, copied back, or the join's fault
-  module _ (r : States) (mid : List ℕ) (told k : ℕ) (a : ℕ) (ea : a ≡ rowOf cur width n) (ja : JoinsAll n width first other rows a b r mid told) (is : FaultOf told k) where
-    abbrev j : JoinsAll n width first other rows (rowOf cur width n) b r mid told
-    j = subst (λ (i : ℕ). JoinsAll n width first other rows i b r mid told) ea ja
+  module _ (sw : Switches) (r : States) (mid : List ℕ) (told k : ℕ) (a : ℕ) (ea : a ≡ rowOf cur width n) (ja : JoinsAll (sw .conditional) n width first other rows a b r mid told) (is : FaultOf told k) where
+    abbrev j : JoinsAll (sw .conditional) n width first other rows (rowOf cur width n) b r mid told
+    j = subst (λ (i : ℕ). JoinsAll (sw .conditional) n width first other rows i b r mid told) ea ja
 
     -- the fault is put beside the place
     put : Tells (set pl 8 k) k (sureIn pl) (placeIn pl)
     put = fault-told pl (h .2) k
 
     pub merges-joined : (x y : Bool) → x ≡ false → y ≡ false → told ≡ 0 → (new : List ℕ) → Copies n width (r .kinds) mid a cur true new
-        → MergesIn x y n base first other rows cur width b pl r new (set pl 8 k)
+        → MergesIn sw x y n base first other rows cur width b pl r new (set pl 8 k)
     merges-joined x y e f t new ca =
         let c : Copies n width (r .kinds) mid (rowOf cur width n) cur true new = subst (λ (i : ℕ). Copies n width (r .kinds) mid i cur true new) ea ca in
         let none : k ≡ 0 = is .1 (λ z. omega arith) ∙ t in
@@ -164,13 +170,13 @@ module _ (n : ℕ) (base first other : States) (rows : List ℕ) (cur width b : 
           locals = λ z l g. copied-view n r mid new (rowOf cur width n) cur width w c l g ∙ j .is t l g;
         })
 
-    pub merges-fault : (x y : Bool) → x ≡ false → y ≡ false → (told ≡ 0 → ⊥) → MergesIn x y n base first other rows cur width b pl r mid (set pl 8 k)
+    pub merges-fault : (x y : Bool) → x ≡ false → y ≡ false → (told ≡ 0 → ⊥) → MergesIn sw x y n base first other rows cur width b pl r mid (set pl 8 k)
     merges-fault x y e f ne = ⊎-elim (λ (t : told ≡ 0). absurd (ne t)) (⊎-elim crowds ends) (j .three)
       where
         below : Below cur rows mid
         below = record { room = j .rest .room; same = λ i li. j .rest .same i (inl (omega arith)) }
 
-        crowds : told ≡ 255 → MergesIn x y n base first other rows cur width b pl r mid (set pl 8 k)
+        crowds : told ≡ 255 → MergesIn sw x y n base first other rows cur width b pl r mid (set pl 8 k)
         crowds t =
             let thirteen : k ≡ 13 = is .0 t in
             rw (e, f) (record {
@@ -183,7 +189,7 @@ module _ (n : ℕ) (base first other : States) (rows : List ℕ) (cur width b : 
               locals = λ z l g. absurd (omega (arith, put .fault));
             })
 
-        ends : told ≡ 254 → MergesIn x y n base first other rows cur width b pl r mid (set pl 8 k)
+        ends : told ≡ 254 → MergesIn sw x y n base first other rows cur width b pl r mid (set pl 8 k)
         ends t =
             let same : k ≡ 254 = is .1 (λ z. omega arith) ∙ t in
             rw (e, f) (record {

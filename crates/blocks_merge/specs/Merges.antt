@@ -7,7 +7,7 @@ use mathlib.Core.Logic.{_⊎_}
 use lib.Dec.{eqb}
 use lib.ListN.{length, getD}
 use Rattle.tables.specs.Limits.{version1}
-use Rattle.rules.specs.Rules.{states, joins, merge}
+use Rattle.rules.specs.Rules.{Switches, states, joins, merge}
 use Rattle.rules.specs.Walk.{tooWide}
 use Rattle.statements_steps.specs.Own.{numberOf}
 use Rattle.scope_stack.specs.declared.Locals.{Locals}
@@ -18,11 +18,11 @@ use Rattle.blocks_ends.specs.Ends.{placeIn, faultIn, sureIn}
 
 -- the numbers of a branch, whose rows stand behind those of n locals
 abbrev pub behindOf : Env → ℕ → Env
-behindOf env n = record { left = env .left; limit = env .limit; width = env .width; cur = rowOf (env .cur) (env .width) n; base = env .base }
+behindOf env n = record { left = env .left; limit = env .limit; width = env .width; cur = rowOf (env .cur) (env .width) n; base = env .base; switches = env .switches }
 
 -- those of a While's block, the body of the nearest loop, behind n locals; of another, as they are
 abbrev pub loopedOf : Env → ℕ → ℕ → Env
-loopedOf env tag n = cond (eqb tag 8) (record { left = env .left; limit = env .limit; width = env .width; cur = env .cur; base = n }) env
+loopedOf env tag n = cond (eqb tag 8) (record { left = env .left; limit = env .limit; width = env .width; cur = env .cur; base = n; switches = env .switches }) env
 
 -- rows that are the same below a place
 pub record Below (cur : ℕ) (rows new : List ℕ) : Type 0 where
@@ -45,18 +45,18 @@ pub record Branches (n : ℕ) (t u v : States) (rows : List ℕ) (cur width b : 
   pub low : (cur < 4294967296) × (b < 4294967296)
 
 -- merge_control_flow_states behind two branches, whether each surely returns; 254: the rows do not reach
-pub record MergesIn (x y : Bool) (n : ℕ) (base first other : States) (rows : List ℕ) (cur width b : ℕ) (pl : List ℕ) (r : States) (rows′ pl′ : List ℕ) : Type 0 where
+pub record MergesIn (w : Switches) (x y : Bool) (n : ℕ) (base first other : States) (rows : List ℕ) (cur width b : ℕ) (pl : List ℕ) (r : States) (rows′ pl′ : List ℕ) : Type 0 where
   pub room : length pl′ ≡ 10
   pub below : Below cur rows rows′
   pub place : placeIn pl′ ≡ placeIn pl
   pub short : faultIn pl′ ≡ 254 → length rows < rowOf (rowOf cur width n) width n
   pub stands : faultIn pl′ ≡ 0 → RowsStand n r rows′ cur width
   pub fault : (faultIn pl′ ≡ 254 → ⊥) → (l : Locals) → l .count ≡ n
-      → faultIn pl′ ≡ numberOf (tooWide version1 (not x && not y) (joins states (view l first rows (rowOf cur width n) width) (view l other rows b width)))
+      → faultIn pl′ ≡ numberOf (tooWide version1 (not x && not y) (joins (states w) (view l first rows (rowOf cur width n) width) (view l other rows b width)))
   pub locals : faultIn pl′ ≡ 0 → (l : Locals) → l .count ≡ n
-      → view l r rows′ cur width ≡ merge states x y (view l base rows cur width) (view l first rows (rowOf cur width n) width) (view l other rows b width)
+      → view l r rows′ cur width ≡ merge (states w) x y (view l base rows cur width) (view l first rows (rowOf cur width n) width) (view l other rows b width)
 
 -- the merge behind else's block; where that has a fault, its states as they are
-pub record MergesElse (x : Bool) (n : ℕ) (base first other : States) (rows : List ℕ) (cur width b : ℕ) (pl : List ℕ) (r : States) (rows′ pl′ : List ℕ) : Type 0 where
+pub record MergesElse (w : Switches) (x : Bool) (n : ℕ) (base first other : States) (rows : List ℕ) (cur width b : ℕ) (pl : List ℕ) (r : States) (rows′ pl′ : List ℕ) : Type 0 where
   pub faulty : 0 < faultIn pl → (r ≡ other) × (rows′ ≡ rows) × (pl′ ≡ pl)
-  pub merges : faultIn pl ≡ 0 → MergesIn x (sureIn pl) n base first other rows cur width b pl r rows′ pl′
+  pub merges : faultIn pl ≡ 0 → MergesIn w x (sureIn pl) n base first other rows cur width b pl r rows′ pl′

@@ -4,6 +4,7 @@ ghost use mathlib.Core.Path.{_≡_};
 ghost use mathlib.Core.Bool.{true, false};
 ghost use Prim.Native.Nat.{ℕ, _≤_, _<_};
 ghost use lib.ListN.{length, getD};
+ghost use Rattle.rules.specs.Rules.{switchesOf};
 ghost use Rattle.scope_stack.specs.View.{rowOf, Known};
 ghost use Rattle.scope_rows.specs.Rows.{Copied, Copies};
 ghost use Rattle.blocks_ends.specs.Ends.{faultIn, sureIn};
@@ -23,6 +24,7 @@ pub fn behind(env: Env, n: usize) -> Env
         width: env.width,
         cur: env.cur + n * (env.width + 1),
         base: env.base,
+        switches: env.switches,
     }
 }
 
@@ -39,6 +41,7 @@ pub fn in_loop(env: Env, tag: u8, n: usize) -> Env
         width: env.width,
         cur: env.cur,
         base: n,
+        switches: env.switches,
     }
 }
 
@@ -86,7 +89,7 @@ fn merge_control_flow_states(
     pl: &mut [usize; 10],
 ) -> States
     requires { ⌜ Branches n base first other (now rows) (env .cur) (env .width) b × (faultIn (now pl) ≡ 0) × (length (now pl) ≡ 10) ⌝ }
-    ensures { λ r. ⌜ MergesIn «then_returns» «else_returns» n base first other (now (rows .entry)) (env .cur) (env .width) b (now (pl .entry)) r (now (rows .exit)) (now (pl .exit)) ⌝ }
+    ensures { λ r. ⌜ MergesIn (switchesOf (env .switches)) «then_returns» «else_returns» n base first other (now (rows .entry)) (env .cur) (env .width) b (now (pl .entry)) r (now (rows .exit)) (now (pl .exit)) ⌝ }
 {
     let a = behind(env, n);
     if then_returns {
@@ -101,7 +104,8 @@ fn merge_control_flow_states(
         return first;
     }
     let mut told = 0;
-    let r = scope_rows::join(first, other, n, rows, a.cur, b, env.width, &mut told);
+    let keeps = statements_acts::has_switch(env.switches, 4);
+    let r = scope_rows::join(first, other, n, rows, a.cur, b, env.width, keeps, &mut told);
     pl[8] = join_fault(told);
     if told == 0 {
         copy_back(&r.kinds, n, rows, a.cur, env.cur, env.width);
@@ -119,7 +123,7 @@ pub fn merge_first(
     pl: &mut [usize; 10],
 ) -> States
     requires { ⌜ Branches n base first base (now rows) (env .cur) (env .width) (env .cur) × (faultIn (now pl) ≡ 0) × (length (now pl) ≡ 10) ⌝ }
-    ensures { λ r. ⌜ MergesIn (sureIn (now (pl .entry))) false n base first base (now (rows .entry)) (env .cur) (env .width) (env .cur) (now (pl .entry)) r (now (rows .exit)) (now (pl .exit)) ⌝ }
+    ensures { λ r. ⌜ MergesIn (switchesOf (env .switches)) (sureIn (now (pl .entry))) false n base first base (now (rows .entry)) (env .cur) (env .width) (env .cur) (now (pl .entry)) r (now (rows .exit)) (now (pl .exit)) ⌝ }
 {
     let sure = pl[9] == 1;
     merge_control_flow_states(sure, false, base, first, base, n, rows, env, env.cur, pl)
@@ -138,7 +142,7 @@ pub fn merge_else(
     pl: &mut [usize; 10],
 ) -> States
     requires { ⌜ (faultIn (now pl) ≡ 0 → Branches n base first other (now rows) (env .cur) (env .width) b) × (length (now pl) ≡ 10) ⌝ }
-    ensures { λ r. ⌜ MergesElse «sure» n base first other (now (rows .entry)) (env .cur) (env .width) b (now (pl .entry)) r (now (rows .exit)) (now (pl .exit)) ⌝ }
+    ensures { λ r. ⌜ MergesElse (switchesOf (env .switches)) «sure» n base first other (now (rows .entry)) (env .cur) (env .width) b (now (pl .entry)) r (now (rows .exit)) (now (pl .exit)) ⌝ }
 {
     if 0 < pl[8] {
         return other;

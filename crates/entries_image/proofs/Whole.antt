@@ -26,7 +26,7 @@ use Rattle.image.specs.Image.{Image, accepted, decode, encode, encodeParts, sco
 use Rattle.image.proofs.RoundTrip.{parted}
 use Rattle.rules.specs.State.{State as Status}
 use Rattle.rules.specs.Stack.{shape, Stack as Scope}
-use Rattle.rules.specs.Rules.{states, entered, localsOf}
+use Rattle.rules.specs.Rules.{Switches, switchesOf, states, entered, localsOf}
 use Rattle.rules.specs.Report.{Report, report, reports, bodyStart, errors, warnings, lefts, returnedImage}
 use Rattle.rules.specs.Walk.{tooMany, walkFault, imageFault}
 use Rattle.rules.specs.Verdict.{entriesOf}
@@ -60,7 +60,7 @@ use Rattle.entries_image.specs.Images.{ImageThere, begins, Begins, bodyO
 one-image : (s : List ℕ) {i j : Image} → decode version1 s ≡ accepted i → decode version1 s ≡ accepted j → i ≡ j
 one-image s {i} {j} a b = let e : accepted i ≡ accepted j = sym a ∙ b in cc
 
-module _ (s : List ℕ) (small : Bytes s) (i : Image) (e : decode version1 s ≡ accepted i) (body : ℕ)
+module _ (sw : Switches) (s : List ℕ) (small : Bytes s) (i : Image) (e : decode version1 s ≡ accepted i) (body : ℕ)
     (block : blockAt (scopeIn version1 (i .tables .names) (i .tables .types)) s 12 body ≡ ok (i .body) (length s)) where
   abbrev head : List ℕ
   head = 1 ∷ (encodeTables (i .tables) ++ encodeEntry (i .entry))
@@ -93,7 +93,7 @@ module _ (s : List ℕ) (small : Bytes s) (i : Image) (e : decode version1 s ≡
   short = parted version1 s i e .short
 
   abbrev σ : Scope Status
-  σ = entered states (i .tables) (localsOf (i .entry)) []
+  σ = entered (states sw) (i .tables) (localsOf (i .entry)) []
 
   first-statement : body + 6 ≡ bodyStart i
   first-statement =
@@ -101,74 +101,74 @@ module _ (s : List ℕ) (small : Bytes s) (i : Image) (e : decode version1 s ≡
       let b = length-append (encodeTables (i .tables)) (encodeEntry (i .entry)) in
       omega arith
 
-  same-reports : report (i .tables) (i .body .code) 1 none (body + 6) σ ≡ reports i
-  same-reports = ap (λ k. report (i .tables) (i .body .code) 1 none k σ) first-statement
+  same-reports : report sw (i .tables) (i .body .code) 1 none (body + 6) σ ≡ reports sw i
+  same-reports = ap (λ k. report sw (i .tables) (i .body .code) 1 none k σ) first-statement
 
   abbrev block′ : List ℕ
-  block′ = blockOwn (i .tables) (i .body .span) (i .body .code) 1 none body σ .bytes
+  block′ = blockOwn sw (i .tables) (i .body .span) (i .body .code) 1 none body σ .bytes
 
-  parts-are : head ++ block′ ≡ encodeParts version1 (returnedImage i)
+  parts-are : head ++ block′ ≡ encodeParts version1 (returnedImage sw i)
   unfolding encodeBlock
   parts-are = ap (λ l. 1 ∷ l) (append-assoc (encodeTables (i .tables)) (encodeEntry (i .entry)) block′)
 
-  whole-length : length (encode version1 (returnedImage i)) ≡ 4 + (length head + length block′)
+  whole-length : length (encode version1 (returnedImage sw i)) ≡ 4 + (length head + length block′)
   unfolding encode
   whole-length =
-      let a = length-append (fourBytes (length (encodeParts version1 (returnedImage i)))) (encodeParts version1 (returnedImage i)) in
-      let b = four-length (length (encodeParts version1 (returnedImage i))) in
+      let a = length-append (fourBytes (length (encodeParts version1 (returnedImage sw i)))) (encodeParts version1 (returnedImage sw i)) in
+      let b = four-length (length (encodeParts version1 (returnedImage sw i))) in
       let c = ap length parts-are in
       let d = length-append head block′ in
       omega arith
 
   -- the length in front, once all is written
   whole-stored : {xs ys zs : List ℕ} {k m : ℕ} → k < 4294967296 → Stored xs 4 (head ++ block′) ys k → Stored ys 0 (fourBytes ((k + 4294967292) % 4294967296)) zs m
-      → Stored xs 0 (encode version1 (returnedImage i)) zs k
+      → Stored xs 0 (encode version1 (returnedImage sw i)) zs k
   unfolding encode
   whole-stored {xs} {ys} {zs} {k} {m} low a b =
       let l = four-length ((k + 4294967292) % 4294967296) in
       let p = a .place in
-      let n : length (encodeParts version1 (returnedImage i)) ≡ (k + 4294967292) % 4294967296 = ap length (sym parts-are) ∙ omega arith in
+      let n : length (encodeParts version1 (returnedImage sw i)) ≡ (k + 4294967292) % 4294967296 = ap length (sym parts-are) ∙ omega arith in
       stored-as (ap fourBytesThen n ∙ ap (λ x. fourBytes ((k + 4294967292) % 4294967296) ++ x) (sym parts-are)) (patched (omega arith) a b)
     where
       fourBytesThen : ℕ → List ℕ
-      fourBytesThen n = fourBytes n ++ encodeParts version1 (returnedImage i)
+      fourBytesThen n = fourBytes n ++ encodeParts version1 (returnedImage sw i)
 
   -- no local is too many before the body
-  fault-is : length σ ≤ 64 → imageFault version1 i ≡ walkFault version1 (i .tables) (i .body .code) 1 σ
+  fault-is : length σ ≤ 64 → imageFault version1 sw i ≡ walkFault version1 sw (i .tables) (i .body .code) 1 σ
   unfolding imageFault orElse
   fault-is few =
       let f : tooMany version1 σ ≡ none = few-locals σ few in
-      ap (λ x. orElse x (walkFault version1 (i .tables) (i .body .code) 1 σ)) f
+      ap (λ x. orElse x (walkFault version1 sw (i .tables) (i .body .code) 1 σ)) f
 
   -- the walk of the body's block is that of the image
   module _ (τ : Scope Status) (v : τ ≡ σ) (few : length τ ≤ 64) (p : Place) (at : p .at ≡ body) (m m′ : Memory) (r : Walked) (left : ℕ) (el : left ≡ 12)
-      (w : BlockWalks (i .tables) s left (suc (12 - left)) none τ p m r m′) where
+      (w : BlockWalks sw (i .tables) s left (suc (12 - left)) none τ p m r m′) where
     few-entered : length σ ≤ 64
     few-entered = subst (λ (υ : Scope Status). length υ ≤ 64) v few
 
-    walked : (r .fault ≡ numberOf (walkFault version1 (i .tables) (i .body .code) 1 σ))
-        × (walkFault version1 (i .tables) (i .body .code) 1 σ ≡ none → BlockDone (i .tables) (i .body) 1 none σ p m r m′ (length s))
+    walked : (r .fault ≡ numberOf (walkFault version1 sw (i .tables) (i .body .code) 1 σ))
+        × (walkFault version1 sw (i .tables) (i .body .code) 1 σ ≡ none → BlockDone sw (i .tables) (i .body) 1 none σ p m r m′ (length s))
     walked =
-        subst (λ (υ : Scope Status). BlockWalks (i .tables) s 12 1 none υ p m r m′) v
-        (subst (λ k. BlockWalks (i .tables) s k (suc (12 - k)) none τ p m r m′) el w) .walks _ refl (i .body) (length s)
+        subst (λ (υ : Scope Status). BlockWalks sw (i .tables) s 12 1 none υ p m r m′) v
+        (subst (λ k. BlockWalks sw (i .tables) s k (suc (12 - k)) none τ p m r m′) el w) .walks _ refl (i .body) (length s)
         (subst (λ k. blockAt (scopeIn version1 (i .tables .names) (i .tables .types)) s 12 k ≡ ok (i .body) (length s)) (sym at) block)
 
-    pub image-fault : r .fault ≡ numberOf (imageFault version1 i)
+    pub image-fault : r .fault ≡ numberOf (imageFault version1 sw i)
     image-fault = walked .0 ∙ ap numberOf (sym (fault-is few-entered))
 
-    pub body-wrote : imageFault version1 i ≡ none → Wrote (bodyOwn i (p .at)) p m (r .place) m′
+    pub body-wrote : imageFault version1 sw i ≡ none → Wrote (bodyOwn sw i (p .at)) p m (r .place) m′
     body-wrote f = walked .1 (sym (fault-is few-entered) ∙ f) .wrote
 
   -- with the head before it and the length in front, it is the image
-  module _ (p : Place) (m m₁ m₂ m₃ : Memory) (q : Place) (written : ℕ) (ep : p ≡ begins body written 0 0 false) (wrote : Wrote (bodyOwn i (p .at)) p m₁ q m₂)
+  module _ (p : Place) (m m₁ m₂ m₃ : Memory) (q : Place) (written : ℕ) (ep : p ≡ begins body written 0 0 false) (wrote : Wrote (bodyOwn sw i (p .at)) p m₁ q m₂)
       (front : Stored (m .out) 4 (slice 4 body s) (m₁ .out) written) where
     abbrev listed : (List Report → List Report) → List ℕ
-    listed f = entriesOf version1 (f (reports i))
+    listed f = entriesOf version1 (f (reports sw i))
 
     pub image-done : q .written < 4294967296 → Stored (m₂ .out) 0 (fourBytes ((q .written + 4294967292) % 4294967296)) (m₃ .out) 4
-        → m₁ .errs ≡ m .errs → m₁ .warns ≡ m .warns → m₁ .lefts ≡ m .lefts → m₃ .errs ≡ m₂ .errs → m₃ .warns ≡ m₂ .warns → m₃ .lefts ≡ m₂ .lefts → ImageDone i m q m₃
+        → m₁ .errs ≡ m .errs → m₁ .warns ≡ m .warns → m₁ .lefts ≡ m .lefts → m₃ .errs ≡ m₂ .errs → m₃ .warns ≡ m₂ .warns → m₃ .lefts ≡ m₂ .lefts → ImageDone sw i m q m₃
     image-done low last a₁ a₂ a₃ b₁ b₂ b₃ =
-        let g = subst (λ x. Wrote (bodyOwn i (x .at)) x m₁ q m₂) ep wrote in
+        let g = subst (λ x. Wrote (bodyOwn sw i (x .at)) x m₁ q m₂) ep wrote in
         let f : Stored (m .out) 4 head (m₁ .out) written = stored-as (sym head-slice) front in
         record {
           bytes = λ fit. whole-stored low (both-stored f (g .bytes refl fit)) last;
@@ -180,21 +180,21 @@ module _ (s : List ℕ) (small : Bytes s) (i : Image) (e : decode version1 s ≡
         }
       where
         list-stored : (f : List Report → List Report) {xs xs₁ ys ys₁ : List ℕ} {k : ℕ} → xs₁ ≡ xs → ys ≡ ys₁
-            → Stored xs₁ 0 (entriesOf version1 (f (report (i .tables) (i .body .code) 1 none (body + 6) σ))) ys₁ k → Stored xs 0 (listed f) ys k
+            → Stored xs₁ 0 (entriesOf version1 (f (report sw (i .tables) (i .body .code) 1 none (body + 6) σ))) ys₁ k → Stored xs 0 (listed f) ys k
         list-stored f {xs} {xs₁} {ys} {ys₁} {k} ex ey x =
             subst (λ zs. Stored xs 0 (listed f) zs k) (sym ey)
             (subst (λ zs. Stored zs 0 (listed f) ys₁ k) ex
             (stored-as (ap (λ rs. entriesOf version1 (f rs)) (sym same-reports)) x))
 
   -- as a page
-  module _ (p : Place) (m m′ : Memory) (q : Place) (written w l : ℕ) (b : Bool) (ep : p ≡ begins body written w l b) (wrote : Wrote (bodyOwn i (p .at)) p m q m′) where
-    from-begin : Wrote (bodyOwn i body) (begins body written w l b) m q m′
-    from-begin = subst (λ x. Wrote (bodyOwn i (x .at)) x m q m′) ep wrote
+  module _ (p : Place) (m m′ : Memory) (q : Place) (written w l : ℕ) (b : Bool) (ep : p ≡ begins body written w l b) (wrote : Wrote (bodyOwn sw i (p .at)) p m q m′) where
+    from-begin : Wrote (bodyOwn sw i body) (begins body written w l b) m q m′
+    from-begin = subst (λ x. Wrote (bodyOwn sw i (x .at)) x m q m′) ep wrote
 
-    pub page-done : b ≡ true → length (m .out) ≤ written → Lined (cursors 0 w l) (reports i) (m .out) (cursorsAt q) (m′ .out)
+    pub page-done : b ≡ true → length (m .out) ≤ written → Lined (cursors 0 w l) (reports sw i) (m .out) (cursorsAt q) (m′ .out)
     page-done y h = subst (λ rs. Lined (cursors 0 w l) rs (m .out) (cursorsAt q) (m′ .out)) same-reports (from-begin .lines y h)
 
-    pub page-long : written ≡ body → q .written ≡ length (encode version1 (returnedImage i))
+    pub page-long : written ≡ body → q .written ≡ length (encode version1 (returnedImage sw i))
     page-long e = let h = whole-length in let k = head-length in omega (arith, from-begin .long)
 
 -- the numbers of faults of a walk
@@ -216,9 +216,9 @@ module _ (s tb : List ℕ) (small : Bytes s) (env : Env) (entry body : ℕ) (h :
 
   pub head-inside : (4 ≤ body) × (body ≤ length s) × (length s ≤ 65536)
   head-inside =
-      let a = head-length s small (h .i) (h .read) body (h .walked) in
-      let b = body-fits s small (h .i) (h .read) body (h .walked) in
-      (omega arith, omega arith, short s small (h .i) (h .read) body (h .walked))
+      let a = head-length (switchesOf (env .switches)) s small (h .i) (h .read) body (h .walked) in
+      let b = body-fits (switchesOf (env .switches)) s small (h .i) (h .read) body (h .walked) in
+      (omega arith, omega arith, short (switchesOf (env .switches)) s small (h .i) (h .read) body (h .walked))
 
   module _ (l : Locals) (entered : Entered s tb entry l) (t : States) (held : Held t) (fresh : Fresh t) (rows : List ℕ) (p q : Place) (b : Begins body p) (eq : q ≡ p) where
     abbrev stack : Scope Status
@@ -256,7 +256,7 @@ module _ (s tb : List ℕ) (small : Bytes s) (env : Env) (entry body : ℕ) (h :
         subst (λ k. BlockThere s k (q .at)) (sym (h .left))
         (subst (λ k. BlockThere s 12 k) (sym at-body) (record { t = _; deep = refl; b = h .i .body; next = length s; read = h .walked }))
 
-    locals-are : stack ≡ σ s small (h .i) (h .read) body (h .walked)
+    locals-are : stack ≡ σ (switchesOf (env .switches)) s small (h .i) (h .read) body (h .walked)
     locals-are = entered .is _ _ (h .i .entry) body (h .entered) (h .i .tables) t fresh rows (env .cur) (env .width)
 
     few-locals-in : length stack ≤ 64
@@ -265,31 +265,31 @@ module _ (s tb : List ℕ) (small : Bytes s) (env : Env) (entry body : ℕ) (h :
     module _ (m m′ : Memory) (r : States) (rows′ pl′ : List ℕ)
         (c : Comes s tb (env .cur) (env .width) (blockRows (env .cur) (env .left)) l rows q r rows′ pl′)
         (w : (T : Tables) → Says s tb T → (loop : Option ℕ) → InLoop loop (env .base) (suc (12 - env .left)) l → (faultIn pl′ ≡ 254 → ⊥)
-        → BlockWalks T s (env .left) (suc (12 - env .left)) loop stack q m (walkedIn pl′ (view l r rows′ (env .cur) (env .width))) m′) where
+        → BlockWalks (switchesOf (env .switches)) T s (env .left) (suc (12 - env .left)) loop stack q m (walkedIn pl′ (view l r rows′ (env .cur) (env .width))) m′) where
       abbrev W : Walked
       W = walkedIn pl′ (view l r rows′ (env .cur) (env .width))
 
-      found : (faultIn pl′ ≡ 254 → ⊥) → faultIn pl′ ≡ numberOf (imageFault version1 (h .i))
-      found z = image-fault s small (h .i) (h .read) body (h .walked) stack locals-are few-locals-in q at-body m m′ W (env .left) (h .left) (w (h .i .tables) (h .says) none (h .base) z)
+      found : (faultIn pl′ ≡ 254 → ⊥) → faultIn pl′ ≡ numberOf (imageFault version1 (switchesOf (env .switches)) (h .i))
+      found z = image-fault (switchesOf (env .switches)) s small (h .i) (h .read) body (h .walked) stack locals-are few-locals-in q at-body m m′ W (env .left) (h .left) (w (h .i .tables) (h .says) none (h .base) z)
 
       -- a fault is 254 or the walk's
       pub low-fault : faultIn pl′ < 256
       low-fault = ⊎-elim (λ (e : faultIn pl′ ≡ 254). omega arith) (λ (z : faultIn pl′ ≡ 254 → ⊥).
-          let n = real-low (imageFault version1 (h .i)) (real-image version1 (h .i)) in
+          let n = real-low (imageFault version1 (switchesOf (env .switches)) (h .i)) (real-image version1 (switchesOf (env .switches)) (h .i)) in
           omega (arith, n, found z)) (apart (faultIn pl′) 254)
 
-      wrote : (z : faultIn pl′ ≡ 254 → ⊥) → imageFault version1 (h .i) ≡ none → Wrote (bodyOwn (h .i) (p .at)) p m (placeIn pl′) m′
-      wrote z f = subst (λ (x : Place). Wrote (bodyOwn (h .i) (x .at)) x m (placeIn pl′) m′) eq
-          (body-wrote s small (h .i) (h .read) body (h .walked) stack locals-are few-locals-in q at-body m m′ W (env .left) (h .left) (w (h .i .tables) (h .says) none (h .base) z) f)
+      wrote : (z : faultIn pl′ ≡ 254 → ⊥) → imageFault version1 (switchesOf (env .switches)) (h .i) ≡ none → Wrote (bodyOwn (switchesOf (env .switches)) (h .i) (p .at)) p m (placeIn pl′) m′
+      wrote z f = subst (λ (x : Place). Wrote (bodyOwn (switchesOf (env .switches)) (h .i) (x .at)) x m (placeIn pl′) m′) eq
+          (body-wrote (switchesOf (env .switches)) s small (h .i) (h .read) body (h .walked) stack locals-are few-locals-in q at-body m m′ W (env .left) (h .left) (w (h .i .tables) (h .says) none (h .base) z) f)
 
       walks : (faultIn pl′ ≡ 254 → ⊥) → (i : Image) → decode version1 s ≡ accepted i
-          → (faultIn pl′ ≡ numberOf (imageFault version1 i)) × (imageFault version1 i ≡ none → Wrote (bodyOwn i (p .at)) p m (placeIn pl′) m′)
+          → (faultIn pl′ ≡ numberOf (imageFault version1 (switchesOf (env .switches)) i)) × (imageFault version1 (switchesOf (env .switches)) i ≡ none → Wrote (bodyOwn (switchesOf (env .switches)) i (p .at)) p m (placeIn pl′) m′)
       walks z i e =
-          subst (λ (j : Image). (faultIn pl′ ≡ numberOf (imageFault version1 j)) × (imageFault version1 j ≡ none → Wrote (bodyOwn j (p .at)) p m (placeIn pl′) m′))
+          subst (λ (j : Image). (faultIn pl′ ≡ numberOf (imageFault version1 (switchesOf (env .switches)) j)) × (imageFault version1 (switchesOf (env .switches)) j ≡ none → Wrote (bodyOwn (switchesOf (env .switches)) j (p .at)) p m (placeIn pl′) m′))
           (one-image s (h .read) e) (found z, wrote z)
 
-      pub body-walked : (x : Seen) → x ≡ record { fault = faultIn pl′; place = placeIn pl′ } → BodyWalks s (length rows) p m x m′
-      body-walked x ex = subst (λ (y : Seen). BodyWalks s (length rows) p m y m′) (sym ex) (record {
+      pub body-walked : (x : Seen) → x ≡ record { fault = faultIn pl′; place = placeIn pl′ } → BodyWalks (switchesOf (env .switches)) s (length rows) p m x m′
+      body-walked x ex = subst (λ (y : Seen). BodyWalks (switchesOf (env .switches)) s (length rows) p m y m′) (sym ex) (record {
         short = λ e. omega (arith, c .short e, h .cur, h .left);
         walks = walks;
         written = λ e. bounded (λ (y : Place). y .written) e (c .grows e .written);
@@ -331,49 +331,49 @@ module _ (s tb : List ℕ) (small : Bytes s) (env : Env) (entry body : ℕ) (h :
       let f = front .place in
       subst (Begins body) (sym ep) (record { is = refl; written = omega arith; warnings = omega arith; lefts = omega arith })
 
-  module _ (rows : ℕ) (m₂ m₃ : Memory) (w r : Seen) (g : BodyWalks s rows p m₁ w m₂) where
+  module _ (rows : ℕ) (m₂ m₃ : Memory) (w r : Seen) (g : BodyWalks (switchesOf (env .switches)) s rows p m₁ w m₂) where
     pub low-written : w .fault ≡ 0 → w .place .written < 4294967296
     low-written e = let b = g .written e in let k = begins-head .written in omega arith
 
     pub image-walked : Closes (m₂ .out) w r (m₃ .out) → m₁ .errs ≡ m .errs → m₁ .warns ≡ m .warns → m₁ .lefts ≡ m .lefts → m₃ .errs ≡ m₂ .errs → m₃ .warns ≡ m₂ .warns → m₃ .lefts ≡ m₂ .lefts
-        → ImageWalks s rows m r m₃
-    image-walked k a₁ a₂ a₃ b₁ b₂ b₃ = subst (λ (y : Seen). ImageWalks s rows m y m₃) (sym (k .is)) (record {
+        → ImageWalks (switchesOf (env .switches)) s rows m r m₃
+    image-walked k a₁ a₂ a₃ b₁ b₂ b₃ = subst (λ (y : Seen). ImageWalks (switchesOf (env .switches)) s rows m y m₃) (sym (k .is)) (record {
       short = g .short;
       walks = λ z i e.
           let x = g .walks z i e in (
             x .0,
             λ f.
                 let none-found : w .fault ≡ 0 = x .0 ∙ ap numberOf f in
-                subst (λ (j : Image). ImageDone j m (w .place) m₃) (one-image s (h .read) e)
-                (image-done s small (h .i) (h .read) body (h .walked) p m m₁ m₂ m₃ (w .place) written ep (subst (λ (j : Image). Wrote (bodyOwn j (p .at)) p m₁ (w .place) m₂) (sym (one-image s (h .read) e)) (x .1 f)) front
+                subst (λ (j : Image). ImageDone (switchesOf (env .switches)) j m (w .place) m₃) (one-image s (h .read) e)
+                (image-done (switchesOf (env .switches)) s small (h .i) (h .read) body (h .walked) p m m₁ m₂ m₃ (w .place) written ep (subst (λ (j : Image). Wrote (bodyOwn (switchesOf (env .switches)) j (p .at)) p m₁ (w .place) m₂) (sym (one-image s (h .read) e)) (x .1 f)) front
                 (low-written none-found) (k .last none-found) a₁ a₂ a₃ b₁ b₂ b₃),
           );
     })
 
 -- of a walk into a page, or into nothing
-module _ (s tb : List ℕ) (small : Bytes s) (env : Env) (entry body : ℕ) (h : ImageThere s tb env entry body) (rows : ℕ) (m m′ : Memory) (p : Place) (r : Seen) (g : BodyWalks s rows p m r m′) where
+module _ (s tb : List ℕ) (small : Bytes s) (env : Env) (entry body : ℕ) (h : ImageThere s tb env entry body) (rows : ℕ) (m m′ : Memory) (p : Place) (r : Seen) (g : BodyWalks (switchesOf (env .switches)) s rows p m r m′) where
   module _ (written w l : ℕ) (b : Bool) (ep : p ≡ begins body written w l b) where
-    wrote-in : (z : r .fault ≡ 254 → ⊥) → (i : Image) → decode version1 s ≡ accepted i → imageFault version1 i ≡ none → Wrote (bodyOwn (h .i) (p .at)) p m (r .place) m′
-    wrote-in z i e f = subst (λ (j : Image). Wrote (bodyOwn j (p .at)) p m (r .place) m′) (sym (one-image s (h .read) e)) (g .walks z i e .1 f)
+    wrote-in : (z : r .fault ≡ 254 → ⊥) → (i : Image) → decode version1 s ≡ accepted i → imageFault version1 (switchesOf (env .switches)) i ≡ none → Wrote (bodyOwn (switchesOf (env .switches)) (h .i) (p .at)) p m (r .place) m′
+    wrote-in z i e f = subst (λ (j : Image). Wrote (bodyOwn (switchesOf (env .switches)) j (p .at)) p m (r .place) m′) (sym (one-image s (h .read) e)) (g .walks z i e .1 f)
 
-    pub lined-in : b ≡ true → length (m .out) ≤ written → (z : r .fault ≡ 254 → ⊥) → (i : Image) → decode version1 s ≡ accepted i → imageFault version1 i ≡ none
-        → Lined (cursors 0 w l) (reports i) (m .out) (cursorsAt (r .place)) (m′ .out)
+    pub lined-in : b ≡ true → length (m .out) ≤ written → (z : r .fault ≡ 254 → ⊥) → (i : Image) → decode version1 s ≡ accepted i → imageFault version1 (switchesOf (env .switches)) i ≡ none
+        → Lined (cursors 0 w l) (reports (switchesOf (env .switches)) i) (m .out) (cursorsAt (r .place)) (m′ .out)
     lined-in y k z i e f =
-        subst (λ (j : Image). Lined (cursors 0 w l) (reports j) (m .out) (cursorsAt (r .place)) (m′ .out)) (one-image s (h .read) e)
-        (page-done s small (h .i) (h .read) body (h .walked) p m m′ (r .place) written w l b ep (wrote-in z i e f) y k)
+        subst (λ (j : Image). Lined (cursors 0 w l) (reports (switchesOf (env .switches)) j) (m .out) (cursorsAt (r .place)) (m′ .out)) (one-image s (h .read) e)
+        (page-done (switchesOf (env .switches)) s small (h .i) (h .read) body (h .walked) p m m′ (r .place) written w l b ep (wrote-in z i e f) y k)
 
-    pub page-walked : b ≡ true → length (m .out) ≤ written → PageWalks s rows (cursors 0 w l) (m .out) r (m′ .out)
+    pub page-walked : b ≡ true → length (m .out) ≤ written → PageWalks (switchesOf (env .switches)) s rows (cursors 0 w l) (m .out) r (m′ .out)
     page-walked y k = record { short = g .short; walks = λ z i e. (g .walks z i e .0, λ f. lined-in y k z i e f) }
 
-  pub measured : (b : Bool) → p ≡ begins body body 0 0 b → m .out ≡ [] → MeasuresIn s rows b r
+  pub measured : (b : Bool) → p ≡ begins body body 0 0 b → m .out ≡ [] → MeasuresIn (switchesOf (env .switches)) s rows b r
   measured b ep none-lent = record {
     short = g .short;
     measures = λ z. record {
       walks = λ i e. (
         g .walks z i e .0,
         λ f. (
-          subst (λ (j : Image). r .place .written ≡ length (encode version1 (returnedImage j))) (one-image s (h .read) e)
-              (page-long s small (h .i) (h .read) body (h .walked) p m m′ (r .place) body 0 0 b ep (wrote-in body 0 0 b ep z i e f) refl),
+          subst (λ (j : Image). r .place .written ≡ length (encode version1 (returnedImage (switchesOf (env .switches)) j))) (one-image s (h .read) e)
+              (page-long (switchesOf (env .switches)) s small (h .i) (h .read) body (h .walked) p m m′ (r .place) body 0 0 b ep (wrote-in body 0 0 b ep z i e f) refl),
           λ y. lined-in body 0 0 b ep y (let l = ap length none-lent in omega arith) z i e f .cursors,
         ),
       );

@@ -3,6 +3,7 @@
 ghost use mathlib.Core.Path.{_≡_};
 ghost use Prim.Native.Nat.{_≤_, _<_};
 ghost use lib.ListN.{length};
+ghost use Rattle.rules.specs.Rules.{switchesOf};
 ghost use Rattle.image_writing.specs.Memory.{memory};
 ghost use Rattle.image_lines.specs.Lined.{cursors};
 ghost use Rattle.entries_image.specs.Images.{ImageThere, begins, Begins, BodyWalks, ImageWalks, Closes, PageWalks, Measures, MeasuresIn};
@@ -57,7 +58,7 @@ fn walk_body(
     lefts: &mut [u32],
 ) -> Seen
     requires { ⌜ ImageThere (now s) (now tb) env (read .entry) (read .body) × Begins (read .body) start ⌝ }
-    ensures { λ r. ⌜ BodyWalks (now (s .entry)) (length (now (rows .entry))) start (memory (now (out .entry)) (now (errs .entry)) (now (warns .entry)) (now (lefts .entry))) r (memory (now (out .exit)) (now (errs .exit)) (now (warns .exit)) (now (lefts .exit))) ⌝ }
+    ensures { λ r. ⌜ BodyWalks (switchesOf (env .switches)) (now (s .entry)) (length (now (rows .entry))) start (memory (now (out .entry)) (now (errs .entry)) (now (warns .entry)) (now (lefts .entry))) r (memory (now (out .exit)) (now (errs .exit)) (now (warns .exit)) (now (lefts .exit))) ⌝ }
 {
     let l = scope_entered::enter(s, tb, read.entry);
     let states = States::new();
@@ -108,7 +109,7 @@ pub fn walk_image(
     lefts: &mut [u32],
 ) -> Seen
     requires { ⌜ ImageThere (now s) (now tb) env (read .entry) (read .body) ⌝ }
-    ensures { λ r. ⌜ ImageWalks (now (s .entry)) (length (now (rows .entry))) (memory (now (out .entry)) (now (errs .entry)) (now (warns .entry)) (now (lefts .entry))) r (memory (now (out .exit)) (now (errs .exit)) (now (warns .exit)) (now (lefts .exit))) ⌝ }
+    ensures { λ r. ⌜ ImageWalks (switchesOf (env .switches)) (now (s .entry)) (length (now (rows .entry))) (memory (now (out .entry)) (now (errs .entry)) (now (warns .entry)) (now (lefts .entry))) r (memory (now (out .exit)) (now (errs .exit)) (now (warns .exit)) (now (lefts .exit))) ⌝ }
 {
     let body = read.body;
     let written = image_writing::copy_bytes(s, 4, body, out, 4);
@@ -129,7 +130,7 @@ pub fn page_image(
     lefts: usize,
 ) -> Seen
     requires { ⌜ ImageThere (now s) (now tb) env (read .entry) (read .body) × (length (now page) ≤ 200000000) × (warnings ≤ 200000000) × (lefts ≤ 200000000) ⌝ }
-    ensures { λ r. ⌜ PageWalks (now (s .entry)) (length (now (rows .entry))) (cursors 0 warnings lefts) (now (page .entry)) r (now (page .exit)) ⌝ }
+    ensures { λ r. ⌜ PageWalks (switchesOf (env .switches)) (now (s .entry)) (length (now (rows .entry))) (cursors 0 warnings lefts) (now (page .entry)) r (now (page .exit)) ⌝ }
 {
     let mut told = [0u32; 0];
     let mut warned = [0u32; 0];
@@ -159,7 +160,7 @@ fn measure_in(
     rows: &mut [u32],
 ) -> Seen
     requires { ⌜ ImageThere (now s) (now tb) env (read .entry) (read .body) ⌝ }
-    ensures { λ r. ⌜ MeasuresIn (now (s .entry)) (length (now (rows .entry))) «paged» r ⌝ }
+    ensures { λ r. ⌜ MeasuresIn (switchesOf (env .switches)) (now (s .entry)) (length (now (rows .entry))) «paged» r ⌝ }
 {
     let mut bytes = [0u8; 0];
     let mut told = [0u32; 0];
@@ -183,7 +184,7 @@ fn measure_in(
 // With few rows.
 fn measure_short(s: &[u8], tb: &[u32], env: Env, read: ImageRead, paged: bool) -> Seen
     requires { ⌜ ImageThere (now s) (now tb) env (read .entry) (read .body) ⌝ }
-    ensures { λ r. ⌜ MeasuresIn (now (s .entry)) 1152 «paged» r ⌝ }
+    ensures { λ r. ⌜ MeasuresIn (switchesOf (env .switches)) (now (s .entry)) 1152 «paged» r ⌝ }
 {
     let mut rows = [0u32; 1152];
     measure_in(s, tb, env, read, paged, &mut rows)
@@ -192,7 +193,7 @@ fn measure_short(s: &[u8], tb: &[u32], env: Env, read: ImageRead, paged: bool) -
 // With rows that suffice for every image.
 fn measure_long(s: &[u8], tb: &[u32], env: Env, read: ImageRead, paged: bool) -> Seen
     requires { ⌜ ImageThere (now s) (now tb) env (read .entry) (read .body) ⌝ }
-    ensures { λ r. ⌜ Measures (now (s .entry)) «paged» r ⌝ }
+    ensures { λ r. ⌜ Measures (switchesOf (env .switches)) (now (s .entry)) «paged» r ⌝ }
 {
     let mut rows = [0u32; 13248];
     measure_in(s, tb, env, read, paged, &mut rows)
@@ -201,7 +202,7 @@ fn measure_long(s: &[u8], tb: &[u32], env: Env, read: ImageRead, paged: bool) ->
 // The walk into no memory, with few rows first.
 pub fn measure(s: &[u8], tb: &[u32], env: Env, read: ImageRead, paged: bool) -> Seen
     requires { ⌜ ImageThere (now s) (now tb) env (read .entry) (read .body) ⌝ }
-    ensures { λ r. ⌜ Measures (now (s .entry)) «paged» r ⌝ }
+    ensures { λ r. ⌜ Measures (switchesOf (env .switches)) (now (s .entry)) «paged» r ⌝ }
 {
     let w = measure_short(s, tb, env, read, paged);
     if w.fault != 254 {

@@ -1,4 +1,4 @@
--- The outcome of the page's verdict, and what it leaves in the buffer lent (document 02, (a)).
+-- The outcome of the page's verdict, and what it leaves in the buffer lent (document 02, (a) and (e)).
 use Prim.Native.Nat.{ℕ}
 use mathlib.Core.Path.{_≡_}
 use mathlib.Core.List.{List}
@@ -19,11 +19,11 @@ abbrev pub pageAfter : PageVerdict → List ℕ → List ℕ
 pageAfter (refusesPage n) old = old
 pageAfter (writes page) old = over page old
 
--- the verdict on an image with that buffer lent
-abbrev pub pageOn : List ℕ → List ℕ → PageVerdict
-pageOn s page = pageVerdict version1 (length page) s
+-- the verdict on an image with that buffer lent, given the value of the switches
+abbrev pub pageOn : ℕ → List ℕ → List ℕ → PageVerdict
+pageOn value s page = pageVerdict version1 (length page) value s
 
 -- the entry that writes the page: its outcome, and the buffer after it
-pub record Pages (s page : List ℕ) (r : Paged) (page′ : List ℕ) : Type 0 where
-  pub outcome : r ≡ pagedOf (pageOn s page)
-  pub leaves : page′ ≡ pageAfter (pageOn s page) page
+pub record Pages (value : ℕ) (s page : List ℕ) (r : Paged) (page′ : List ℕ) : Type 0 where
+  pub outcome : r ≡ pagedOf (pageOn value s page)
+  pub leaves : page′ ≡ pageAfter (pageOn value s page) page

@@ -6,6 +6,7 @@ ghost use Prim.Native.Nat.{_≤_};
 ghost use lib.ListN.{length};
 ghost use Rattle.tables.specs.Limits.{version1};
 ghost use Rattle.image.specs.Image.{Image, accepted, decode};
+ghost use Rattle.rules.specs.Rules.{switchesOf};
 ghost use Rattle.rules.specs.Report.{reports};
 ghost use Rattle.rules.specs.Walk.{imageFault};
 ghost use Rattle.image_lines.specs.Lined.{cursors, lined};
@@ -31,8 +32,8 @@ fn write_page(
     lefts: usize,
 )
     requires { ⌜ ImageThere (now s) (now tb) env (read .entry) (read .body) × (length (now page) ≤ 200000000) × (warnings ≤ 200000000) × (lefts ≤ 200000000) ⌝ }
-    ensures { λ r. ⌜ ((i : Image) → decode version1 (now (s .entry)) ≡ accepted i → imageFault version1 i ≡ none
-        → now (page .exit) ≡ lined (cursors 0 warnings lefts) (reports i) (now (page .entry))) ⌝ }
+    ensures { λ r. ⌜ ((i : Image) → decode version1 (now (s .entry)) ≡ accepted i → imageFault version1 (switchesOf (env .switches)) i ≡ none
+        → now (page .exit) ≡ lined (cursors 0 warnings lefts) (reports (switchesOf (env .switches)) i) (now (page .entry))) ⌝ }
 {
     let mut rows = [0u32; 13248];
     entries_image::page_image(s, tb, env, read, &mut rows, page, warnings, lefts);
@@ -41,7 +42,7 @@ fn write_page(
 // The verdict: nothing of the page is changed before it is known that all of it fits.
 pub fn page_verdict(s: &[u8], tb: &[u32], env: Env, read: ImageRead, page: &mut [u8]) -> Paged
     requires { ⌜ ImageThere (now s) (now tb) env (read .entry) (read .body) ⌝ }
-    ensures { λ r. ⌜ Pages (now (s .entry)) (now (page .entry)) r (now (page .exit)) ⌝ }
+    ensures { λ r. ⌜ Pages (env .switches) (now (s .entry)) (now (page .entry)) r (now (page .exit)) ⌝ }
 {
     let w = entries_image::measure(s, tb, env, read, true);
     let fault = w.fault;

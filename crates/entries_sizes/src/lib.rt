@@ -26,7 +26,7 @@ fn judge_tiny(
     lefts: &mut [u32],
 ) -> Seen
     requires { ⌜ ImageThere (now s) (now tb) env (read .entry) (read .body) ⌝ }
-    ensures { λ r. ⌜ Judges false (now (s .entry)) (memory (now (out .entry)) (now (errs .entry)) (now (warns .entry)) (now (lefts .entry))) r (memory (now (out .exit)) (now (errs .exit)) (now (warns .exit)) (now (lefts .exit))) ⌝ }
+    ensures { λ r. ⌜ Judges (env .switches) false (now (s .entry)) (memory (now (out .entry)) (now (errs .entry)) (now (warns .entry)) (now (lefts .entry))) r (memory (now (out .exit)) (now (errs .exit)) (now (warns .exit)) (now (lefts .exit))) ⌝ }
 {
     let mut bytes = [0u8; 1024];
     let mut told = [0u32; 96];
@@ -63,7 +63,7 @@ fn judge_short(
     lefts: &mut [u32],
 ) -> Seen
     requires { ⌜ ImageThere (now s) (now tb) env (read .entry) (read .body) ⌝ }
-    ensures { λ r. ⌜ Judges false (now (s .entry)) (memory (now (out .entry)) (now (errs .entry)) (now (warns .entry)) (now (lefts .entry))) r (memory (now (out .exit)) (now (errs .exit)) (now (warns .exit)) (now (lefts .exit))) ⌝ }
+    ensures { λ r. ⌜ Judges (env .switches) false (now (s .entry)) (memory (now (out .entry)) (now (errs .entry)) (now (warns .entry)) (now (lefts .entry))) r (memory (now (out .exit)) (now (errs .exit)) (now (warns .exit)) (now (lefts .exit))) ⌝ }
 {
     let mut bytes = [0u8; 4096];
     let mut told = [0u32; 384];
@@ -100,7 +100,7 @@ fn judge_middle(
     lefts: &mut [u32],
 ) -> Seen
     requires { ⌜ ImageThere (now s) (now tb) env (read .entry) (read .body) ⌝ }
-    ensures { λ r. ⌜ Judges false (now (s .entry)) (memory (now (out .entry)) (now (errs .entry)) (now (warns .entry)) (now (lefts .entry))) r (memory (now (out .exit)) (now (errs .exit)) (now (warns .exit)) (now (lefts .exit))) ⌝ }
+    ensures { λ r. ⌜ Judges (env .switches) false (now (s .entry)) (memory (now (out .entry)) (now (errs .entry)) (now (warns .entry)) (now (lefts .entry))) r (memory (now (out .exit)) (now (errs .exit)) (now (warns .exit)) (now (lefts .exit))) ⌝ }
 {
     let mut bytes = [0u8; 32768];
     let mut told = [0u32; 3072];
@@ -137,7 +137,7 @@ fn judge_long(
     lefts: &mut [u32],
 ) -> Seen
     requires { ⌜ ImageThere (now s) (now tb) env (read .entry) (read .body) ⌝ }
-    ensures { λ r. ⌜ Judges true (now (s .entry)) (memory (now (out .entry)) (now (errs .entry)) (now (warns .entry)) (now (lefts .entry))) r (memory (now (out .exit)) (now (errs .exit)) (now (warns .exit)) (now (lefts .exit))) ⌝ }
+    ensures { λ r. ⌜ Judges (env .switches) true (now (s .entry)) (memory (now (out .entry)) (now (errs .entry)) (now (warns .entry)) (now (lefts .entry))) r (memory (now (out .exit)) (now (errs .exit)) (now (warns .exit)) (now (lefts .exit))) ⌝ }
 {
     let mut bytes = [0u8; 65536];
     let mut told = [0u32; 6144];
@@ -207,7 +207,7 @@ pub fn verdict(
     lefts: &mut [u32],
 ) -> Outcome
     requires { ⌜ ImageThere (now s) (now tb) env (read .entry) (read .body) ⌝ }
-    ensures { λ r. ⌜ Passes (now (s .entry)) (memory (now (out .entry)) (now (errs .entry)) (now (warns .entry)) (now (lefts .entry))) r (memory (now (out .exit)) (now (errs .exit)) (now (warns .exit)) (now (lefts .exit))) ⌝ }
+    ensures { λ r. ⌜ Passes (env .switches) (now (s .entry)) (memory (now (out .entry)) (now (errs .entry)) (now (warns .entry)) (now (lefts .entry))) r (memory (now (out .exit)) (now (errs .exit)) (now (warns .exit)) (now (lefts .exit))) ⌝ }
 {
     if size == 0 {
         let r = judge_tiny(s, tb, env, read, out, errs, warns, lefts);

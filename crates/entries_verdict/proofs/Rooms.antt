@@ -6,7 +6,7 @@ use mathlib.Core.Path.{_≡_, refl, sym, ap, _∙_, subst}
 use mathlib.Core.Bool.{Bool, true, false, cond, _&&_}
 use mathlib.Core.List.{List, [], _∷_, _++_}
 use mathlib.Core.Option.{Option, none, some}
-use borrow.Author.Tests.{lt-leb, le-leb, leb-true, eq-eqb, ne-eqb}
+use borrow.Author.Tests.{lt-ltb, le-ltb, lt-leb, le-leb, leb-true, eq-eqb, ne-eqb}
 use lib.Dec.{leb}
 use lib.ListN.{length, length-append, take, drop, replicate}
 use lib.Seq.{sets, sets-eq, slice, take-append-seam, length-take-le}
@@ -14,9 +14,10 @@ use mathlib.Core.Logic.{⊎-elim}
 use Rattle.image_fields.proofs.Tests.{less, false-true}
 use Rattle.tables.specs.Limits.{version1}
 use Rattle.image.specs.Image.{Image, Decoded, accepted, refused, decode, faultOf}
+use Rattle.rules.specs.Rules.{switchesOf}
 use Rattle.rules.specs.Report.{Report, error, warning, left, reports, errors, warnings, lefts}
 use Rattle.rules.specs.Walk.{imageFault}
-use Rattle.rules.specs.Verdict.{Answer, answerOf, entryOf, entriesOf, refuses, answers, listsFit, outputFits, fitted, walked, decided, passVerdict}
+use Rattle.rules.specs.Verdict.{Answer, answerOf, entryOf, entriesOf, refuses, answers, listsFit, outputFits, fitted, walked, decided, tooHigh, passVerdict}
 use Rattle.image_writing.specs.Stored.{Stored}
 use Rattle.image_writing.proofs.Stores.{stored-length}
 use Rattle.statements_steps.specs.Own.{numberOf}
@@ -93,43 +94,53 @@ pub fault-some : (x : Option ℕ) (n : ℕ) → n ≡ numberOf x → 0 < n → x
 fault-some none n e h = absurd (omega arith)
 fault-some (some m) n e h = ap some (sym e)
 
+-- a value of the switches up to 15, and above
+pub not-high : {A : Type 0} (value : ℕ) → value ≤ 15 → (x y : A) → cond (tooHigh value) x y ≡ y
+not-high value h x y = ap (λ (b : Bool). cond b x y) (le-ltb 15 value h)
+
+pub refused-value : (value : ℕ) → 15 < value → (s : List ℕ) (m : Memory) → Passes value s m (Refused 17) m
+unfolding passVerdict
+refused-value value h s m =
+    let v : verdictOn value s m ≡ refuses 17 = ap (λ (b : Bool). cond b (refuses 17) (decided version1 (switchesOf value) (lentOf m) (decode version1 s))) (lt-ltb 15 value h) in
+    record { outcome = sym (ap outcomeOf v); leaves = sym (ap (λ w. memoryAfter w m) v) }
+
 -- a read fault
-pub refused-read : (s : List ℕ) (m : Memory) (n : ℕ) → n ≡ faultOf (decode version1 s) → 0 < n → Passes s m (Refused n) m
+pub refused-read : (value : ℕ) → value ≤ 15 → (s : List ℕ) (m : Memory) (n : ℕ) → n ≡ faultOf (decode version1 s) → 0 < n → Passes value s m (Refused n) m
 unfolding passVerdict faultOf
-refused-read s m n e h = go (decode version1 s) refl
+refused-read value high s m n e h = go (decode version1 s) refl
   where
-    go : (d : Decoded) → decode version1 s ≡ d → Passes s m (Refused n) m
+    go : (d : Decoded) → decode version1 s ≡ d → Passes value s m (Refused n) m
     go (accepted i) z = absurd (omega (arith, e ∙ ap faultOf z))
     go (refused k) z =
-        let v : verdictOn s m ≡ refuses n = ap (decided version1 (lentOf m)) z ∙ ap refuses (sym (e ∙ ap faultOf z)) in
+        let v : verdictOn value s m ≡ refuses n = not-high value high (refuses 17) (decided version1 (switchesOf value) (lentOf m) (decode version1 s)) ∙ ap (decided version1 (switchesOf value) (lentOf m)) z ∙ ap refuses (sym (e ∙ ap faultOf z)) in
         record { outcome = sym (ap outcomeOf v); leaves = sym (ap (λ w. memoryAfter w m) v) }
 
-module _ (s : List ℕ) (i : Image) (e : decode version1 s ≡ accepted i) (m : Memory) where
-  verdict-is : verdictOn s m ≡ walked version1 (lentOf m) i (imageFault version1 i)
+module _ (value : ℕ) (high : value ≤ 15) (s : List ℕ) (i : Image) (e : decode version1 s ≡ accepted i) (m : Memory) where
+  verdict-is : verdictOn value s m ≡ walked version1 (switchesOf value) (lentOf m) i (imageFault version1 (switchesOf value) i)
   unfolding passVerdict
-  verdict-is = ap (decided version1 (lentOf m)) e
+  verdict-is = not-high value high (refuses 17) (decided version1 (switchesOf value) (lentOf m) (decode version1 s)) ∙ ap (decided version1 (switchesOf value) (lentOf m)) e
 
   -- faults 12 and 13
-  pub refused-walk : (n : ℕ) → n ≡ numberOf (imageFault version1 i) → 0 < n → Passes s m (Refused n) m
+  pub refused-walk : (n : ℕ) → n ≡ numberOf (imageFault version1 (switchesOf value) i) → 0 < n → Passes value s m (Refused n) m
   refused-walk n f h =
-      let v : verdictOn s m ≡ refuses n = verdict-is ∙ ap (walked version1 (lentOf m) i) (fault-some (imageFault version1 i) n f h) in
+      let v : verdictOn value s m ≡ refuses n = verdict-is ∙ ap (walked version1 (switchesOf value) (lentOf m) i) (fault-some (imageFault version1 (switchesOf value) i) n f h) in
       record { outcome = sym (ap outcomeOf v); leaves = sym (ap (λ w. memoryAfter w m) v) }
 
-  pub none-found : (n : ℕ) → n ≡ numberOf (imageFault version1 i) → (0 < n → ⊥) → imageFault version1 i ≡ none
-  none-found n f z = real-none (imageFault version1 i) (real-image version1 i) (omega (arith, z, f))
+  pub none-found : (n : ℕ) → n ≡ numberOf (imageFault version1 (switchesOf value) i) → (0 < n → ⊥) → imageFault version1 (switchesOf value) i ≡ none
+  none-found n f z = real-none (imageFault version1 (switchesOf value) i) (real-image version1 (switchesOf value) i) (omega (arith, z, f))
 
-  module _ (z : imageFault version1 i ≡ none) {own own′ : Memory} {p : Place} (d : ImageDone i own p own′) where
+  module _ (z : imageFault version1 (switchesOf value) i ≡ none) {own own′ : Memory} {p : Place} (d : ImageDone (switchesOf value) i own p own′) where
     abbrev a : Answer
-    a = answerOf version1 i
+    a = answerOf version1 (switchesOf value) i
 
     error-count : p .errors ≡ 12 * a .errorCount
-    error-count = d .errors .place ∙ omega (arith, error-numbers (reports i))
+    error-count = d .errors .place ∙ omega (arith, error-numbers (reports (switchesOf value) i))
 
     warning-count : p .warnings ≡ 2 * a .warningCount
-    warning-count = d .warnings .place ∙ omega (arith, warning-numbers (reports i))
+    warning-count = d .warnings .place ∙ omega (arith, warning-numbers (reports (switchesOf value) i))
 
     left-count : p .lefts ≡ 3 * a .leftCount
-    left-count = d .lefts .place ∙ omega (arith, left-numbers (reports i))
+    left-count = d .lefts .place ∙ omega (arith, left-numbers (reports (switchesOf value) i))
 
     lists-fit : (leb (p .errors) (length (m .errs)) && leb (p .warnings) (length (m .warns)) && leb (p .lefts) (length (m .lefts))) ≡ listsFit (lentOf m) a
     lists-fit =
@@ -137,21 +148,21 @@ module _ (s : List ℕ) (i : Image) (e : decode version1 s ≡ accepted i) (m : 
         ∙ ap (λ x. leb (a .errorCount) (length (m .errs) / 12) && x && leb (p .lefts) (length (m .lefts))) (ap (λ k. leb k (length (m .warns))) warning-count ∙ by-two (a .warningCount) (length (m .warns)))
         ∙ ap (λ x. leb (a .errorCount) (length (m .errs) / 12) && leb (a .warningCount) (length (m .warns) / 2) && x) (ap (λ k. leb k (length (m .lefts))) left-count ∙ by-three (a .leftCount) (length (m .lefts)))
 
-    output-fits : (leb (p .written) (length (m .out)) && p .fits) ≡ outputFits (lentOf m) i a
+    output-fits : (leb (p .written) (length (m .out)) && p .fits) ≡ outputFits (switchesOf value) (lentOf m) i a
     output-fits = ap (λ k. leb k (length (m .out)) && p .fits) (d .long) ∙ ap (λ x. leb (length (a .output)) (length (m .out)) && x) (d .fits)
 
     abbrev lack : ℕ
     lack = lackOf p (length (m .out)) (length (m .errs)) (length (m .warns)) (length (m .lefts))
 
-    fitted-is : verdictOn s m ≡ fitted (lentOf m) i a
-    fitted-is = verdict-is ∙ ap (walked version1 (lentOf m) i) z
+    fitted-is : verdictOn value s m ≡ fitted (switchesOf value) (lentOf m) i a
+    fitted-is = verdict-is ∙ ap (walked version1 (switchesOf value) (lentOf m) i) z
 
-    lack-is : lack ≡ cond (listsFit (lentOf m) a) (cond (outputFits (lentOf m) i a) 0 15) 14
+    lack-is : lack ≡ cond (listsFit (lentOf m) a) (cond (outputFits (switchesOf value) (lentOf m) i a) 0 15) 14
     lack-is = ap (λ x. cond x (cond (leb (p .written) (length (m .out)) && p .fits) 0 15) 14) lists-fit ∙ ap (λ x. cond (listsFit (lentOf m) a) (cond x 0 15) 14) output-fits
 
-    pub refused-room : (n : ℕ) → n ≡ lack → 0 < n → Passes s m (Refused n) m
+    pub refused-room : (n : ℕ) → n ≡ lack → 0 < n → Passes value s m (Refused n) m
     refused-room n f h =
-        let v : verdictOn s m ≡ refuses n = fitted-is ∙ go (listsFit (lentOf m) a) (outputFits (lentOf m) i a) (f ∙ lack-is) in
+        let v : verdictOn value s m ≡ refuses n = fitted-is ∙ go (listsFit (lentOf m) a) (outputFits (switchesOf value) (lentOf m) i a) (f ∙ lack-is) in
         record { outcome = sym (ap outcomeOf v); leaves = sym (ap (λ w. memoryAfter w m) v) }
       where
         go : (b c : Bool) → n ≡ cond b (cond c 0 15) 14 → cond b (cond c (answers a) (refuses 15)) (refuses 14) ≡ refuses n
@@ -163,9 +174,9 @@ module _ (s : List ℕ) (i : Image) (e : decode version1 s ≡ accepted i) (m : 
     pub answered : (n : ℕ) → n ≡ lack → (0 < n → ⊥) → (r : Outcome)
         → r ≡ Accepted (record { written = p .written; errors = p .errors / 12; warnings = p .warnings / 2; lefts = p .lefts / 3 })
         → (m′ : Memory) → m′ .out ≡ over (a .output) (m .out) → m′ .errs ≡ over (a .errorNumbers) (m .errs) → m′ .warns ≡ over (a .warningNumbers) (m .warns) → m′ .lefts ≡ over (a .leftNumbers) (m .lefts)
-        → Passes s m r m′
+        → Passes value s m r m′
     answered n f h r er m′ e₀ e₁ e₂ e₃ =
-        let v : verdictOn s m ≡ answers a = fitted-is ∙ go (listsFit (lentOf m) a) (outputFits (lentOf m) i a) (f ∙ lack-is) in
+        let v : verdictOn value s m ≡ answers a = fitted-is ∙ go (listsFit (lentOf m) a) (outputFits (switchesOf value) (lentOf m) i a) (f ∙ lack-is) in
         record {
           outcome = er ∙ totals ∙ sym (ap outcomeOf v);
           leaves = made ∙ sym (ap (λ w. memoryAfter w m) v);
@@ -231,31 +242,31 @@ reaches false rows h l = refl
 reaches true rows h l = absurd (omega (arith, h refl))
 
 -- an image that was read, walked into some memory of our own
-module _ (s : List ℕ) (i : Image) (e : decode version1 s ≡ accepted i) (largest : Bool) (rows : ℕ) (many : largest ≡ true → 13248 ≤ rows)
-    {own own′ : Memory} {w : Seen} (g : ImageWalks s rows own w own′) where
-  pub judge-walk : (m : Memory) → 0 < w .fault → Judges largest s m w m
+module _ (value : ℕ) (high : value ≤ 15) (s : List ℕ) (i : Image) (e : decode version1 s ≡ accepted i) (largest : Bool) (rows : ℕ) (many : largest ≡ true → 13248 ≤ rows)
+    {own own′ : Memory} {w : Seen} (g : ImageWalks (switchesOf value) s rows own w own′) where
+  pub judge-walk : (m : Memory) → 0 < w .fault → Judges value largest s m w m
   judge-walk m f = record {
     short = λ z. (reaches largest rows many (g .short z), refl);
-    passes = λ z. subst (λ (o : Outcome). Passes s m o m) (sym (outcome-refused w f)) (refused-walk s i e m (w .fault) (g .walks z i e .0) f);
+    passes = λ z. subst (λ (o : Outcome). Passes value s m o m) (sym (outcome-refused w f)) (refused-walk value high s i e m (w .fault) (g .walks z i e .0) f);
   }
 
   module _ (f : w .fault ≤ 0) where
     calm : w .fault ≡ 254 → ⊥
     calm z = omega arith
 
-    found-none : imageFault version1 i ≡ none
-    found-none = none-found s i e own (w .fault) (g .walks calm i e .0) (λ z. omega arith)
+    found-none : imageFault version1 (switchesOf value) i ≡ none
+    found-none = none-found value high s i e own (w .fault) (g .walks calm i e .0) (λ z. omega arith)
 
-    image-is-done : ImageDone i own (w .place) own′
+    image-is-done : ImageDone (switchesOf value) i own (w .place) own′
     image-is-done = g .walks calm i e .1 found-none
 
     module _ (m : Memory) (n : ℕ) (en : n ≡ lackOf (w .place) (length (m .out)) (length (m .errs)) (length (m .warns)) (length (m .lefts))) where
-      pub judge-room : (x : Seen) → x ≡ record { fault = n; place = w .place } → 0 < n → Judges largest s m x m
+      pub judge-room : (x : Seen) → x ≡ record { fault = n; place = w .place } → 0 < n → Judges value largest s m x m
       judge-room x ex k =
           let ef : x .fault ≡ n = ap (λ (y : Seen). y .fault) ex in
           record {
             short = λ z. absurd (omega (arith, ef, en, lack-low (w .place) (length (m .out)) (length (m .errs)) (length (m .warns)) (length (m .lefts))));
-            passes = λ z. subst (λ (o : Outcome). Passes s m o m) (sym (outcome-refused x (omega arith) ∙ ap Refused ef)) (refused-room s i e m found-none image-is-done n en k);
+            passes = λ z. subst (λ (o : Outcome). Passes value s m o m) (sym (outcome-refused x (omega arith) ∙ ap Refused ef)) (refused-room value high s i e m found-none image-is-done n en k);
           }
 
       module _ (k : n ≤ 0) where
@@ -266,42 +277,42 @@ module _ (s : List ℕ) (i : Image) (e : decode version1 s ≡ accepted i) (larg
             → Fits (w .place) (length (own′ .out)) (length (own′ .errs)) (length (own′ .warns)) (length (own′ .lefts))
         room-own l el zl = fits-of (w .place) _ _ _ _ l el (λ z. omega arith)
 
-        answers-it : (m′ : Memory) → Passes s m (outcomeIn w) m′ → Judges largest s m w m′
+        answers-it : (m′ : Memory) → Passes value s m (outcomeIn w) m′ → Judges value largest s m w m′
         answers-it m′ a = record { short = λ z. absurd (calm z); passes = λ z. a }
 
         -- what our own memory holds is copied
         pub judge-copied : (l : ℕ) → l ≡ lackOf (w .place) (length (own′ .out)) (length (own′ .errs)) (length (own′ .warns)) (length (own′ .lefts)) → l ≡ 0
-            → (m′ : Memory) → CopiesAll (w .place) own′ m m′ → Judges largest s m w m′
+            → (m′ : Memory) → CopiesAll (w .place) own′ m m′ → Judges value largest s m w m′
         judge-copied l el zl m′ c =
             let d = image-is-done in
             let a = room-lent in
             let b = room-own l el zl in
-            answers-it m′ (answered s i e m found-none d n en (λ z. omega arith) (outcomeIn w) (outcome-accepted w (omega arith)) m′
+            answers-it m′ (answered value high s i e m found-none d n en (λ z. omega arith) (outcomeIn w) (outcome-accepted w (omega arith)) m′
             (c .bytes ∙ copied-front (m .out) (d .bytes (b .fits)) (b .written) (a .written)) (c .errors ∙ copied-front (m .errs) (d .errors) (b .errors) (a .errors))
             (c .warnings ∙ copied-front (m .warns) (d .warnings) (b .warnings) (a .warnings)) (c .lefts ∙ copied-front (m .lefts) (d .lefts) (b .lefts) (a .lefts)))
 
         -- or the largest walks again, into the memory lent
-        pub judge-again : largest ≡ true → (rows′ : ℕ) → rows′ ≡ rows → {v : Seen} (m′ : Memory) → ImageWalks s rows′ m v m′ → Judges largest s m w m′
+        pub judge-again : largest ≡ true → (rows′ : ℕ) → rows′ ≡ rows → {v : Seen} (m′ : Memory) → ImageWalks (switchesOf value) s rows′ m v m′ → Judges value largest s m w m′
         judge-again big rows′ er {v} m′ again =
             let d = image-is-done in
             let a = room-lent in
             let u = again .walks (λ z. let b = again .short z in let c = many big in omega arith) i e .1 found-none in
-            answers-it m′ (answered s i e m found-none d n en (λ z. omega arith) (outcomeIn w) (outcome-accepted w (omega arith)) m′
+            answers-it m′ (answered value high s i e m found-none d n en (λ z. omega arith) (outcomeIn w) (outcome-accepted w (omega arith)) m′
             (stored-front (u .bytes (u .fits ∙ sym (d .fits) ∙ a .fits)) (omega (arith, u .long, d .long, a .written)))
             (stored-front (u .errors) (omega (arith, u .errors .place, d .errors .place, a .errors)))
             (stored-front (u .warnings) (omega (arith, u .warnings .place, d .warnings .place, a .warnings)))
             (stored-front (u .lefts) (omega (arith, u .lefts .place, d .lefts .place, a .lefts))))
 
 -- or a smaller one says that its memory does not reach
-pub judge-small : (largest : Bool) (s : List ℕ) (m : Memory) (p : Place) (x : Seen) → x ≡ record { fault = 254; place = p } → largest ≡ false → Judges largest s m x m
-judge-small largest s m p x ex e = record { short = λ z. (e, refl); passes = λ z. absurd (z (ap (λ (y : Seen). y .fault) ex)) }
+pub judge-small : (value : ℕ) (largest : Bool) (s : List ℕ) (m : Memory) (p : Place) (x : Seen) → x ≡ record { fault = 254; place = p } → largest ≡ false → Judges value largest s m x m
+judge-small value largest s m p x ex e = record { short = λ z. (e, refl); passes = λ z. absurd (z (ap (λ (y : Seen). y .fault) ex)) }
 
 -- a size that reaches, and the next where one does not
-pub judged : (largest : Bool) (s : List ℕ) (m : Memory) (w : Seen) (m′ : Memory) → Judges largest s m w m′ → (w .fault ≡ 254 → ⊥) → (o : Outcome) → o ≡ outcomeIn w → Passes s m o m′
-judged largest s m w m′ j z o e = subst (λ (x : Outcome). Passes s m x m′) (sym e) (j .passes z)
+pub judged : (value : ℕ) (largest : Bool) (s : List ℕ) (m : Memory) (w : Seen) (m′ : Memory) → Judges value largest s m w m′ → (w .fault ≡ 254 → ⊥) → (o : Outcome) → o ≡ outcomeIn w → Passes value s m o m′
+judged value largest s m w m′ j z o e = subst (λ (x : Outcome). Passes value s m x m′) (sym e) (j .passes z)
 
-pub judged-next : (s : List ℕ) (m : Memory) (w : Seen) (m′ : Memory) → Judges false s m w m′ → w .fault ≡ 254 → (r : Outcome) (m″ : Memory) → Passes s m′ r m″ → Passes s m r m″
-judged-next s m w m′ j z r m″ p = subst (λ (x : Memory). Passes s x r m″) (j .short z .1) p
+pub judged-next : (value : ℕ) (s : List ℕ) (m : Memory) (w : Seen) (m′ : Memory) → Judges value false s m w m′ → w .fault ≡ 254 → (r : Outcome) (m″ : Memory) → Passes value s m′ r m″ → Passes value s m r m″
+judged-next value s m w m′ j z r m″ p = subst (λ (x : Memory). Passes value s x r m″) (j .short z .1) p
 
-pub judged-long : (s : List ℕ) (m : Memory) (w : Seen) (m′ : Memory) → Judges true s m w m′ → (o : Outcome) → o ≡ outcomeIn w → Passes s m o m′
-judged-long s m w m′ j o e = judged true s m w m′ j (λ z. false-true (sym (j .short z .0))) o e
+pub judged-long : (value : ℕ) (s : List ℕ) (m : Memory) (w : Seen) (m′ : Memory) → Judges value true s m w m′ → (o : Outcome) → o ≡ outcomeIn w → Passes value s m o m′
+judged-long value s m w m′ j o e = judged value true s m w m′ j (λ z. false-true (sym (j .short z .0))) o e

@@ -9,7 +9,7 @@ use Rattle.image_writing.specs.Memory.{Memory, memory}
 use Rattle.entries_verdict.specs.declared.Outcome.{Outcome}
 use Rattle.entries_verdict.specs.declared.Outcome.the-variants.{Accepted, Refused}
 
--- the memory lent as document 01 counts it: bytes, and entries of 12, 2 and 3 numbers
+-- the memory lent, in what is counted: bytes, and entries of 12, 2 (document 01) and 3 numbers (document 02, (d))
 abbrev pub lentOf : Memory → Lent
 lentOf m = record { bytes = length (m .out); errors = length (m .errs) / 12; warnings = length (m .warns) / 2; lefts = length (m .lefts) / 3 }
 
@@ -27,11 +27,11 @@ abbrev pub memoryAfter : Verdict → Memory → Memory
 memoryAfter (refuses n) m = m
 memoryAfter (answers a) m = memory (over (a .output) (m .out)) (over (a .errorNumbers) (m .errs)) (over (a .warningNumbers) (m .warns)) (over (a .leftNumbers) (m .lefts))
 
--- the verdict on an image with that memory lent
-abbrev pub verdictOn : List ℕ → Memory → Verdict
-verdictOn s m = passVerdict version1 (lentOf m) s
+-- the verdict on an image with that memory lent, given the value of the switches
+abbrev pub verdictOn : ℕ → List ℕ → Memory → Verdict
+verdictOn value s m = passVerdict version1 (lentOf m) value s
 
 -- the entry that gives back the body: its outcome, and the memory after it
-pub record Passes (s : List ℕ) (m : Memory) (r : Outcome) (m′ : Memory) : Type 0 where
-  pub outcome : r ≡ outcomeOf (verdictOn s m)
-  pub leaves : m′ ≡ memoryAfter (verdictOn s m) m
+pub record Passes (value : ℕ) (s : List ℕ) (m : Memory) (r : Outcome) (m′ : Memory) : Type 0 where
+  pub outcome : r ≡ outcomeOf (verdictOn value s m)
+  pub leaves : m′ ≡ memoryAfter (verdictOn value s m) m

@@ -38,6 +38,6 @@ outcomeIn r = cond (eqb (r .fault) 0)
     (Accepted (record { written = r .place .written; errors = r .place .errors / 12; warnings = r .place .warnings / 2; lefts = r .place .lefts / 3 })) (Refused (r .fault))
 
 -- the verdict, with memory of our own of some size; 254: it does not reach, and nothing lent is changed; the largest reaches
-pub record Judges (largest : Bool) (s : List ℕ) (m : Memory) (r : Seen) (m′ : Memory) : Type 0 where
+pub record Judges (value : ℕ) (largest : Bool) (s : List ℕ) (m : Memory) (r : Seen) (m′ : Memory) : Type 0 where
   pub short : r .fault ≡ 254 → (largest ≡ false) × (m′ ≡ m)
-  pub passes : (r .fault ≡ 254 → ⊥) → Passes s m (outcomeIn r) m′
+  pub passes : (r .fault ≡ 254 → ⊥) → Passes value s m (outcomeIn r) m′

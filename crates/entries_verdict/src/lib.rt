@@ -101,7 +101,7 @@ pub fn judge(
     lefts: &mut [u32],
 ) -> Seen
     requires { ⌜ ImageThere (now s) (now tb) env (read .entry) (read .body) × (length (now bytes) ≤ 65536) × (largest ≡ true → 13248 ≤ length (now rows)) ⌝ }
-    ensures { λ r. ⌜ Judges largest (now (s .entry)) (memory (now (out .entry)) (now (errs .entry)) (now (warns .entry)) (now (lefts .entry))) r (memory (now (out .exit)) (now (errs .exit)) (now (warns .exit)) (now (lefts .exit))) ⌝ }
+    ensures { λ r. ⌜ Judges (env .switches) largest (now (s .entry)) (memory (now (out .entry)) (now (errs .entry)) (now (warns .entry)) (now (lefts .entry))) r (memory (now (out .exit)) (now (errs .exit)) (now (warns .exit)) (now (lefts .exit))) ⌝ }
 {
     let w = walk_image(s, tb, env, read, rows, bytes, told, warned, left);
     if 0 < w.fault {

@@ -9,7 +9,7 @@ use Rattle.tables.specs.Limits.{version1}
 use Rattle.rules.specs.State.{State as Status, alive, gone, moved, consumed, handState}
 use Rattle.rules.specs.Stack.{local, shape, has, lookup, inFrame, mark, Stack as Scope}
 use Rattle.rules.specs.Effects.{hand, kill, badMove}
-use Rattle.rules.specs.Rules.{states, applyAll}
+use Rattle.rules.specs.Rules.{states, applyAll, off}
 use Rattle.rules.specs.Report.{error, useOf, reportAll}
 use Rattle.rules.specs.Verdict.{entryOf, entriesOf}
 use Rattle.rules.specs.Effects.{uses, hands, gives, moves, movesGlobal, movesNone, resolveAll}
@@ -55,11 +55,11 @@ module _ (σ : Scope Status) (m p : ℕ) where
   unfolding resolveAll
   hand-told = sym (append-nil _) ∙ ap (λ x. useOf p (lookup m σ) ++ x) (hands-told (has m (shape σ)))
 
-  hands-on : (b : Bool) → true ≡ b → mark m (handState p) σ ≡ applyAll states (cond b (hand m p ∷ []) [] ++ []) σ
+  hands-on : (b : Bool) → true ≡ b → mark m (handState p) σ ≡ applyAll (states off) (cond b (hand m p ∷ []) [] ++ []) σ
   hands-on true e = refl
   hands-on false e = false-true (sym e)
 
-  hands-off : (b : Bool) → false ≡ b → σ ≡ applyAll states (cond b (hand m p ∷ []) [] ++ []) σ
+  hands-off : (b : Bool) → false ≡ b → σ ≡ applyAll (states off) (cond b (hand m p ∷ []) [] ++ []) σ
   hands-off true e = false-true e
   hands-off false e = refl
 
@@ -67,16 +67,16 @@ module _ (σ : Scope Status) (m p : ℕ) where
   gives-told true = refl
   gives-told false = refl
 
-  gives-on : (b : Bool) → true ≡ b → mark m (states .killed consumed p) σ ≡ applyAll states (cond b (kill consumed m p ∷ []) [] ++ []) σ
+  gives-on : (b : Bool) → true ≡ b → mark m (states off .killed consumed p) σ ≡ applyAll (states off) (cond b (kill consumed m p ∷ []) [] ++ []) σ
   gives-on true e = refl
   gives-on false e = false-true (sym e)
 
-  gives-off : (b : Bool) → false ≡ b → σ ≡ applyAll states (cond b (kill consumed m p ∷ []) [] ++ []) σ
+  gives-off : (b : Bool) → false ≡ b → σ ≡ applyAll (states off) (cond b (kill consumed m p ∷ []) [] ++ []) σ
   gives-off true e = false-true e
   gives-off false e = refl
 
   -- moves: of what is no local, of a temporary, of a local
-  move-after : (t b c : Bool) → b ≡ has m (shape σ) → c ≡ t → applyAll states (cond b (cond c (badMove p 3) (kill moved m p)) (badMove p 2) ∷ []) σ ≡ after (moves m p t ∷ []) σ
+  move-after : (t b c : Bool) → b ≡ has m (shape σ) → c ≡ t → applyAll (states off) (cond b (cond c (badMove p 3) (kill moved m p)) (badMove p 2) ∷ []) σ ≡ after (moves m p t ∷ []) σ
   unfolding resolveAll
   move-after t b c e f = rw (e, f)
 

@@ -9,7 +9,7 @@ use Rattle.image_body.specs.Stands.{StandAll, count}
 use Rattle.image_body.specs.Depth.{depthAll}
 use Rattle.rules.specs.State.{State as Status}
 use Rattle.rules.specs.Stack.{shape, mark, Stack as Scope}
-use Rattle.rules.specs.Rules.{states, applyAll}
+use Rattle.rules.specs.Rules.{states, applyAll, off}
 use Rattle.rules.specs.Report.{Report, reportAll}
 use Rattle.rules.specs.Verdict.{entriesOf}
 use Rattle.rules.specs.Effects.{Raw, resolveAll}
@@ -22,7 +22,7 @@ use Rattle.expressions_scan.specs.declared.Answer.{Answer}
 
 -- the locals after raw effects, and what is reported
 abbrev pub after : List Raw → Scope Status → Scope Status
-after rs σ = applyAll states (resolveAll (shape σ) rs) σ
+after rs σ = applyAll (states off) (resolveAll (shape σ) rs) σ
 
 abbrev pub told : List Raw → Scope Status → List Report
 told rs σ = reportAll (resolveAll (shape σ) rs) σ

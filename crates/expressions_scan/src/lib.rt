@@ -47,6 +47,7 @@ pub struct Env {
     pub base: usize,
     pub cur: usize,
     pub width: usize,
+    pub switches: u32,
 }
 
 // How many numbers of the list of errors, or bytes of their page, there are after an effect, and the change.

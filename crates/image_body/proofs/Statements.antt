@@ -198,7 +198,7 @@ pub record Returned (t : Scope) (s : List ℕ) (at : ℕ) (x : Stmt) (n : ℕ) :
   pub room : at + 6 ≤ length s
   pub flag : getD s (at + 5) 0 < 2
   pub bare : getD s (at + 5) 0 ≡ 0
-      → (n ≡ at + 8) × (n ≤ length s) × (two s (at + 6) < t .types) × ((c : Tree) → before x c ≡ bareReturn (four s (at + 1)) (two s (at + 6)) c)
+      → (n ≡ at + 8) × (n ≤ length s) × (two s (at + 6) < t .types) × ((c : Tree) → before x c ≡ bareReturn (four s (at + 1)) (two s (at + 6)) tt c)
   pub value : 0 < getD s (at + 5) 0
       → (e : Expr) × (q : ℕ) × (exprAt t s (t .exprDepth) (at + 6) ≡ ok e q) × (n ≡ q + 2) × (n ≤ length s) × (two s q < t .types)
       × ((c : Tree) → before x c ≡ return (four s (at + 1)) e (two s q) tt c)
@@ -380,7 +380,7 @@ module _ (f : ℕ → Parsed Block) (t : Scope) (s : List ℕ) (at : ℕ) (x : S
       let l : 5 ≤ length s - at = g .fits in
       (v .0, g .q, b .0, omega arith, v .1, ap f (sym er) ∙ b .1, λ c. simp (g .tag, v .2, b .2, g .span))
 
-  pub stmt-break : getD s at 0 ≡ 9 → (n ≡ at + 5) × (n ≤ length s) × ((c : Tree) → before x c ≡ jump false (four s (at + 1)) c)
+  pub stmt-break : getD s at 0 ≡ 9 → (n ≡ at + 5) × (n ≤ length s) × ((c : Tree) → before x c ≡ jump false (four s (at + 1)) tt c)
   unfolding headBytes valueFlag valueCount typeWidth blockCount elseFlag beforeOf
   stmt-break k =
       let g = of-tag f t s 9 at x n k e in
@@ -388,7 +388,7 @@ module _ (f : ℕ → Parsed Block) (t : Scope) (s : List ℕ) (at : ℕ) (x : S
       let l : 5 ≤ length s - at = g .fits in
       (en, omega arith, λ c. simp (g .tag, g .span))
 
-  pub stmt-continue : getD s at 0 ≡ 10 → (n ≡ at + 5) × (n ≤ length s) × ((c : Tree) → before x c ≡ jump true (four s (at + 1)) c)
+  pub stmt-continue : getD s at 0 ≡ 10 → (n ≡ at + 5) × (n ≤ length s) × ((c : Tree) → before x c ≡ jump true (four s (at + 1)) tt c)
   unfolding headBytes valueFlag valueCount typeWidth blockCount elseFlag beforeOf
   stmt-continue k =
       let g = of-tag f t s 10 at x n k e in
@@ -432,12 +432,12 @@ stmtCount (exprStmt i a u c) = suc (stmtCount c)
 stmtCount (variable b i j k a c) = suc (stmtCount c)
 stmtCount (assign i a b k u c) = suc (stmtCount c)
 stmtCount (return i a k u c) = suc (stmtCount c)
-stmtCount (bareReturn i k c) = suc (stmtCount c)
+stmtCount (bareReturn i k x c) = suc (stmtCount c)
 stmtCount (block i b c) = suc (stmtCount c)
 stmtCount (ifElse i a j b k d c) = suc (stmtCount c)
 stmtCount (ifThen i a j b c) = suc (stmtCount c)
 stmtCount (while i a j b c) = suc (stmtCount c)
-stmtCount (jump b i c) = suc (stmtCount c)
+stmtCount (jump b i x c) = suc (stmtCount c)
 
 either-way : (b : Bool) (u v : Tree) (n : ℕ) → stmtCount u ≡ n → stmtCount v ≡ n → stmtCount (cond b u v) ≡ n
 either-way true u v n p q = p

@@ -10,7 +10,7 @@ use Rattle.image_fields.specs.Table.{manyOf}
 use Rattle.image_body.specs.Expr.{Expr, Exprs, Scope, node, none, more, exprAt, exprsAt}
 
 -- A block's statements: each constructor but `done` is a statement and what follows it. X decorates the places where deletes may
--- be put in (a block's end, an assignment, a return with a value), Y an expression statement; both are Unit in a submitted tree.
+-- be put in (a block's end, an assignment, a return, Break and Continue), Y an expression statement; both are Unit in a submitted tree.
 -- The first number is the statement's span (a block statement has its block's), a number before a Code is that block's span, and
 -- the number after a returned or assigned value is the statement's type.
 pub data Code (X Y : Type 0) : Type 0 where
@@ -21,13 +21,13 @@ pub data Code (X Y : Type 0) : Type 0 where
   -- destination, value
   assign : ℕ → Expr → Expr → ℕ → X → Code X Y → Code X Y
   return : ℕ → Expr → ℕ → X → Code X Y → Code X Y
-  bareReturn : ℕ → ℕ → Code X Y → Code X Y
+  bareReturn : ℕ → ℕ → X → Code X Y → Code X Y
   block : ℕ → Code X Y → Code X Y → Code X Y
   ifElse : ℕ → Expr → ℕ → Code X Y → ℕ → Code X Y → Code X Y → Code X Y
   ifThen : ℕ → Expr → ℕ → Code X Y → Code X Y → Code X Y
   while : ℕ → Expr → ℕ → Code X Y → Code X Y → Code X Y
   -- Break, or Continue if true
-  jump : Bool → ℕ → Code X Y → Code X Y
+  jump : Bool → ℕ → X → Code X Y → Code X Y
 
 abbrev pub Tree : Type 0
 Tree = Code (Unit {0}) (Unit {0})
@@ -135,7 +135,7 @@ firstBlock [] = noBlock
 firstBlock (b ∷ bs) = b
 
 abbrev pub beforeReturn : Exprs → ℕ → ℕ → Tree → Tree
-beforeReturn none span ty c = bareReturn span ty c
+beforeReturn none span ty c = bareReturn span ty tt c
 beforeReturn (more e es) span ty c = return span e ty tt c
 
 abbrev pub beforeIf : List Block → ℕ → Expr → Block → Tree → Tree
@@ -153,8 +153,8 @@ beforeOf tag h es l bs cs c =
     (cond (eqb tag 6) (assign (h .span) (firstValue es) (secondValue es) l tt c)
     (cond (eqb tag 7) (beforeIf cs (h .span) (firstValue es) (firstBlock bs) c)
     (cond (eqb tag 8) (while (h .span) (firstValue es) (firstBlock bs .span) (firstBlock bs .code) c)
-    (cond (eqb tag 9) (jump false (h .span) c)
-    (jump true (h .span) c)))))))))
+    (cond (eqb tag 9) (jump false (h .span) tt c)
+    (jump true (h .span) tt c)))))))))
 
 abbrev pub before : Stmt → Tree → Tree
 before x c = beforeOf (x .front .head .tag) (x .front .head) (x .front .values) (x .front .last) (x .blocks) (x .others) c

@@ -209,7 +209,7 @@ module _ (t : Scope) (small : SmallScope t) where
         stmt (omega arith) (v .0) (bytes-append (expr-bytes _ d (v .1)) (bytes-append (expr-bytes _ e (v .2)) (bytes-append (type-two (v .3)) (code-bytes c (v .4)))))
     code-bytes (return p e u x c) v =
         stmt (omega arith) (v .0) (bytes-cons (omega arith) (bytes-append (expr-bytes _ e (v .1)) (bytes-append (type-two (v .2)) (code-bytes c (v .3)))))
-    code-bytes (bareReturn p u c) v = stmt (omega arith) (v .0) (bytes-cons (omega arith) (bytes-append (type-two (v .1)) (code-bytes c (v .2))))
+    code-bytes (bareReturn p u x c) v = stmt (omega arith) (v .0) (bytes-cons (omega arith) (bytes-append (type-two (v .1)) (code-bytes c (v .2))))
     code-bytes (block q b c) v = bytes-cons (omega arith) (bytes-append (each _ (v .0)) (code-bytes c (v .1)))
     code-bytes (ifElse p e q b r d c) v =
         stmt (omega arith) (v .0)
@@ -218,7 +218,7 @@ module _ (t : Scope) (small : SmallScope t) where
         stmt (omega arith) (v .0) (bytes-append (expr-bytes _ e (v .1)) (bytes-append (each _ (v .2)) (bytes-cons (omega arith) (code-bytes c (v .3)))))
     code-bytes (while p e q b c) v =
         stmt (omega arith) (v .0) (bytes-append (expr-bytes _ e (v .1)) (bytes-append (each _ (v .2)) (code-bytes c (v .3))))
-    code-bytes (jump b p c) v = stmt (pick (λ k. k < 256) b (λ z. omega arith) (omega arith)) (v .0) (code-bytes c (v .1))
+    code-bytes (jump b p x c) v = stmt (pick (λ k. k < 256) b (λ z. omega arith) (omega arith)) (v .0) (code-bytes c (v .1))
 
   pub block-bytes : (d : ℕ) (b : Block) → ValidBlock t d b → OfBytes (encodeBlock b)
   unfolding ValidBlock encodeBlock

@@ -214,7 +214,7 @@ module _ (t : Scope) (scope : ValidScope t) (s : List ℕ) where
         step (record { tag = 2; span = o; name = 0; ty = 0 }) (more e none) 1 u [] [] c p q
         record { shape = refl; span = refl; name = refl; ty = refl; bound = refl; last = v .2; values = (v .1, tt); blocks = tt; others = tt }
         (λ r x. code-back c r q (v .3) x) g
-    code-back (bareReturn o u c) p q v g =
+    code-back (bareReturn o u x c) p q v g =
         step (record { tag = 2; span = o; name = 0; ty = 0 }) none 0 u [] [] c p q
         record { shape = refl; span = refl; name = refl; ty = refl; bound = refl; last = v .1; values = tt; blocks = tt; others = tt }
         (λ r x. code-back c r q (v .2) x) g
@@ -234,11 +234,11 @@ module _ (t : Scope) (scope : ValidScope t) (s : List ℕ) where
         step (record { tag = 8; span = o; name = 0; ty = 0 }) (more e none) 0 0 (record { span = k; code = b } ∷ []) [] c p q
         record { shape = refl; span = refl; name = refl; ty = refl; bound = refl; last = omega arith; values = (v .1, tt); blocks = (v .2, tt); others = tt }
         (λ r x. code-back c r q (v .3) x) g
-    code-back (jump false o c) p q v g =
+    code-back (jump false o x c) p q v g =
         step (record { tag = 9; span = o; name = 0; ty = 0 }) none 0 0 [] [] c p q
         record { shape = refl; span = refl; name = refl; ty = refl; bound = refl; last = omega arith; values = tt; blocks = tt; others = tt }
         (λ r x. code-back c r q (v .1) x) g
-    code-back (jump true o c) p q v g =
+    code-back (jump true o x c) p q v g =
         step (record { tag = 10; span = o; name = 0; ty = 0 }) none 0 0 [] [] c p q
         record { shape = refl; span = refl; name = refl; ty = refl; bound = refl; last = omega arith; values = tt; blocks = tt; others = tt }
         (λ r x. code-back c r q (v .1) x) g

@@ -31,12 +31,12 @@ module _ {X Y : Type 0} where
   size (variable b p n t e c) = suc (size c)
   size (assign p d e t x c) = suc (size c)
   size (return p e t x c) = suc (size c)
-  size (bareReturn p t c) = suc (size c)
+  size (bareReturn p t x c) = suc (size c)
   size (block q b c) = suc (size c)
   size (ifElse p e q b r d c) = suc (size c)
   size (ifThen p e q b c) = suc (size c)
   size (while p e q b c) = suc (size c)
-  size (jump b p c) = suc (size c)
+  size (jump b p x c) = suc (size c)
 
   unfoldable pub encodeCode : Code X Y → List ℕ
   encodeCode (done x) = []
@@ -44,13 +44,13 @@ module _ {X Y : Type 0} where
   encodeCode (variable b p n t e c) = cond b 5 4 ∷ (fourBytes p ++ (twoBytes n ++ (twoBytes t ++ (encodeExpr e ++ encodeCode c))))
   encodeCode (assign p d e t x c) = 6 ∷ (fourBytes p ++ (encodeExpr d ++ (encodeExpr e ++ (twoBytes t ++ encodeCode c))))
   encodeCode (return p e t x c) = 2 ∷ (fourBytes p ++ (1 ∷ (encodeExpr e ++ (twoBytes t ++ encodeCode c))))
-  encodeCode (bareReturn p t c) = 2 ∷ (fourBytes p ++ (0 ∷ (twoBytes t ++ encodeCode c)))
+  encodeCode (bareReturn p t x c) = 2 ∷ (fourBytes p ++ (0 ∷ (twoBytes t ++ encodeCode c)))
   encodeCode (block q b c) = 1 ∷ (withCount q (size b) (encodeCode b) ++ encodeCode c)
   encodeCode (ifElse p e q b r d c) =
       7 ∷ (fourBytes p ++ (encodeExpr e ++ (withCount q (size b) (encodeCode b) ++ (1 ∷ (withCount r (size d) (encodeCode d) ++ encodeCode c)))))
   encodeCode (ifThen p e q b c) = 7 ∷ (fourBytes p ++ (encodeExpr e ++ (withCount q (size b) (encodeCode b) ++ (0 ∷ encodeCode c))))
   encodeCode (while p e q b c) = 8 ∷ (fourBytes p ++ (encodeExpr e ++ (withCount q (size b) (encodeCode b) ++ encodeCode c)))
-  encodeCode (jump b p c) = cond b 10 9 ∷ (fourBytes p ++ encodeCode c)
+  encodeCode (jump b p x c) = cond b 10 9 ∷ (fourBytes p ++ encodeCode c)
 
 unfoldable pub encodeBlock : Block → List ℕ
 encodeBlock b = withCount (b .span) (size (b .code)) (encodeCode (b .code))

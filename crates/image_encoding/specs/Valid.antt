@@ -130,13 +130,13 @@ ValidCode Good t (exprStmt p e y c) = (p < 4294967296) × ValidValue t e × Vali
 ValidCode Good t (variable b p n u e c) = (p < 4294967296) × (n < t .names) × (u < t .types) × ValidValue t e × ValidCode Good t c
 ValidCode Good t (assign p d e u x c) = (p < 4294967296) × ValidValue t d × ValidValue t e × (u < t .types) × ValidCode Good t c
 ValidCode Good t (return p e u x c) = (p < 4294967296) × ValidValue t e × (u < t .types) × ValidCode Good t c
-ValidCode Good t (bareReturn p u c) = (p < 4294967296) × (u < t .types) × ValidCode Good t c
+ValidCode Good t (bareReturn p u x c) = (p < 4294967296) × (u < t .types) × ValidCode Good t c
 ValidCode Good t (block q b c) = Good (record { span = q; code = b }) × ValidCode Good t c
 ValidCode Good t (ifElse p e q b r d c) =
     (p < 4294967296) × ValidValue t e × Good (record { span = q; code = b }) × Good (record { span = r; code = d }) × ValidCode Good t c
 ValidCode Good t (ifThen p e q b c) = (p < 4294967296) × ValidValue t e × Good (record { span = q; code = b }) × ValidCode Good t c
 ValidCode Good t (while p e q b c) = (p < 4294967296) × ValidValue t e × Good (record { span = q; code = b }) × ValidCode Good t c
-ValidCode Good t (jump b p c) = (p < 4294967296) × ValidCode Good t c
+ValidCode Good t (jump b p x c) = (p < 4294967296) × ValidCode Good t c
 
 -- a block no deeper than so much
 unfoldable pub ValidBlock : Scope → ℕ → Block → Type 0

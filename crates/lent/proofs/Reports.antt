@@ -11,6 +11,7 @@ use lib.Seq.{getD-drop, take-at, drop-at, length-take-le}
 use borrow.Author.Tests.{ltb-true, le-ltb}
 use Rattle.tables.specs.Limits.{version1}
 use Rattle.image.specs.Image.{Image}
+use Rattle.rules.specs.Rules.{Switches}
 use Rattle.rules.specs.Report.{Report as Reported, error, warning, left, errors, reports}
 use Rattle.rules.specs.Verdict.{entryOf, entriesOf, answerOf}
 use Rattle.lent.specs.declared.Report.{Report}
@@ -136,11 +137,11 @@ reports-of-errors rs rest old new fault h w =
       w .structs ∙ ap (λ (t : Bool). cond t old (records ns n ++ drop n old)) no ∙ ap (λ (l : List Report). l ++ drop n old) (records-of rs rest),
     )
 
--- so the pass's numbers of an image make the records of its errors
-pub reports-of-image : (i : Image) (rest : List ℕ) (old new : List Report) (fault : ℕ) → answerOf version1 i .errorCount ≤ length old
-    → Writes (answerOf version1 i .errorNumbers ++ rest) (answerOf version1 i .errorCount) old new fault
-    → (fault ≡ 0) × (new ≡ recordsOf (reports i) ++ drop (answerOf version1 i .errorCount) old)
-reports-of-image i = reports-of-errors (reports i)
+-- so the pass's numbers of an image make the records of its errors, under every setting of the switches
+pub reports-of-image : (w : Switches) (i : Image) (rest : List ℕ) (old new : List Report) (fault : ℕ) → answerOf version1 w i .errorCount ≤ length old
+    → Writes (answerOf version1 w i .errorNumbers ++ rest) (answerOf version1 w i .errorCount) old new fault
+    → (fault ≡ 0) × (new ≡ recordsOf (reports w i) ++ drop (answerOf version1 w i .errorCount) old)
+reports-of-image w i = reports-of-errors (reports w i)
 
 -- the error that document 01 prints as `error 1 15 0 13`
 pub printed-error : records (entriesOf version1 (error 1 15 0 (13 ∷ []) ∷ [])) 1

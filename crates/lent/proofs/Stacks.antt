@@ -15,7 +15,7 @@ use Rattle.tables.specs.Tables.{Tables}
 use Rattle.rules.specs.Questions.{auto}
 use Rattle.rules.specs.State.{State as Status}
 use Rattle.rules.specs.Stack.{mark}
-use Rattle.rules.specs.Rules.{declared, states, register}
+use Rattle.rules.specs.Rules.{declared, states, register, off}
 use Rattle.scope_state.specs.Kinds.{said, put}
 use Rattle.scope_stack.specs.declared.Locals.{Locals}
 use Rattle.scope_stack.specs.declared.States.{States}
@@ -79,14 +79,14 @@ module _ (s r : Stack) (name ty depth born : ℕ) (dtor : Bool) where
 
   pub registered-view : {P : Tables → Type 0} (rows : List ℕ) (cur width : ℕ) → Registered s name ty depth born dtor true r → Sound P (s .locals) (s .states) rows cur width
       → ((T : Tables) → P T → dtor ≡ auto T ty)
-      → (view r rows cur width ≡ register states (declared depth born name ty) (view s rows cur width)) × Sound P (r .locals) (r .states) rows cur width
+      → (view r rows cur width ≡ register (states off) (declared depth born name ty) (view s rows cur width)) × Sound P (r .locals) (r .states) rows cur width
   registered-view rows cur width g h asked = (
     g .is refl rows cur width (h .rowed),
     sound-of (r .locals) (r .states) rows cur width (g .grows refl .kept) (g .held) (g .rowed refl rows cur width (h .rowed)) (λ T p. g .grows refl .drops T (asked T p) (h .drops T p)),
   )
 
   pub registered-answer : (ok : Bool) (rows : List ℕ) (cur width : ℕ) → Registered s name ty depth born dtor ok r
-      → ok ≡ not (ltb (version1 .locals) (length (register states (declared depth born name ty) (view s rows cur width))))
+      → ok ≡ not (ltb (version1 .locals) (length (register (states off) (declared depth born name ty) (view s rows cur width))))
   registered-answer ok rows cur width g =
       g .answer ∙ below (s .locals .count) ∙ ap (λ (n : ℕ). not (ltb 64 n)) (sym (register-length (s .locals) name ty depth born (s .states) rows cur width))
     where

@@ -8,7 +8,7 @@ use lib.Dec.{ltb}
 use Rattle.tables.specs.Limits.{version1}
 use Rattle.rules.specs.State.{State as Status}
 use Rattle.rules.specs.Stack.{Stack as Scope}
-use Rattle.rules.specs.Rules.{declared, states, register}
+use Rattle.rules.specs.Rules.{declared, states, register, off}
 use Rattle.scope_stack.specs.View.{Kept, Held, Rowed, Marks, Grows, view as seen}
 use Rattle.lent.specs.declared.Stack.{Stack}
 
@@ -33,6 +33,6 @@ pub record Registered (old : Stack) (name ty depth born : ℕ) (dtor ok : Bool) 
   pub grows : ok ≡ true → Grows (old .locals) (declared depth born name ty) dtor (new .locals)
   pub held : Held (new .states)
   pub is : ok ≡ true → (rows : List ℕ) (cur width : ℕ) → Rowed (old .locals .count) (old .states) rows cur width
-      → view new rows cur width ≡ register states (declared depth born name ty) (view old rows cur width)
+      → view new rows cur width ≡ register (states off) (declared depth born name ty) (view old rows cur width)
   pub rowed : ok ≡ true → (rows : List ℕ) (cur width : ℕ) → Rowed (old .locals .count) (old .states) rows cur width
       → Rowed (new .locals .count) (new .states) rows cur width

@@ -21,7 +21,7 @@ pub record Lends (m : Memory) : Type 0 where
   pub warnings : length (m .warns) ≡ 2 * 256
   pub lefts : length (m .lefts) ≡ 3 * 256
 
-module _ {s old new : List ℕ} {r : ℕ} {o : Outcome} (lent after : Memory) (g : Lends lent) (p : Passes s lent o after) where
+module _ {s old new : List ℕ} {r : ℕ} {o : Outcome} (lent after : Memory) (g : Lends lent) (p : Passes 0 s lent o after) where
   pub told-refused : {n : ℕ} → o ≡ Refused n → Stored old 0 (line refusedWord (n ∷ [])) new r → Reports s old new r
   told-refused {n} e a = record {
     outcome = Refused n;
@@ -31,7 +31,7 @@ module _ {s old new : List ℕ} {r : ℕ} {o : Outcome} (lent after : Memory) (g
     errors = g .errors;
     warnings = g .warnings;
     lefts = g .lefts;
-    passes = subst (λ x. Passes s lent x after) e p;
+    passes = subst (λ x. Passes 0 s lent x after) e p;
     stored = a;
   }
 
@@ -48,6 +48,6 @@ module _ {s old new : List ℕ} {r : ℕ} {o : Outcome} (lent after : Memory) (g
     errors = g .errors;
     warnings = g .warnings;
     lefts = g .lefts;
-    passes = subst (λ x. Passes s lent x after) e p;
+    passes = subst (λ x. Passes 0 s lent x after) e p;
     stored = both-stored a (both-stored b (both-stored c d));
   }

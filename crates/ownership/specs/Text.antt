@@ -40,7 +40,7 @@ textOf (Accepted t) m =
     line acceptedWord (t .written ∷ t .errors ∷ t .warnings ∷ t .lefts ∷ [])
     ++ (lines (errorLine (m .errs)) 12 (t .errors) 0 ++ (lines (entryLine warningWord (m .warns) 2) 2 (t .warnings) 0 ++ lines (entryLine leftWord (m .lefts) 3) 3 (t .lefts) 0))
 
--- the text of what the pass answers and leaves, with 65,536 bytes and 256 entries a list lent
+-- the text of what the pass answers and leaves with all switches off, 65,536 bytes and 256 entries a list lent
 pub record Reports (s old new : List ℕ) (r : ℕ) : Type 0 where
   pub outcome : Outcome
   pub lent : Memory
@@ -49,5 +49,5 @@ pub record Reports (s old new : List ℕ) (r : ℕ) : Type 0 where
   pub errors : length (lent .errs) ≡ 12 * 256
   pub warnings : length (lent .warns) ≡ 2 * 256
   pub lefts : length (lent .lefts) ≡ 3 * 256
-  pub passes : Passes s lent outcome after
+  pub passes : Passes 0 s lent outcome after
   pub stored : Stored old 0 (textOf outcome after) new r

@@ -11,9 +11,10 @@ use lib.Dec.{leb}
 use lib.ListN.{length}
 use Rattle.tables.specs.Limits.{version1}
 use Rattle.image.specs.Image.{Image, Decoded, accepted, refused, decode}
+use Rattle.rules.specs.Rules.{switchesOf}
 use Rattle.rules.specs.Report.{returnedImage}
 use Rattle.rules.specs.Walk.{imageFault}
-use Rattle.rules.specs.Verdict.{Answer, answerOf, Verdict, refuses, answers, imageCountsFit, fitted, walked, decided, passVerdict}
+use Rattle.rules.specs.Verdict.{Answer, answerOf, Verdict, refuses, answers, imageCountsFit, fitted, walked, decided, tooHigh, passVerdict}
 use Rattle.image_writing.specs.Memory.{Memory}
 use Rattle.entries_verdict.specs.declared.Totals.{Totals}
 use Rattle.entries_verdict.specs.declared.Outcome.{Outcome}
@@ -29,10 +30,10 @@ pub record Within (m : Memory) (t : Totals) : Type 0 where
 refused-never : (n : ℕ) (t : Totals) → Refused n ≡ Accepted t → ⊥
 refused-never n t h = let z : _≡_ {A = ℕ} 0 1 = cc in omega arith
 
-module _ (m : Memory) (t : Totals) where
-  fitted-within : (i : Image) (a : Answer) → outcomeOf (fitted (lentOf m) i a) ≡ Accepted t → Within m t
+module _ (value : ℕ) (m : Memory) (t : Totals) where
+  fitted-within : (i : Image) (a : Answer) → outcomeOf (fitted (switchesOf value) (lentOf m) i a) ≡ Accepted t → Within m t
   fitted-within i a =
-      go _ _ _ _ (imageCountsFit 65535 (returnedImage i)) refl refl refl refl
+      go _ _ _ _ (imageCountsFit 65535 (returnedImage (switchesOf value) i)) refl refl refl refl
     where
       go : (e w l b f : Bool)
           → leb (a .errorCount) (length (m .errs) / 12) ≡ e → leb (a .warningCount) (length (m .warns) / 2) ≡ w
@@ -55,14 +56,18 @@ module _ (m : Memory) (t : Totals) where
       go true false l b f p q r s h = absurd (refused-never 14 t h)
       go false w l b f p q r s h = absurd (refused-never 14 t h)
 
-  walked-within : (i : Image) (x : Option ℕ) → outcomeOf (walked version1 (lentOf m) i x) ≡ Accepted t → Within m t
-  walked-within i none h = fitted-within i (answerOf version1 i) h
+  walked-within : (i : Image) (x : Option ℕ) → outcomeOf (walked version1 (switchesOf value) (lentOf m) i x) ≡ Accepted t → Within m t
+  walked-within i none h = fitted-within i (answerOf version1 (switchesOf value) i) h
   walked-within i (some n) h = absurd (refused-never n t h)
 
-  decided-within : (d : Decoded) → outcomeOf (decided version1 (lentOf m) d) ≡ Accepted t → Within m t
-  decided-within (accepted i) h = walked-within i (imageFault version1 i) h
+  decided-within : (d : Decoded) → outcomeOf (decided version1 (switchesOf value) (lentOf m) d) ≡ Accepted t → Within m t
+  decided-within (accepted i) h = walked-within i (imageFault version1 (switchesOf value) i) h
   decided-within (refused n) h = absurd (refused-never n t h)
 
-  pub within : (s : List ℕ) {r : Outcome} {m′ : Memory} → Passes s m r m′ → r ≡ Accepted t → Within m t
+  pub within : (s : List ℕ) {r : Outcome} {m′ : Memory} → Passes value s m r m′ → r ≡ Accepted t → Within m t
   unfolding passVerdict
-  within s g h = decided-within (decode version1 s) (sym (g .outcome) ∙ h)
+  within s g h = high (tooHigh value) (sym (g .outcome) ∙ h)
+    where
+      high : (b : Bool) → outcomeOf (cond b (refuses 17) (decided version1 (switchesOf value) (lentOf m) (decode version1 s))) ≡ Accepted t → Within m t
+      high true e = absurd (refused-never 17 t e)
+      high false e = decided-within (decode version1 s) e

@@ -1,10 +1,12 @@
--- What the entries answer, and what they leave in the memory lent (document 01, "Faults" and "What is reported").
-use Prim.Native.Nat.{ℕ}
+-- What the entries answer, and what they leave in the memory lent (document 01, "Faults" and "What is reported"), given the value of the
+-- switches (document 02, (e)).
+use Prim.Native.Nat.{ℕ, _≤_}
 use mathlib.Core.Path.{_≡_}
 use mathlib.Core.List.{List, [], _∷_}
 use mathlib.Core.Option.{none, some}
 use Rattle.tables.specs.Limits.{version1}
 use Rattle.image.specs.Image.{Image, accepted, decode}
+use Rattle.rules.specs.Rules.{switchesOf}
 use Rattle.rules.specs.Walk.{imageFault}
 use Rattle.rules.specs.Verdict.{roomFault, RoomFor}
 use Rattle.image_writing.specs.Memory.{Memory}
@@ -28,16 +30,17 @@ totalsAfter (Accepted t) old = t .written ∷ t .errors ∷ t .warnings ∷ t .l
 totalsAfter (Refused n) old = old
 
 -- the entry that gives back the body, for C: its number, the totals and the memory after it
-pub record PassLeaves (s : List ℕ) (m : Memory) (old : List ℕ) (r : ℕ) (m′ : Memory) (new : List ℕ) : Type 0 where
+pub record PassLeaves (value : ℕ) (s : List ℕ) (m : Memory) (old : List ℕ) (r : ℕ) (m′ : Memory) (new : List ℕ) : Type 0 where
   pub outcome : Outcome
-  pub is : Passes s m outcome m′
+  pub is : Passes value s m outcome m′
   pub number : r ≡ outcomeNumber outcome
   pub leaves : new ≡ totalsAfter outcome old
 
--- the entry that answers the room: the first fault of 1 to 13, or a number within document 01's bounds
-abbrev pub RoomIs : List ℕ → Answer → Type 0
-RoomIs s (Denied n) = roomFault version1 s ≡ some n
-RoomIs s (Needed n) = (i : Image) × (decode version1 s ≡ accepted i) × (imageFault version1 i ≡ none) × RoomFor version1 s i n
+-- the entry that answers the room: 17, the first fault of 1 to 13, or a number within document 01's bounds
+abbrev pub RoomIs : ℕ → List ℕ → Answer → Type 0
+RoomIs value s (Denied n) = roomFault version1 value s ≡ some n
+RoomIs value s (Needed n) =
+    (value ≤ 15) × (i : Image) × (decode version1 s ≡ accepted i) × (imageFault version1 (switchesOf value) i ≡ none) × RoomFor version1 (switchesOf value) s i n
 
 -- as a number, 0 for accepted, and the bytes, on a fault unchanged
 abbrev pub answerNumber : Answer → ℕ
@@ -48,9 +51,9 @@ abbrev pub roomAfter : Answer → ℕ → ℕ
 roomAfter (Needed n) old = n
 roomAfter (Denied n) old = old
 
-pub record RoomLeaves (s : List ℕ) (old r new : ℕ) : Type 0 where
+pub record RoomLeaves (value : ℕ) (s : List ℕ) (old r new : ℕ) : Type 0 where
   pub answer : Answer
-  pub is : RoomIs s answer
+  pub is : RoomIs value s answer
   pub number : r ≡ answerNumber answer
   pub leaves : new ≡ roomAfter answer old
 
@@ -63,8 +66,8 @@ abbrev pub writtenAfter : Paged → ℕ → ℕ
 writtenAfter (Written n) old = n
 writtenAfter (paged.Refused n) old = old
 
-pub record PageLeaves (s page : List ℕ) (old r : ℕ) (page′ : List ℕ) (new : ℕ) : Type 0 where
+pub record PageLeaves (value : ℕ) (s page : List ℕ) (old r : ℕ) (page′ : List ℕ) (new : ℕ) : Type 0 where
   pub outcome : Paged
-  pub is : Pages s page outcome page′
+  pub is : Pages value s page outcome page′
   pub number : r ≡ pagedNumber outcome
   pub leaves : new ≡ writtenAfter outcome old

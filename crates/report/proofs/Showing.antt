@@ -33,13 +33,13 @@ written-text (writes page) old n h =
     let l = length-append page (drop (length page) old) in
     (omega arith, ap (λ k. take k (over page old)) e ∙ take-append-seam page (drop (length page) old))
 
-module _ {s old new : List ℕ} {p : Paged} (lent : length old ≡ 2097152) (g : Pages s old p new) where
-  decided : pageOn s old ≡ pageVerdict version1 2097152 s
-  decided = ap (λ k. pageVerdict version1 k s) lent
+module _ {s old new : List ℕ} {p : Paged} (lent : length old ≡ 2097152) (g : Pages 0 s old p new) where
+  decided : pageOn 0 s old ≡ pageVerdict version1 2097152 0 s
+  decided = ap (λ k. pageVerdict version1 k 0 s) lent
 
   pub shown-page : {n : ℕ} → p ≡ Written n → Shows s new n
   shown-page {n} e =
-      let w = written-text (pageOn s old) old n (sym e ∙ g .outcome) in
+      let w = written-text (pageOn 0 s old) old n (sym e ∙ g .outcome) in
       record {
         inside = subst (λ l. n ≤ length l) (sym (g .leaves)) (w .0);
         text = ap (take n) (g .leaves) ∙ w .1 ∙ ap shownOf decided;
@@ -49,5 +49,5 @@ module _ {s old new : List ℕ} {p : Paged} (lent : length old ≡ 2097152) (g :
       → Shows s text r
   shown-refused {n} {r} {text} e a h = record {
     inside = omega (arith, h, stored-length a);
-    text = stored-copied a h ∙ refused-text (pageOn s old) n (sym e ∙ g .outcome) ∙ ap shownOf decided;
+    text = stored-copied a h ∙ refused-text (pageOn 0 s old) n (sym e ∙ g .outcome) ∙ ap shownOf decided;
   }

@@ -12,7 +12,7 @@ abbrev pub shownOf : PageVerdict → List ℕ
 shownOf (refusesPage n) = line refusedWord (n ∷ [])
 shownOf (writes page) = page
 
--- what is shown of an image, with a page of 2,097,152 bytes: the first r bytes of memory
+-- what is shown of an image with all switches off and a page of 2,097,152 bytes: the first r bytes of memory
 pub record Shows (s new : List ℕ) (r : ℕ) : Type 0 where
   pub inside : r ≤ length new
-  pub text : take r new ≡ shownOf (pageVerdict version1 2097152 s)
+  pub text : take r new ≡ shownOf (pageVerdict version1 2097152 0 s)

@@ -17,7 +17,7 @@ use Rattle.rules.specs.Expr.{nobody, view, isCall, tyOf}
 use Rattle.rules.specs.Stack.{local, Stack, Shape, shape}
 use Rattle.rules.specs.State.{State, alive, isAlive}
 use Rattle.rules.specs.Effects.{Effect, effects, exprStmtEffects, assignEffects}
-use Rattle.rules.specs.Rules.{Alg, states, Drop, dropOf, deleteAt, sureFrom, register, atReturn, atJump, concerns, returnDrops, given, evaluate, afterExpr, afterVariable, beforeAssign, afterAssign, exit, declared, behindIf, behindThen, behindLoop, entered, localsOf}
+use Rattle.rules.specs.Rules.{Alg, Switches, off, on, states, Drop, dropOf, deleteAt, sureFrom, register, Place, atBareReturn, atJump, concerns, collect, returnDrops, jumpDrops, given, evaluate, afterExpr, afterVariable, beforeAssign, afterAssign, exit, declared, behindIf, behindThen, behindLoop, entered, localsOf}
 use Rattle.rules.specs.Report.{Report, error, warning, left, leftAt, leftBehind, reportAll, unused, exprBytes, codeBytes, report, bodyStart, reports}
 use Rattle.rules.proofs.Bools.{leb-refl}
 use Rattle.rules.proofs.Each.{Each, EachLocal, each-none, each-more, each-both, each-own, each-effects, left-own}
@@ -63,7 +63,7 @@ entered-born 𝓐 T xs = go xs [] tt
     go (y ∷ ys) σ z =
         go ys (register 𝓐 (given y) σ) (refl, subst (EachLocal (λ s. s .born ≡ 0)) (sym (shape-frame (y .name) 0 (λ a. 𝓐 .new) σ)) z)
 
--- a return without a value leaves behind what one with a value that excludes no name would delete (document 01, "What is reported")
+-- the names of left-behind entries and of deletes
 abbrev pub leftNames : List Report → List ℕ
 leftNames [] = []
 leftNames (error k p h ps ∷ rs) = leftNames rs
@@ -74,19 +74,28 @@ abbrev pub dropNames : List Drop → List ℕ
 dropNames [] = []
 dropNames (dropOf p n t ∷ ds) = n ∷ dropNames ds
 
-pub left-as-returned : (T : Tables) (p : ℕ) (σ : Stack State) → leftNames (leftBehind T p (atReturn nobody) σ) ≡ dropNames (returnDrops states T nobody σ)
-left-as-returned T p [] = refl
-left-as-returned T p (local s a ∷ σ) = go (concerns (atReturn nobody) s && isAlive a && auto T (s .ty)) (left-as-returned T p σ)
+-- a place leaves behind what it would drop with all switches on (02, e)
+pub left-as-dropped : (T : Tables) (p q : ℕ) (pl : Place) (σ : Stack State) → leftNames (leftBehind T false p pl σ) ≡ dropNames (collect (states on) T (λ s. concerns on pl s) q σ)
+left-as-dropped T p q pl [] = refl
+left-as-dropped T p q pl (local s a ∷ σ) = go (concerns on pl s && isAlive a && auto T (s .ty)) (left-as-dropped T p q pl σ)
   where
     ls : List Report
-    ls = leftBehind T p (atReturn nobody) σ
+    ls = leftBehind T false p pl σ
 
     ds : List Drop
-    ds = returnDrops states T nobody σ
+    ds = collect (states on) T (λ s. concerns on pl s) q σ
 
-    go : (b : Bool) → leftNames ls ≡ dropNames ds → leftNames (cond b (leftAt p s ∷ ls) ls) ≡ dropNames (cond b (deleteAt 0 s ∷ ds) ds)
+    go : (b : Bool) → leftNames ls ≡ dropNames ds → leftNames (cond b (leftAt p s ∷ ls) ls) ≡ dropNames (cond b (deleteAt q s ∷ ds) ds)
     go true e = ap (λ (ns : List ℕ). s .name ∷ ns) e
     go false e = e
+
+-- a return without a value what one with a value that excludes no name would delete (document 01, "What is reported"), under any switches
+pub left-as-returned : (w : Switches) (T : Tables) (p : ℕ) (σ : Stack State) → leftNames (leftBehind T false p atBareReturn σ) ≡ dropNames (returnDrops (states w) T (concerns w) nobody σ)
+left-as-returned w T p σ = left-as-dropped T p 0 atBareReturn σ
+
+-- a Break or Continue what it would drop with switch 2
+pub left-as-jumped : (T : Tables) (p : ℕ) (l : Option ℕ) (σ : Stack State) → leftNames (leftBehind T false p (atJump l) σ) ≡ dropNames (jumpDrops (states on) T (concerns on) l σ)
+left-as-jumped T p l σ = left-as-dropped T p 0 (atJump l) σ
 
 -- a fact about a name and a birth
 module _ (P : ℕ → ℕ → Type 0) where
@@ -105,12 +114,12 @@ module _ (P : ℕ → ℕ → Type 0) where
   Declares (variable k s n t e r) = P n s × Declares r
   Declares (assign s e v t x r) = Declares r
   Declares (return s e t x r) = Declares r
-  Declares (bareReturn s t r) = Declares r
+  Declares (bareReturn s t x r) = Declares r
   Declares (block s c r) = Declares c × Declares r
   Declares (ifElse s e ts t us u r) = Declares t × Declares u × Declares r
   Declares (ifThen s e ts t r) = Declares t × Declares r
   Declares (while s e ts t r) = Declares t × Declares r
-  Declares (jump k s r) = Declares r
+  Declares (jump k s x r) = Declares r
 
   -- of the name and third number of each left-behind entry
   abbrev pub LeftBorn : Report → Type 0
@@ -132,48 +141,48 @@ module _ (P : ℕ → ℕ → Type 0) where
   inner : (d : ℕ) (Γ : Shape) → Here d Γ → Here (suc d) Γ
   inner d Γ h = (within-suc d Γ (h .0), h .1)
 
-  module _ (T : Tables) where
-    of-report : (c : Tree) (d : ℕ) (l : Option ℕ) (at : ℕ) (σ : Stack State) → Here d (shape σ) → Declares c → Each LeftBorn (report T c d l at σ)
+  module _ (w : Switches) (T : Tables) where
+    of-report : (c : Tree) (d : ℕ) (l : Option ℕ) (at : ℕ) (σ : Stack State) → Here d (shape σ) → Declares c → Each LeftBorn (report w T c d l at σ)
     of-report (done x) d l at σ h g = each-none LeftBorn
     of-report (exprStmt s e y r) d l at σ h g =
-        let k = births-kept states T d σ (h .0) in
-        each-both LeftBorn _ _ (of-effects (exprStmtEffects T (shape σ) e) σ) (each-both LeftBorn _ _ (of-unused (auto T (tyOf e) && isCall (view e)) s e at) (of-report r d l (at + 5 + exprBytes e) (afterExpr states T e σ) (subst (Here d) (sym (k .expression e)) h) g))
+        let k = births-kept (states w) T d σ (h .0) in
+        each-both LeftBorn _ _ (of-effects (exprStmtEffects T (shape σ) e) σ) (each-both LeftBorn _ _ (of-unused (auto T (tyOf e) && isCall (view e)) s e at) (of-report r d l (at + 5 + exprBytes e) (afterExpr (states w) T e σ) (subst (Here d) (sym (k .expression e)) h) g))
     of-report (variable k s n t e r) d l at σ h g =
-        let b = births-kept states T d σ (h .0) in
-        each-both LeftBorn _ _ (of-effects (effects T (shape σ) e) σ) (of-report r d l (at + 9 + exprBytes e) (afterVariable states T (declared d s n t) e σ) (subst (Here d) (sym (b .registered s n t e)) ((leb-refl d, h .0), (g .0, h .1))) (g .1))
+        let b = births-kept (states w) T d σ (h .0) in
+        each-both LeftBorn _ _ (of-effects (effects T (shape σ) e) σ) (of-report r d l (at + 9 + exprBytes e) (afterVariable (states w) T (declared d s n t) e σ) (subst (Here d) (sym (b .registered s n t e)) ((leb-refl d, h .0), (g .0, h .1))) (g .1))
     of-report (assign s e v t x r) d l at σ h g =
-        let k = births-kept states T d σ (h .0) in
-        each-both LeftBorn _ _ (of-effects (assignEffects T (shape σ) e v) σ) (of-report r d l (at + 7 + exprBytes e + exprBytes v) (afterAssign states T e v (beforeAssign states T e v σ)) (subst (Here d) (sym (k .assigned e v)) h) g)
+        let k = births-kept (states w) T d σ (h .0) in
+        each-both LeftBorn _ _ (of-effects (assignEffects T (shape σ) e v) σ) (of-report r d l (at + 7 + exprBytes e + exprBytes v) (afterAssign (states w) T e v (beforeAssign (states w) T e v σ)) (subst (Here d) (sym (k .assigned e v)) h) g)
     of-report (return s e t x r) d l at σ h g =
-        let k = births-kept states T d σ (h .0) in
-        each-both LeftBorn _ _ (of-effects (effects T (shape σ) e) σ) (of-report r d l (at + 8 + exprBytes e) (evaluate states T e σ) (subst (Here d) (sym (k .evaluated e)) h) g)
-    of-report (bareReturn s t r) d l at σ h g = each-both LeftBorn _ _ (each-own LeftBorn s (left-own T s (atReturn nobody) σ) (h .1)) (of-report r d l (at + 8) σ h g)
+        let k = births-kept (states w) T d σ (h .0) in
+        each-both LeftBorn _ _ (of-effects (effects T (shape σ) e) σ) (of-report r d l (at + 8 + exprBytes e) (evaluate (states w) T e σ) (subst (Here d) (sym (k .evaluated e)) h) g)
+    of-report (bareReturn s t x r) d l at σ h g = each-both LeftBorn _ _ (each-own LeftBorn s (left-own T (w .bareReturns) s atBareReturn σ) (h .1)) (of-report r d l (at + 8) σ h g)
     of-report (block s c r) d l at σ h g =
-        let k = births-kept states T d σ (h .0) in
-        each-both LeftBorn _ _ (of-report c (suc d) l (at + 7) σ (inner d (shape σ) h) (g .0)) (of-report r d l (at + 7 + codeBytes c) (exit states T c (suc d) σ) (subst (Here d) (sym (k .block c)) h) (g .1))
+        let k = births-kept (states w) T d σ (h .0) in
+        each-both LeftBorn _ _ (of-report c (suc d) l (at + 7) σ (inner d (shape σ) h) (g .0)) (of-report r d l (at + 7 + codeBytes c) (exit (states w) T c (suc d) σ) (subst (Here d) (sym (k .block c)) h) (g .1))
     of-report (ifElse s e ts t us u r) d l at σ h g =
-        let k = births-kept states T d σ (h .0) in
-        let i = inner d (shape (evaluate states T e σ)) (subst (Here d) (sym (k .evaluated e)) h) in
-        each-both LeftBorn _ _ (of-effects (effects T (shape σ) e) σ) (each-both LeftBorn _ _ (of-report t (suc d) l (at + 11 + exprBytes e) (evaluate states T e σ) i (g .0)) (each-both LeftBorn _ _ (of-report u (suc d) l (at + 18 + exprBytes e + codeBytes t) (evaluate states T e σ) i (g .1)) (of-report r d l (at + 18 + exprBytes e + codeBytes t + codeBytes u) (behindIf states T e t u d σ) (subst (Here d) (sym (k .ifElse e t u)) h) (g .2))))
+        let k = births-kept (states w) T d σ (h .0) in
+        let i = inner d (shape (evaluate (states w) T e σ)) (subst (Here d) (sym (k .evaluated e)) h) in
+        each-both LeftBorn _ _ (of-effects (effects T (shape σ) e) σ) (each-both LeftBorn _ _ (of-report t (suc d) l (at + 11 + exprBytes e) (evaluate (states w) T e σ) i (g .0)) (each-both LeftBorn _ _ (of-report u (suc d) l (at + 18 + exprBytes e + codeBytes t) (evaluate (states w) T e σ) i (g .1)) (of-report r d l (at + 18 + exprBytes e + codeBytes t + codeBytes u) (behindIf (states w) T e t u d σ) (subst (Here d) (sym (k .ifElse e t u)) h) (g .2))))
     of-report (ifThen s e ts t r) d l at σ h g =
-        let k = births-kept states T d σ (h .0) in
-        each-both LeftBorn _ _ (of-effects (effects T (shape σ) e) σ) (each-both LeftBorn _ _ (of-report t (suc d) l (at + 11 + exprBytes e) (evaluate states T e σ) (inner d (shape (evaluate states T e σ)) (subst (Here d) (sym (k .evaluated e)) h)) (g .0)) (of-report r d l (at + 12 + exprBytes e + codeBytes t) (behindThen states T e t d σ) (subst (Here d) (sym (k .ifThen e t)) h) (g .1)))
+        let k = births-kept (states w) T d σ (h .0) in
+        each-both LeftBorn _ _ (of-effects (effects T (shape σ) e) σ) (each-both LeftBorn _ _ (of-report t (suc d) l (at + 11 + exprBytes e) (evaluate (states w) T e σ) (inner d (shape (evaluate (states w) T e σ)) (subst (Here d) (sym (k .evaluated e)) h)) (g .0)) (of-report r d l (at + 12 + exprBytes e + codeBytes t) (behindThen (states w) T e t d σ) (subst (Here d) (sym (k .ifThen e t)) h) (g .1)))
     of-report (while s e ts t r) d l at σ h g =
-        let k = births-kept states T d σ (h .0) in
-        each-both LeftBorn _ _ (of-effects (effects T (shape σ) e) σ) (each-both LeftBorn _ _ (of-report t (suc d) (some (suc d)) (at + 11 + exprBytes e) (evaluate states T e σ) (inner d (shape (evaluate states T e σ)) (subst (Here d) (sym (k .evaluated e)) h)) (g .0)) (of-report r d l (at + 11 + exprBytes e + codeBytes t) (behindLoop states T e t d σ) (subst (Here d) (sym (k .loop e t)) h) (g .1)))
-    of-report (jump k s r) d l at σ h g = each-both LeftBorn _ _ (each-own LeftBorn s (left-own T s (atJump l) σ) (h .1)) (of-report r d l (at + 5) σ h g)
+        let k = births-kept (states w) T d σ (h .0) in
+        each-both LeftBorn _ _ (of-effects (effects T (shape σ) e) σ) (each-both LeftBorn _ _ (of-report t (suc d) (some (suc d)) (at + 11 + exprBytes e) (evaluate (states w) T e σ) (inner d (shape (evaluate (states w) T e σ)) (subst (Here d) (sym (k .evaluated e)) h)) (g .0)) (of-report r d l (at + 11 + exprBytes e + codeBytes t) (behindLoop (states w) T e t d σ) (subst (Here d) (sym (k .loop e t)) h) (g .1)))
+    of-report (jump k s x r) d l at σ h g = each-both LeftBorn _ _ (each-own LeftBorn s (left-own T (w .jumps) s (atJump l) σ) (h .1)) (of-report r d l (at + 5) σ h g)
 
-    of-entered : (xs : List Param) (σ : Stack State) → Here 0 (shape σ) → Given xs → Here 0 (shape (entered states T xs σ))
+    of-entered : (xs : List Param) (σ : Stack State) → Here 0 (shape σ) → Given xs → Here 0 (shape (entered (states w) T xs σ))
     of-entered [] σ h g = h
     of-entered (x ∷ xs) σ h g =
         let k = subst (Here 0) (sym (shape-frame (x .name) 0 (λ a. alive) σ)) h in
-        of-entered xs (register states (given x) σ) ((leb-refl 0, k .0), (g .0, k .1)) (g .1)
+        of-entered xs (register (states w) (given x) σ) ((leb-refl 0, k .0), (g .0, k .1)) (g .1)
 
   -- whatever holds of the name of every parameter and `this` with 0, and of the name of every Let and Const with its span, holds of every left-behind entry
-  pub left-born : (i : Image) → Given (localsOf (i .entry)) → Declares (i .body .code) → Each LeftBorn (reports i)
-  left-born i g b =
-      of-report (i .tables) (i .body .code) 1 none (bodyStart i) (entered states (i .tables) (localsOf (i .entry)) [])
-      (inner 0 (shape (entered states (i .tables) (localsOf (i .entry)) [])) (of-entered (i .tables) (localsOf (i .entry)) [] (tt, tt) g)) b
+  pub left-born : (w : Switches) (i : Image) → Given (localsOf (i .entry)) → Declares (i .body .code) → Each LeftBorn (reports w i)
+  left-born w i g b =
+      of-report w (i .tables) (i .body .code) 1 none (bodyStart i) (entered (states w) (i .tables) (localsOf (i .entry)) [])
+      (inner 0 (shape (entered (states w) (i .tables) (localsOf (i .entry)) [])) (of-entered w (i .tables) (localsOf (i .entry)) [] (tt, tt) g)) b
 
 -- is the name a parameter's or `this`
 abbrev pub Named : ℕ → List Param → Type 0
@@ -187,12 +196,12 @@ Declared n b (exprStmt s e y r) = Declared n b r
 Declared n b (variable k s m t e r) = ((n ≡ m) × (b ≡ s)) ⊎ Declared n b r
 Declared n b (assign s e v t x r) = Declared n b r
 Declared n b (return s e t x r) = Declared n b r
-Declared n b (bareReturn s t r) = Declared n b r
+Declared n b (bareReturn s t x r) = Declared n b r
 Declared n b (block s c r) = Declared n b c ⊎ Declared n b r
 Declared n b (ifElse s e ts t us u r) = Declared n b t ⊎ (Declared n b u ⊎ Declared n b r)
 Declared n b (ifThen s e ts t r) = Declared n b t ⊎ Declared n b r
 Declared n b (while s e ts t r) = Declared n b t ⊎ Declared n b r
-Declared n b (jump k s r) = Declared n b r
+Declared n b (jump k s x r) = Declared n b r
 
 module _ (P : ℕ → ℕ → Type 0) where
   all-declared : (c : Tree) → ((n b : ℕ) → Declared n b c → P n b) → Declares P c
@@ -201,13 +210,13 @@ module _ (P : ℕ → ℕ → Type 0) where
   all-declared (variable k s n t e r) f = (f n s (inl (refl, refl)), all-declared r (λ m b q. f m b (inr q)))
   all-declared (assign s e v t x r) f = all-declared r f
   all-declared (return s e t x r) f = all-declared r f
-  all-declared (bareReturn s t r) f = all-declared r f
+  all-declared (bareReturn s t x r) f = all-declared r f
   all-declared (block s c r) f = (all-declared c (λ m b q. f m b (inl q)), all-declared r (λ m b q. f m b (inr q)))
   all-declared (ifElse s e ts t us u r) f =
       (all-declared t (λ m b q. f m b (inl q)), all-declared u (λ m b q. f m b (inr (inl q))), all-declared r (λ m b q. f m b (inr (inr q))))
   all-declared (ifThen s e ts t r) f = (all-declared t (λ m b q. f m b (inl q)), all-declared r (λ m b q. f m b (inr q)))
   all-declared (while s e ts t r) f = (all-declared t (λ m b q. f m b (inl q)), all-declared r (λ m b q. f m b (inr q)))
-  all-declared (jump k s r) f = all-declared r f
+  all-declared (jump k s x r) f = all-declared r f
 
   all-given : (xs : List Param) → ((n : ℕ) → Named n xs → P n 0) → Given P xs
   all-given [] f = tt
@@ -218,7 +227,7 @@ abbrev pub Registered : Image → ℕ → ℕ → Type 0
 Registered i n b = ((b ≡ 0) × Named n (localsOf (i .entry))) ⊎ Declared n b (i .body .code)
 
 -- so is each left-behind entry of an image
-pub left-registered : (i : Image) → Each (LeftBorn (Registered i)) (reports i)
-left-registered i =
-    left-born (Registered i) i (all-given (Registered i) (localsOf (i .entry)) (λ n q. inl (refl, q)))
+pub left-registered : (w : Switches) (i : Image) → Each (LeftBorn (Registered i)) (reports w i)
+left-registered w i =
+    left-born (Registered i) w i (all-given (Registered i) (localsOf (i .entry)) (λ n q. inl (refl, q)))
     (all-declared (Registered i) (i .body .code) (λ n b q. inr q))

@@ -9,7 +9,7 @@ use Rattle.rules.specs.Questions.{auto}
 use Rattle.rules.specs.Stack.{Static, Local, local, Stack, Shape, shape, lookup}
 use Rattle.rules.specs.State.{State, alive, gone, isAlive, deleted, moved, consumed}
 use Rattle.rules.specs.Effects.{Effect, use′, kill, hand, badMove, globalMove}
-use Rattle.rules.specs.Rules.{states, apply, Place, concerns}
+use Rattle.rules.specs.Rules.{off, on, states, apply, Place, concerns}
 use Rattle.rules.specs.Report.{Report, error, left, leftAt, badUse, useOf, reportOf, reportAll, leftBehind}
 
 unfoldable pub Each : (Report → Type 0) → List Report → Type 0
@@ -27,11 +27,13 @@ pub data Own (p : ℕ) : Shape → List Report → Type 0 where
   left-out : {s : Static} {Γ : Shape} {rs : List Report} → Own p Γ rs → Own p (s ∷ Γ) rs
   listed : {s : Static} {Γ : Shape} {rs : List Report} → Own p Γ rs → Own p (s ∷ Γ) (left p (s .name) (s .born) ∷ rs)
 
-pub left-own : (T : Tables) (p : ℕ) (w : Place) (σ : Stack State) → Own p (shape σ) (leftBehind T p w σ)
-left-own T p w [] = none-left
-left-own T p w (local s a ∷ σ) = go (concerns w s && isAlive a && auto T (s .ty)) (left-own T p w σ)
+pub left-own : (T : Tables) (made : Bool) (p : ℕ) (pl : Place) (σ : Stack State) → Own p (shape σ) (leftBehind T made p pl σ)
+left-own T true p pl [] = none-left
+left-own T true p pl (local s a ∷ σ) = left-out (left-own T true p pl σ)
+left-own T false p pl [] = none-left
+left-own T false p pl (local s a ∷ σ) = go (concerns on pl s && isAlive a && auto T (s .ty)) (left-own T false p pl σ)
   where
-    go : (b : Bool) → Own p (shape σ) (leftBehind T p w σ) → Own p (s ∷ shape σ) (cond b (leftAt p s ∷ leftBehind T p w σ) (leftBehind T p w σ))
+    go : (b : Bool) → Own p (shape σ) (leftBehind T false p pl σ) → Own p (s ∷ shape σ) (cond b (leftAt p s ∷ leftBehind T false p pl σ) (leftBehind T false p pl σ))
     go true o = listed o
     go false o = left-out o
 
@@ -81,4 +83,4 @@ module _ (Q : Report → Type 0) where
 
     pub each-effects : (es : List Effect) (σ : Stack State) → Each Q (reportAll es σ)
     each-effects [] σ = each-none
-    each-effects (e ∷ es) σ = each-both (reportOf e σ) (reportAll es (apply states e σ)) (of-effect e σ) (each-effects es (apply states e σ))
+    each-effects (e ∷ es) σ = each-both (reportOf e σ) (reportAll es (apply (states off) e σ)) (of-effect e σ) (each-effects es (apply (states off) e σ))

@@ -1,5 +1,5 @@
 -- The scope stack as mod.rs keeps it: frames, innermost first, each with its locals and a map from names to states. What the pass
--- does to them, and the rules of Rules.antt on them.
+-- does to them, and the rules of Rules.antt on them, all switches off: there the Rust is the measure.
 use Prim.Native.Nat.{ℕ, _+_}
 use mathlib.Core.Bool.{Bool, true, false, not, _&&_, cond}
 use mathlib.Core.List.{List, [], _∷_, _++_}
@@ -135,7 +135,7 @@ abbrev pub mergeState : Bool → Bool → State → State → State → State
 mergeState true true a b c = a
 mergeState true false a b c = c
 mergeState false true a b c = b
-mergeState false false a b c = joinState b c
+mergeState false false a b c = joinState false b c
 
 -- unwrap_or
 abbrev pub unwrapOr : Option State → State → State
@@ -283,7 +283,7 @@ module _ (T : Tables) where
   exitFrames (variable k s n t e r) fs = exitFrames r (afterVariableFrames (declaredVar s n t) e fs)
   exitFrames (assign s e v t x r) fs = exitFrames r (afterAssignFrames e v (beforeAssignFrames e v fs))
   exitFrames (return s e t x r) fs = exitFrames r (evaluateFrames e fs)
-  exitFrames (bareReturn s t r) fs = exitFrames r fs
+  exitFrames (bareReturn s t x r) fs = exitFrames r fs
   exitFrames (block s c r) fs = exitFrames r (exitFrames c (push fs))
   exitFrames (ifElse s e ts t us u r) fs =
       exitFrames r
@@ -293,7 +293,7 @@ module _ (T : Tables) where
       exitFrames r (mergeFrames (sureFrom t false) false (evaluateFrames e fs) (exitFrames t (push (evaluateFrames e fs))) none)
   exitFrames (while s e ts t r) fs =
       exitFrames r (mergeFrames false false (evaluateFrames e fs) (exitFrames t (push (evaluateFrames e fs))) none)
-  exitFrames (jump k s r) fs = exitFrames r fs
+  exitFrames (jump k s x r) fs = exitFrames r fs
 
   -- behind an if with an else, an if without one, and a loop
   module _ {X Y : Type 0} (e : Expr) where
@@ -317,7 +317,7 @@ module _ (T : Tables) where
       assign s e v t (preDelete s e (beforeAssignFrames e v fs)) (decideFrames r p false (afterAssignFrames e v (beforeAssignFrames e v fs)))
   decideFrames (return s e t x r) p f fs =
       return s e t (scopeDrops (nameIn (view e)) (evaluateFrames e fs)) (decideFrames r p true (evaluateFrames e fs))
-  decideFrames (bareReturn s t r) p f fs = bareReturn s t (decideFrames r p true fs)
+  decideFrames (bareReturn s t x r) p f fs = bareReturn s t [] (decideFrames r p true fs)
   decideFrames (block s c r) p f fs = block s (decideFrames c s false (push fs)) (decideFrames r p (sureFrom c false) (exitFrames c (push fs)))
   decideFrames (ifElse s e ts t us u r) p f fs =
       ifElse s e ts (decideFrames t ts false (push (evaluateFrames e fs))) us (decideFrames u us false (push (evaluateFrames e fs)))
@@ -328,7 +328,7 @@ module _ (T : Tables) where
   decideFrames (while s e ts t r) p f fs =
       while s e ts (decideFrames t ts false (push (evaluateFrames e fs)))
       (decideFrames r p false (behindLoopFrames e t fs))
-  decideFrames (jump k s r) p f fs = jump k s (decideFrames r p false fs)
+  decideFrames (jump k s x r) p f fs = jump k s [] (decideFrames r p false fs)
 
   -- transform_block: what is reported of the statements that stand at a position, in walking order; l is how many frames are outside
   -- the body of the nearest loop, if they are in a loop
@@ -344,7 +344,7 @@ module _ (T : Tables) where
       ++ reportFrames r l (at + 7 + exprBytes e + exprBytes v) (afterAssignFrames e v (beforeAssignFrames e v fs))
   reportFrames (return s e t x r) l at fs =
       reportAllFrames (effects T (shapeOf fs) e) fs ++ reportFrames r l (at + 8 + exprBytes e) (evaluateFrames e fs)
-  reportFrames (bareReturn s t r) l at fs = scopeGather (λ k. true) (λ v. left s (v .name) (v .born)) fs ++ reportFrames r l (at + 8) fs
+  reportFrames (bareReturn s t x r) l at fs = scopeGather (λ k. true) (λ v. left s (v .name) (v .born)) fs ++ reportFrames r l (at + 8) fs
   reportFrames (block s c r) l at fs = reportFrames c l (at + 7) (push fs) ++ reportFrames r l (at + 7 + codeBytes c) (exitFrames c (push fs))
   reportFrames (ifElse s e ts t us u r) l at fs =
       reportAllFrames (effects T (shapeOf fs) e) fs
@@ -359,7 +359,7 @@ module _ (T : Tables) where
       reportAllFrames (effects T (shapeOf fs) e) fs
       ++ (reportFrames t (some (length fs)) (at + 11 + exprBytes e) (push (evaluateFrames e fs))
       ++ reportFrames r l (at + 11 + exprBytes e + codeBytes t) (behindLoopFrames e t fs))
-  reportFrames (jump k s r) l at fs = loopGather l (λ v. left s (v .name) (v .born)) fs ++ reportFrames r l (at + 5) fs
+  reportFrames (jump k s x r) l at fs = loopGather l (λ v. left s (v .name) (v .born)) fs ++ reportFrames r l (at + 5) fs
 
 -- run_ownership_for_method_body, run_ownership_for_body: from vec![ScopeFrame::default()]
 abbrev pub decideBodyFrames : Tables → Entry → Block → Decided

@@ -1,4 +1,4 @@
--- The flat scope stack of Stack.antt and mod.rs's frames agree, and stay so under all that the pass does.
+-- The flat scope stack of Stack.antt and mod.rs's frames agree, and stay so under all that the pass does, all switches off.
 -- Assumes nothing.
 use Prim.Native.Nat.{ℕ, suc, _+_, _≤_, _<_}
 use native.Mathlib.Omega.{arith}
@@ -21,10 +21,11 @@ use Rattle.rules.specs.Expr.{Named, nobody, called, view, identIn, nameI
 use Rattle.rules.specs.Stack.{Static, Local, local, Stack, Shape, shape, inFrame, mark, lookup, pop, has, staticOf}
 use Rattle.rules.specs.State.{deleted, moved, consumed, State, alive, gone, isAlive, handState}
 use Rattle.rules.specs.Effects.{Effect, use′, kill, hand, badMove, globalMove, effects, exprStmtEffects, takeOver, assignEffects, assignTakes, handName}
-use Rattle.rules.specs.Rules.{Drop, dropOf, states, sureFrom, excludes, localsOf, apply, applyAll, doing, revived, register, merge, tailDrops, returnDrops, dropNewest, dropNamed, assignDrops, evaluate, afterExpr, afterVariable, beforeAssign, afterAssign, exit, decide, entered, decideBody, atReturn, atJump, concerns, gather}
+use Rattle.rules.specs.Rules.{Drop, dropOf, states, sureFrom, excludes, localsOf, apply, applyAll, doing, revived, register, merge, returnDrops, dropNewest, dropNamed, assignDrops, evaluate, afterExpr, afterVariable, beforeAssign, afterAssign, exit, decide, entered, decideBody, atReturn, atJump, concerns, gather, off, on, endDrops, atBareReturn}
 use Rattle.rules.specs.Report.{useOf, reportOf, reportAll, unused, leftBehind, exprBytes, codeBytes, report, bodyStart, reports, left}
 use Rattle.rules.proofs.FrameRules.{handLocal, useFrames, reportFrame, reportAllFrames, reportFrames, reportsFrames, Var, States, insert, isSome, isLive, Frame, frame, Frames, push, popFrame, registerLocal, enteredFrames, orElse, newest, findLocal, findState, markAs, markDeleted, markMoved, markConsumed, markAlive, moveIf, handTemp, mergeState, mergeName, frameAt, elseAt, getIn, mergeFrame, mergeFrames, numbered, shapeOf, applyFrames, applyAllFrames, doingFrames, scopeDrops, lastDrops, preDrop, preDeleteName, preDeleteNamed, preDelete, evaluateFrames, afterExprFrames, afterVariableFrames, beforeAssignFrames, afterAssignFrames, exitFrames, decideFrames, decideBodyFrames, atDepth, declaredVar, givenVar, frameGather, scopeGather, loopGather, deleteOf}
 use Rattle.rules.proofs.Bools.{no≡, of≡, of-false, eqb-self}
+use Rattle.rules.proofs.Shapes.{gather-none}
 
 -- has one of a frame's locals the name
 abbrev pub named : ℕ → List Var → Bool
@@ -150,17 +151,17 @@ agree-mark n f w h (framed {d} {m} {ls} {fs} {τ} {σ} g o q) = split (m n) refl
         (framed (r λ a y. h a (ap (λ (x : Option State). orElse x (findState n fs)) e ∙ y)) (over-past n f (sym (q n) ∙ ap isSome e) o) q)
 
 -- mark_deleted, mark_moved, mark_consumed
-pub agree-deleted : {k : ℕ} {fs : Frames} {σ : Stack State} (n p : ℕ) → Agree k fs σ → Agree k (markDeleted n p fs) (apply states (kill deleted n p) σ)
+pub agree-deleted : {k : ℕ} {fs : Frames} {σ : Stack State} (n p : ℕ) → Agree k fs σ → Agree k (markDeleted n p fs) (apply (states off) (kill deleted n p) σ)
 agree-deleted n p g = agree-mark n _ _ (λ a y. refl) g
 
-pub agree-moved : {k : ℕ} {fs : Frames} {σ : Stack State} (n p : ℕ) → Agree k fs σ → Agree k (markMoved n p fs) (apply states (kill moved n p) σ)
+pub agree-moved : {k : ℕ} {fs : Frames} {σ : Stack State} (n p : ℕ) → Agree k fs σ → Agree k (markMoved n p fs) (apply (states off) (kill moved n p) σ)
 agree-moved n p g = agree-mark n _ _ (λ a y. refl) g
 
-pub agree-consumed : {k : ℕ} {fs : Frames} {σ : Stack State} (n p : ℕ) → Agree k fs σ → Agree k (markConsumed n p fs) (apply states (kill consumed n p) σ)
+pub agree-consumed : {k : ℕ} {fs : Frames} {σ : Stack State} (n p : ℕ) → Agree k fs σ → Agree k (markConsumed n p fs) (apply (states off) (kill consumed n p) σ)
 agree-consumed n p g = agree-mark n _ _ (λ a y. refl) g
 
 -- register_local
-pub agree-register : {d : ℕ} {fs : Frames} {σ : Stack State} (v : Var) → Agree (suc d) fs σ → Agree (suc d) (registerLocal v fs) (register states (atDepth d v) σ)
+pub agree-register : {d : ℕ} {fs : Frames} {σ : Stack State} (v : Var) → Agree (suc d) fs σ → Agree (suc d) (registerLocal v fs) (register (states off) (atDepth d v) σ)
 agree-register v (framed {d} {m} {ls} g o q) =
     let n = v .name in
     framed g (above {v = v} {a = alive} (ap (λ (c : Bool). cond c (some alive) (m n)) (eqb-self n)) (over-some n (λ a. alive) alive (free d (omega arith) g) (λ a y. refl) o)) names
@@ -346,78 +347,74 @@ one-state {fs = fs} {s = s} {t = t} {a = a} {b = b} g i j p q =
 module _ (T : Tables) where
   over-gather : {B : Type 0} {d : ℕ} {m : States} {τ : Stack State} {ls : List Var} {σ : Stack State} (q : Static → Bool) (r : ℕ → Bool) (f : Static → B) (h : Var → B)
       → ((v : Var) → r (v .name) ≡ q (atDepth d v)) → ((v : Var) → h v ≡ f (atDepth d v)) → Over d m τ ls σ
-      → frameGather T r h m ls ++ gather states T q f τ ≡ gather states T q f σ
+      → frameGather T r h m ls ++ gather (states off) T q f τ ≡ gather (states off) T q f σ
   over-gather q r f h e₁ e₂ bottom = refl
   over-gather {B} {d} {m} {τ} q r f h e₁ e₂ (above {v} {a} {ls} {σ} e o) =
       let s : Static = atDepth d v in
-      (λ i. cond (e₁ v i && isLive (e i) && auto T (v .ty)) (e₂ v i ∷ frameGather T r h m ls) (frameGather T r h m ls) ++ gather states T q f τ)
+      (λ i. cond (e₁ v i && isLive (e i) && auto T (v .ty)) (e₂ v i ∷ frameGather T r h m ls) (frameGather T r h m ls) ++ gather (states off) T q f τ)
       ∙ split (q s && isAlive a && auto T (v .ty)) (over-gather q r f h e₁ e₂ o)
     where
-      split : (c : Bool) → frameGather T r h m ls ++ gather states T q f τ ≡ gather states T q f σ
-          → cond c (f (atDepth d v) ∷ frameGather T r h m ls) (frameGather T r h m ls) ++ gather states T q f τ
-          ≡ cond c (f (atDepth d v) ∷ gather states T q f σ) (gather states T q f σ)
+      split : (c : Bool) → frameGather T r h m ls ++ gather (states off) T q f τ ≡ gather (states off) T q f σ
+          → cond c (f (atDepth d v) ∷ frameGather T r h m ls) (frameGather T r h m ls) ++ gather (states off) T q f τ
+          ≡ cond c (f (atDepth d v) ∷ gather (states off) T q f σ) (gather (states off) T q f σ)
       split true x = ap (λ (bs : List B). f (atDepth d v) ∷ bs) x
       split false x = x
 
   -- every frame
   agree-scope : {B : Type 0} {k : ℕ} {fs : Frames} {σ : Stack State} (q : Static → Bool) (r : ℕ → Bool) (f : Static → B) (h : Var → B)
       → ((d : ℕ) (v : Var) → r (v .name) ≡ q (atDepth d v)) → ((d : ℕ) (v : Var) → h v ≡ f (atDepth d v)) → Agree k fs σ
-      → scopeGather T r h fs ≡ gather states T q f σ
+      → scopeGather T r h fs ≡ gather (states off) T q f σ
   agree-scope q r f h e₁ e₂ nothing = refl
   agree-scope {B} q r f h e₁ e₂ (framed {d} {m} {ls} g o p) =
       ap (λ (bs : List B). frameGather T r h m ls ++ bs) (agree-scope q r f h e₁ e₂ g) ∙ over-gather q r f h (e₁ d) (e₂ d) o
 
   -- collect_scope_drops
-  pub agree-return : {k : ℕ} {fs : Frames} {σ : Stack State} (n : Named) → Agree k fs σ → scopeDrops T n fs ≡ returnDrops states T n σ
-  agree-return n g = agree-scope (λ s. concerns (atReturn n) s) (λ k. not (excludes n k)) (λ s. dropOf 0 (s .name) (s .ty)) (deleteOf T 0) (λ d v. refl) (λ d v. refl) g
+  pub agree-return : {k : ℕ} {fs : Frames} {σ : Stack State} (n : Named) → Agree k fs σ → scopeDrops T n fs ≡ returnDrops (states off) T (concerns off) n σ
+  agree-return n g = agree-scope (λ s. concerns off (atReturn n) s) (λ k. not (excludes n k)) (λ s. dropOf 0 (s .name) (s .ty)) (deleteOf T 0) (λ d v. refl) (λ d v. refl) g
 
   none-in : {B : Type 0} (f : Var → B) (m : States) (ls : List Var) → frameGather T (λ k. false) f m ls ≡ []
   none-in f m [] = refl
   none-in f m (v ∷ ls) = none-in f m ls
 
-  no-loop : {B : Type 0} (f : Static → B) (σ : Stack State) → gather states T (λ s. false) f σ ≡ []
-  no-loop f [] = refl
-  no-loop f (local s a ∷ σ) = no-loop f σ
-
   -- frames outside the loop's body
   outside-loop : {B : Type 0} (f : Static → B) (h : Var → B) → ((d : ℕ) (v : Var) → h v ≡ f (atDepth d v))
-      → {k : ℕ} {fs : Frames} {σ : Stack State} (l : ℕ) → k ≤ l → Agree k fs σ → gather states T (λ s. concerns (atJump (some l)) s) f σ ≡ []
+      → {k : ℕ} {fs : Frames} {σ : Stack State} (l : ℕ) → k ≤ l → Agree k fs σ → gather (states off) T (λ s. concerns on (atJump (some l)) s) f σ ≡ []
   outside-loop f h e₂ l b nothing = refl
   outside-loop {B} f h e₂ l b (framed {d} {m} {ls} {fs} {τ} g o q) =
       let e : leb l d ≡ false = no≡ (leb l d) (λ t. let z : l ≤ d = leb→le l d t in omega arith) in
-      sym (over-gather (λ s. concerns (atJump (some l)) s) (λ k. false) f h (λ v. sym e) (e₂ d) o)
-      ∙ (ap (λ (bs : List B). bs ++ gather states T (λ s. concerns (atJump (some l)) s) f τ) (none-in h m ls) ∙ outside-loop f h e₂ l (omega arith) g)
+      sym (over-gather (λ s. concerns on (atJump (some l)) s) (λ k. false) f h (λ v. sym e) (e₂ d) o)
+      ∙ (ap (λ (bs : List B). bs ++ gather (states off) T (λ s. concerns on (atJump (some l)) s) f τ) (none-in h m ls) ∙ outside-loop f h e₂ l (omega arith) g)
 
   -- what a Break or Continue leaves behind
   agree-loop : {B : Type 0} (f : Static → B) (h : Var → B) → ((d : ℕ) (v : Var) → h v ≡ f (atDepth d v))
-      → {k : ℕ} {fs : Frames} {σ : Stack State} (l : Option ℕ) → Agree k fs σ → loopGather T l h fs ≡ gather states T (λ s. concerns (atJump l) s) f σ
-  agree-loop f h e₂ {σ = σ} none g = sym (no-loop f σ)
+      → {k : ℕ} {fs : Frames} {σ : Stack State} (l : Option ℕ) → Agree k fs σ → loopGather T l h fs ≡ gather (states off) T (λ s. concerns on (atJump l) s) f σ
+  agree-loop f h e₂ {σ = σ} none g = sym (gather-none (states off) T f σ)
   agree-loop f h e₂ (some l) nothing = refl
   agree-loop {B} f h e₂ (some l) (framed {d} {m} {ls} {fs} {τ} {σ} g o q) =
       ap (λ (j : ℕ). cond (leb l j) (frameGather T (λ k. true) h m ls ++ loopGather T (some l) h fs) []) (agree-length g)
       ∙ split (leb l d) refl (agree-loop f h e₂ (some l) g)
     where
-      split : (c : Bool) → leb l d ≡ c → loopGather T (some l) h fs ≡ gather states T (λ s. concerns (atJump (some l)) s) f τ
-          → cond c (frameGather T (λ k. true) h m ls ++ loopGather T (some l) h fs) [] ≡ gather states T (λ s. concerns (atJump (some l)) s) f σ
+      split : (c : Bool) → leb l d ≡ c → loopGather T (some l) h fs ≡ gather (states off) T (λ s. concerns on (atJump (some l)) s) f τ
+          → cond c (frameGather T (λ k. true) h m ls ++ loopGather T (some l) h fs) [] ≡ gather (states off) T (λ s. concerns on (atJump (some l)) s) f σ
       split true e r =
-          ap (λ (bs : List B). frameGather T (λ k. true) h m ls ++ bs) r ∙ over-gather (λ s. concerns (atJump (some l)) s) (λ k. true) f h (λ v. sym e) (e₂ d) o
+          ap (λ (bs : List B). frameGather T (λ k. true) h m ls ++ bs) r ∙ over-gather (λ s. concerns on (atJump (some l)) s) (λ k. true) f h (λ v. sym e) (e₂ d) o
       split false e r = sym (outside-loop f h e₂ l (le-cases l d (of-false (leb l d) e)) (framed g o q))
 
   -- what a return without a value, and what a Break or Continue leaves behind
-  pub agree-left : {k : ℕ} {fs : Frames} {σ : Stack State} (p : ℕ) → Agree k fs σ → scopeGather T (λ k. true) (λ v. left p (v .name) (v .born)) fs ≡ leftBehind T p (atReturn nobody) σ
-  agree-left p g = agree-scope (λ s. concerns (atReturn nobody) s) (λ k. true) (λ s. left p (s .name) (s .born)) (λ v. left p (v .name) (v .born)) (λ d v. refl) (λ d v. refl) g
+  pub agree-left : {k : ℕ} {fs : Frames} {σ : Stack State} (p : ℕ) → Agree k fs σ → scopeGather T (λ k. true) (λ v. left p (v .name) (v .born)) fs ≡ leftBehind T false p atBareReturn σ
+  agree-left p g = agree-scope (λ s. concerns on atBareReturn s) (λ k. true) (λ s. left p (s .name) (s .born)) (λ v. left p (v .name) (v .born)) (λ d v. refl) (λ d v. refl) g
 
-  pub agree-jump : {k : ℕ} {fs : Frames} {σ : Stack State} (p : ℕ) (l : Option ℕ) → Agree k fs σ → loopGather T l (λ v. left p (v .name) (v .born)) fs ≡ leftBehind T p (atJump l) σ
+  pub agree-jump : {k : ℕ} {fs : Frames} {σ : Stack State} (p : ℕ) (l : Option ℕ) → Agree k fs σ → loopGather T l (λ v. left p (v .name) (v .born)) fs ≡ leftBehind T false p (atJump l) σ
   agree-jump p l g = agree-loop (λ s. left p (s .name) (s .born)) (λ v. left p (v .name) (v .born)) (λ d v. refl) l g
 
-  free-drops : (d p : ℕ) (σ : Stack State) → Free d σ → tailDrops states T d p σ ≡ []
+  free-drops : (d p : ℕ) (σ : Stack State) → Free d σ → endDrops (states off) T (concerns off) d p σ ≡ []
   free-drops d p [] t = refl
   free-drops d p (local s a ∷ σ) t =
-      ap (λ (b : Bool). cond (b && isAlive a && auto T (s .ty)) (dropOf p (s .name) (s .ty) ∷ tailDrops states T d p σ) (tailDrops states T d p σ)) (t .0)
+      ap (λ (b : Bool). cond (b && isAlive a && auto T (s .ty)) (dropOf p (s .name) (s .ty) ∷ endDrops (states off) T (concerns off) d p σ) (endDrops (states off) T (concerns off) d p σ)) (t .0)
       ∙ free-drops d p σ (t .1)
 
   -- transform_block's tail_drops
-  pub agree-tail : {d : ℕ} {fs : Frames} {σ : Stack State} (p : ℕ) → Agree (suc d) fs σ → lastDrops T p fs ≡ tailDrops states T d p σ
+  pub agree-tail : {d : ℕ} {fs : Frames} {σ : Stack State} (p : ℕ) → Agree (suc d) fs σ → lastDrops T p fs ≡ endDrops (states off) T (concerns off) d p σ
   agree-tail p (framed {d} {m} {ls} {fs} {τ} g o q) =
       sym (append-nil (frameGather T (λ k. true) (deleteOf T p) m ls))
       ∙ (ap (λ (ds : List Drop). frameGather T (λ k. true) (deleteOf T p) m ls ++ ds) (sym (free-drops d p τ (free d (omega arith) g)))
@@ -428,30 +425,34 @@ module _ (T : Tables) where
   both-tests false true x y = refl
   both-tests false false x y = refl
 
+  abbrev named-drop : ℕ → ℕ → Option (Local State) → List Drop
+  named-drop p n o = dropNewest (states off) T (λ s. eqb (s .name) n) p n o
+
   over-pre : {d : ℕ} {m : States} {τ : Stack State} {ls : List Var} {σ : Stack State} (p n : ℕ) → Over d m τ ls σ
-      → preDrop T p n (m n) (newest n ls) (dropNewest states T p n (lookup n τ)) ≡ dropNewest states T p n (lookup n σ)
+      → preDrop T p n (m n) (newest n ls) (named-drop p n (lookup n τ)) ≡ named-drop p n (lookup n σ)
   over-pre p n bottom = refl
   over-pre {d} {m} {τ} p n (above {v} {a} {ls} {σ} e o) = split (eqb (v .name) n) refl (over-pre p n o)
     where
       split : (c : Bool) → eqb (v .name) n ≡ c
-          → preDrop T p n (m n) (newest n ls) (dropNewest states T p n (lookup n τ)) ≡ dropNewest states T p n (lookup n σ)
-          → preDrop T p n (m n) (cond c (some v) (newest n ls)) (dropNewest states T p n (lookup n τ))
-          ≡ dropNewest states T p n (cond c (some (local (atDepth d v) a)) (lookup n σ))
+          → preDrop T p n (m n) (newest n ls) (named-drop p n (lookup n τ)) ≡ named-drop p n (lookup n σ)
+          → preDrop T p n (m n) (cond c (some v) (newest n ls)) (named-drop p n (lookup n τ))
+          ≡ named-drop p n (cond c (some (local (atDepth d v) a)) (lookup n σ))
       split true q r =
           ap (λ (x : Option State). cond (auto T (v .ty)) (cond (isLive x) (dropOf p n (v .ty) ∷ []) []) []) (subst (λ (k : ℕ). m k ≡ some a) (same (v .name) n q) e)
-          ∙ both-tests (isAlive a) (auto T (v .ty)) (dropOf p n (v .ty) ∷ []) []
+          ∙ (both-tests (isAlive a) (auto T (v .ty)) (dropOf p n (v .ty) ∷ []) []
+          ∙ ap (λ (b : Bool). cond (b && isAlive a && auto T (v .ty)) (dropOf p n (v .ty) ∷ []) []) (sym q))
       split false q r = r
 
-  agree-pre : {k : ℕ} {fs : Frames} {σ : Stack State} (p n : ℕ) → Agree k fs σ → preDeleteName T p n fs ≡ dropNewest states T p n (lookup n σ)
+  agree-pre : {k : ℕ} {fs : Frames} {σ : Stack State} (p n : ℕ) → Agree k fs σ → preDeleteName T p n fs ≡ named-drop p n (lookup n σ)
   agree-pre p n nothing = refl
   agree-pre p n (framed {m = m} {ls = ls} g o q) = ap (preDrop T p n (m n) (newest n ls)) (agree-pre p n g) ∙ over-pre p n o
 
-  agree-named : {k : ℕ} {fs : Frames} {σ : Stack State} (p : ℕ) (n : Named) → Agree k fs σ → preDeleteNamed T p n fs ≡ dropNamed states T p n σ
+  agree-named : {k : ℕ} {fs : Frames} {σ : Stack State} (p : ℕ) (n : Named) → Agree k fs σ → preDeleteNamed T p n fs ≡ dropNamed (states off) T (λ s. excludes n (s .name)) p n σ
   agree-named p nobody g = refl
   agree-named p (called n s) g = agree-pre p n g
 
   -- pre_delete_before_assign
-  pub agree-assign : {k : ℕ} {fs : Frames} {σ : Stack State} (p : ℕ) (dst : Expr) → Agree k fs σ → preDelete T p dst fs ≡ assignDrops states T p dst σ
+  pub agree-assign : {k : ℕ} {fs : Frames} {σ : Stack State} (p : ℕ) (dst : Expr) → Agree k fs σ → preDelete T p dst fs ≡ assignDrops (states off) T (concerns off) p dst σ
   agree-assign p dst g = agree-named p (identIn (view dst)) g
 
 -- the locals of each frame
@@ -530,38 +531,38 @@ module _ (f g : Bool) where
 
 over-merge : {d : ℕ} {m m′ m″ : States} {σ₀ τ₀ υ₀ : Stack State} {ls : List Var} {σ τ υ : Stack State} (f g : Bool)
     → Over d m σ₀ ls σ → Over d m′ τ₀ ls τ → Over d m″ υ₀ ls υ
-    → Over d (λ n. mergeName f g (m n) (m′ n) (m″ n)) (merge states f g σ₀ τ₀ υ₀) ls (merge states f g σ τ υ)
+    → Over d (λ n. mergeName f g (m n) (m′ n) (m″ n)) (merge (states off) f g σ₀ τ₀ υ₀) ls (merge (states off) f g σ τ υ)
 over-merge f g bottom bottom bottom = bottom
 over-merge true true (above p o) (above q o′) (above r o″) = above (name-merge true true _ _ _ _ _ _ p q r) (over-merge true true o o′ o″)
 over-merge true false (above p o) (above q o′) (above r o″) = above (name-merge true false _ _ _ _ _ _ p q r) (over-merge true false o o′ o″)
 over-merge false true (above p o) (above q o′) (above r o″) = above (name-merge false true _ _ _ _ _ _ p q r) (over-merge false true o o′ o″)
 over-merge false false (above p o) (above q o′) (above r o″) = above (name-merge false false _ _ _ _ _ _ p q r) (over-merge false false o o′ o″)
 
-merge-empty : (f g : Bool) → Agree 0 [] (merge states f g [] [] [])
+merge-empty : (f g : Bool) → Agree 0 [] (merge (states off) f g [] [] [])
 merge-empty true true = nothing
 merge-empty true false = nothing
 merge-empty false true = nothing
 merge-empty false false = nothing
 
 merge-same : {k : ℕ} {bs ts es : Frames} {σ τ υ : Stack State} (f g : Bool) → Same bs ts → Same bs es → Agree k bs σ → Agree k ts τ → Agree k es υ
-    → Agree k (mergeFrames f g bs ts (some es)) (merge states f g σ τ υ)
+    → Agree k (mergeFrames f g bs ts (some es)) (merge (states off) f g σ τ υ)
 merge-same f g neither neither nothing nothing nothing = merge-empty f g
 merge-same {k} {σ = σ} {τ = τ} {υ = υ} f g (both {ls} {m} {m′} {fs = bs} {gs = ts} s) (both {m′ = m″} {gs = es} s′) (framed x o q) (framed x′ o′ q′) (framed x″ o″ q″) =
-    subst (λ (fs : Frames). Agree k fs (merge states f g σ τ υ)) (sym (merge-some f g ls ls ls m m′ m″ bs ts es (same-length f g s) (same-length f g s′)))
+    subst (λ (fs : Frames). Agree k fs (merge (states off) f g σ τ υ)) (sym (merge-some f g ls ls ls m m′ m″ bs ts es (same-length f g s) (same-length f g s′)))
     (framed (merge-same f g s s′ x x′ x″) (over-merge f g o o′ o″) (λ n. names-merge f g (m n) (m′ n) (m″ n) ∙ q n))
 
 -- merge_control_flow_states, with an else and without
 pub agree-merge : {k : ℕ} {bs ts es : Frames} {σ τ υ : Stack State} (f g : Bool) → layout bs ≡ layout ts → layout bs ≡ layout es
-    → Agree k bs σ → Agree k ts τ → Agree k es υ → Agree k (mergeFrames f g bs ts (some es)) (merge states f g σ τ υ)
+    → Agree k bs σ → Agree k ts τ → Agree k es υ → Agree k (mergeFrames f g bs ts (some es)) (merge (states off) f g σ τ υ)
 agree-merge {bs = bs} {ts = ts} {es = es} f g p q x y z = merge-same f g (same-layout bs ts p) (same-layout bs es q) x y z
 
 pub agree-merge-then : {k : ℕ} {bs ts : Frames} {σ τ : Stack State} (f g : Bool) → layout bs ≡ layout ts
-    → Agree k bs σ → Agree k ts τ → Agree k (mergeFrames f g bs ts none) (merge states f g σ τ σ)
+    → Agree k bs σ → Agree k ts τ → Agree k (mergeFrames f g bs ts none) (merge (states off) f g σ τ σ)
 agree-merge-then {k} {bs} {ts} {σ} {τ} f g p x y =
-    subst (λ (fs : Frames). Agree k fs (merge states f g σ τ σ)) (sym (merge-else f g (same-layout bs ts p))) (agree-merge f g p refl x y x)
+    subst (λ (fs : Frames). Agree k fs (merge (states off) f g σ τ σ)) (sym (merge-else f g (same-layout bs ts p))) (agree-merge f g p refl x y x)
 
 -- an effect, effects, and what an expression does
-pub agree-apply : {k : ℕ} {fs : Frames} {σ : Stack State} (e : Effect) → Agree k fs σ → Agree k (applyFrames e fs) (apply states e σ)
+pub agree-apply : {k : ℕ} {fs : Frames} {σ : Stack State} (e : Effect) → Agree k fs σ → Agree k (applyFrames e fs) (apply (states off) e σ)
 agree-apply (use′ n s) g = g
 agree-apply (kill deleted n s) g = agree-deleted n s g
 agree-apply (kill moved n s) g = agree-moved n s g
@@ -570,15 +571,15 @@ agree-apply (hand n s) g = agree-hand n s g
 agree-apply (badMove s h) g = g
 agree-apply (globalMove s x) g = g
 
-pub agree-all : {k : ℕ} {fs : Frames} {σ : Stack State} (es : List Effect) → Agree k fs σ → Agree k (applyAllFrames es fs) (applyAll states es σ)
+pub agree-all : {k : ℕ} {fs : Frames} {σ : Stack State} (es : List Effect) → Agree k fs σ → Agree k (applyAllFrames es fs) (applyAll (states off) es σ)
 agree-all [] g = g
 agree-all (e ∷ es) g = agree-all es (agree-apply e g)
 
-pub agree-doing : {k : ℕ} {fs : Frames} {σ : Stack State} (f : Shape → List Effect) → Agree k fs σ → Agree k (doingFrames f fs) (doing states f σ)
-agree-doing {k} {fs} {σ} f g = subst (λ (Γ : Shape). Agree k (applyAllFrames (f Γ) fs) (doing states f σ)) (agree-shape g) (agree-all (f (shape σ)) g)
+pub agree-doing : {k : ℕ} {fs : Frames} {σ : Stack State} (f : Shape → List Effect) → Agree k fs σ → Agree k (doingFrames f fs) (doing (states off) f σ)
+agree-doing {k} {fs} {σ} f g = subst (λ (Γ : Shape). Agree k (applyAllFrames (f Γ) fs) (doing (states off) f σ)) (agree-shape g) (agree-all (f (shape σ)) g)
 
 -- mark_assigned_alive
-pub agree-revived : {k : ℕ} {fs : Frames} {σ : Stack State} (n : Named) → Agree k fs σ → Agree k (markAlive n fs) (revived states n σ)
+pub agree-revived : {k : ℕ} {fs : Frames} {σ : Stack State} (n : Named) → Agree k fs σ → Agree k (markAlive n fs) (revived (states off) n σ)
 agree-revived nobody g = g
 agree-revived (called n s) g = agree-mark n (λ a. alive) alive (λ a y. refl) g
 
@@ -707,7 +708,7 @@ module _ (T : Tables) where
       let gs = beforeAssignFrames T e v fs in
       layout-exit r (afterAssignFrames T e v gs) ∙ ap rest (layout-assign e v gs ∙ layout-all (assignEffects T (shapeOf fs) e v) fs)
   layout-exit (return s e t x r) fs = layout-exit r (evaluateFrames T e fs) ∙ ap rest (layout-all (effects T (shapeOf fs) e) fs)
-  layout-exit (bareReturn s t r) fs = layout-exit r fs
+  layout-exit (bareReturn s t x r) fs = layout-exit r fs
   layout-exit (block s c r) fs = layout-exit r (exitFrames T c (push fs)) ∙ ap rest (layout-exit c (push fs))
   layout-exit (ifElse s e ts t us u r) fs =
       let gs = evaluateFrames T e fs in
@@ -721,41 +722,41 @@ module _ (T : Tables) where
       let gs = evaluateFrames T e fs in
       layout-exit r (mergeFrames false false gs (exitFrames T t (push gs)) none)
       ∙ ap rest (layout-merge false false gs (exitFrames T t (push gs)) none ∙ layout-all (effects T (shapeOf fs) e) fs)
-  layout-exit (jump k s r) fs = layout-exit r fs
+  layout-exit (jump k s x r) fs = layout-exit r fs
 
   -- a statement's parts
-  pub agree-evaluate : {k : ℕ} {fs : Frames} {σ : Stack State} (e : Expr) → Agree k fs σ → Agree k (evaluateFrames T e fs) (evaluate states T e σ)
+  pub agree-evaluate : {k : ℕ} {fs : Frames} {σ : Stack State} (e : Expr) → Agree k fs σ → Agree k (evaluateFrames T e fs) (evaluate (states off) T e σ)
   agree-evaluate e g = agree-doing (λ Γ. effects T Γ e) g
 
-  pub agree-expr : {k : ℕ} {fs : Frames} {σ : Stack State} (e : Expr) → Agree k fs σ → Agree k (afterExprFrames T e fs) (afterExpr states T e σ)
+  pub agree-expr : {k : ℕ} {fs : Frames} {σ : Stack State} (e : Expr) → Agree k fs σ → Agree k (afterExprFrames T e fs) (afterExpr (states off) T e σ)
   agree-expr e g = agree-doing (λ Γ. exprStmtEffects T Γ e) g
 
-  pub agree-before : {k : ℕ} {fs : Frames} {σ : Stack State} (e v : Expr) → Agree k fs σ → Agree k (beforeAssignFrames T e v fs) (beforeAssign states T e v σ)
+  pub agree-before : {k : ℕ} {fs : Frames} {σ : Stack State} (e v : Expr) → Agree k fs σ → Agree k (beforeAssignFrames T e v fs) (beforeAssign (states off) T e v σ)
   agree-before e v g = agree-doing (λ Γ. assignEffects T Γ e v) g
 
-  pub agree-after : {k : ℕ} {fs : Frames} {σ : Stack State} (e v : Expr) → Agree k fs σ → Agree k (afterAssignFrames T e v fs) (afterAssign states T e v σ)
+  pub agree-after : {k : ℕ} {fs : Frames} {σ : Stack State} (e v : Expr) → Agree k fs σ → Agree k (afterAssignFrames T e v fs) (afterAssign (states off) T e v σ)
   agree-after {k} {fs} {σ} e v g =
-      subst (λ (Γ : Shape). Agree k (applyAllFrames (assignTakes T Γ e v) (markAlive (nameIn (view e)) fs)) (afterAssign states T e v σ)) (agree-shape g)
+      subst (λ (Γ : Shape). Agree k (applyAllFrames (assignTakes T Γ e v) (markAlive (nameIn (view e)) fs)) (afterAssign (states off) T e v σ)) (agree-shape g)
       (agree-all (assignTakes T (shape σ) e v) (agree-revived (nameIn (view e)) g))
 
   pub agree-variable : {d : ℕ} {fs : Frames} {σ : Stack State} (v : Var) (e : Expr) → Agree (suc d) fs σ
-      → Agree (suc d) (afterVariableFrames T v e fs) (afterVariable states T (atDepth d v) e σ)
+      → Agree (suc d) (afterVariableFrames T v e fs) (afterVariable (states off) T (atDepth d v) e σ)
   agree-variable {d} {fs} {σ} v e g =
-      subst (λ (Γ : Shape). Agree (suc d) (applyAllFrames (takeOver T Γ (v .name) (v .ty) e) (registerLocal v (evaluateFrames T e fs))) (afterVariable states T (atDepth d v) e σ)) (agree-shape g)
+      subst (λ (Γ : Shape). Agree (suc d) (applyAllFrames (takeOver T Γ (v .name) (v .ty) e) (registerLocal v (evaluateFrames T e fs))) (afterVariable (states off) T (atDepth d v) e σ)) (agree-shape g)
       (agree-all (takeOver T (shape σ) (v .name) (v .ty) e) (agree-register v (agree-evaluate e g)))
 
-  pub agree-entered : {fs : Frames} {σ : Stack State} (ps : List Param) → Agree 1 fs σ → Agree 1 (enteredFrames ps fs) (entered states T ps σ)
+  pub agree-entered : {fs : Frames} {σ : Stack State} (ps : List Param) → Agree 1 fs σ → Agree 1 (enteredFrames ps fs) (entered (states off) T ps σ)
   agree-entered [] g = g
   agree-entered (x ∷ xs) g = agree-entered xs (agree-register (givenVar x) g)
 
   -- every tree: the walk on frames and on the flat stack come to stacks that agree
-  pub walk-agrees : {X Y : Type 0} {d : ℕ} {fs : Frames} {σ : Stack State} (c : Code X Y) → Agree (suc d) fs σ → Agree d (exitFrames T c fs) (exit states T c d σ)
+  pub walk-agrees : {X Y : Type 0} {d : ℕ} {fs : Frames} {σ : Stack State} (c : Code X Y) → Agree (suc d) fs σ → Agree d (exitFrames T c fs) (exit (states off) T c d σ)
   walk-agrees (done x) g = agree-pop g
   walk-agrees (exprStmt s e y r) g = walk-agrees r (agree-expr e g)
   walk-agrees (variable k s n t e r) g = walk-agrees r (agree-variable (declaredVar s n t) e g)
   walk-agrees (assign s e v t x r) g = walk-agrees r (agree-after e v (agree-before e v g))
   walk-agrees (return s e t x r) g = walk-agrees r (agree-evaluate e g)
-  walk-agrees (bareReturn s t r) g = walk-agrees r g
+  walk-agrees (bareReturn s t x r) g = walk-agrees r g
   walk-agrees (block s c r) g = walk-agrees r (walk-agrees c (agree-push g))
   walk-agrees {fs = fs} (ifElse s e ts t us u r) g =
       let g′ = agree-evaluate e g in
@@ -769,46 +770,50 @@ module _ (T : Tables) where
   walk-agrees {fs = fs} (while s e ts t r) g =
       let g′ = agree-evaluate e g in
       walk-agrees r (agree-merge-then false false (sym (layout-exit t (push (evaluateFrames T e fs)))) g′ (walk-agrees t (agree-push g′)))
-  walk-agrees (jump k s r) g = walk-agrees r g
+  walk-agrees (jump k s x r) g = walk-agrees r g
 
   -- every tree: the decisions are the same
-  pub decide-agrees : {d : ℕ} {fs : Frames} {σ : Stack State} (c : Tree) (p : ℕ) (f : Bool) → Agree (suc d) fs σ → decideFrames T c p f fs ≡ decide states T c p d f σ
-  decide-agrees (done x) p f g = λ i. done (cond f [] (agree-tail T p g i))
-  decide-agrees (exprStmt s e y r) p f g = ap (exprStmt s e (auto T (tyOf e) && isCall (view e))) (decide-agrees r p false (agree-expr e g))
-  decide-agrees (variable k s n t e r) p f g = ap (variable k s n t e) (decide-agrees r p false (agree-variable (declaredVar s n t) e g))
-  decide-agrees (assign s e v t x r) p f g =
-      let g′ = agree-before e v g in let q = decide-agrees r p false (agree-after e v g′) in
+  pub decide-agrees : {d : ℕ} {fs : Frames} {σ : Stack State} (c : Tree) (p : ℕ) (l : Option ℕ) (f : Bool) → Agree (suc d) fs σ → decideFrames T c p f fs ≡ decide (states off) T (concerns off) c p d l f σ
+  decide-agrees (done x) p l f g = λ i. done (cond f [] (agree-tail T p g i))
+  decide-agrees (exprStmt s e y r) p l f g = ap (exprStmt s e (auto T (tyOf e) && isCall (view e))) (decide-agrees r p l false (agree-expr e g))
+  decide-agrees (variable k s n t e r) p l f g = ap (variable k s n t e) (decide-agrees r p l false (agree-variable (declaredVar s n t) e g))
+  decide-agrees (assign s e v t x r) p l f g =
+      let g′ = agree-before e v g in let q = decide-agrees r p l false (agree-after e v g′) in
       λ i. assign s e v t (agree-assign T s e g′ i) (q i)
-  decide-agrees (return s e t x r) p f g =
-      let g′ = agree-evaluate e g in let q = decide-agrees r p true g′ in
+  decide-agrees (return s e t x r) p l f g =
+      let g′ = agree-evaluate e g in let q = decide-agrees r p l true g′ in
       λ i. return s e t (agree-return T (nameIn (view e)) g′ i) (q i)
-  decide-agrees (bareReturn s t r) p f g = ap (bareReturn s t) (decide-agrees r p true g)
-  decide-agrees (block s c r) p f g =
-      let a = decide-agrees c s false (agree-push g) in let q = decide-agrees r p (sureFrom c false) (walk-agrees c (agree-push g)) in
+  decide-agrees {σ = σ} (bareReturn s t x r) p l f g =
+      let q = decide-agrees r p l true g in
+      λ i. bareReturn s t (sym (gather-none (states off) T (λ s. dropOf 0 (s .name) (s .ty)) σ) i) (q i)
+  decide-agrees (block s c r) p l f g =
+      let a = decide-agrees c s l false (agree-push g) in let q = decide-agrees r p l (sureFrom c false) (walk-agrees c (agree-push g)) in
       λ i. block s (a i) (q i)
-  decide-agrees {fs = fs} (ifElse s e ts t us u r) p f g =
+  decide-agrees {fs = fs} (ifElse s e ts t us u r) p l f g =
       let g′ = agree-evaluate e g in
       let gs = evaluateFrames T e fs in
-      let a = decide-agrees t ts false (agree-push g′) in
-      let b = decide-agrees u us false (agree-push g′) in
-      let q = decide-agrees r p (sureFrom t false && sureFrom u false)
+      let a = decide-agrees t ts l false (agree-push g′) in
+      let b = decide-agrees u us l false (agree-push g′) in
+      let q = decide-agrees r p l (sureFrom t false && sureFrom u false)
       (agree-merge (sureFrom t false) (sureFrom u false) (sym (layout-exit t (push gs))) (sym (layout-exit u (push gs))) g′
       (walk-agrees t (agree-push g′)) (walk-agrees u (agree-push g′))) in
       λ i. ifElse s e ts (a i) us (b i) (q i)
-  decide-agrees {fs = fs} (ifThen s e ts t r) p f g =
+  decide-agrees {fs = fs} (ifThen s e ts t r) p l f g =
       let g′ = agree-evaluate e g in
-      let a = decide-agrees t ts false (agree-push g′) in
-      let q = decide-agrees r p false (agree-merge-then (sureFrom t false) false (sym (layout-exit t (push (evaluateFrames T e fs)))) g′ (walk-agrees t (agree-push g′))) in
+      let a = decide-agrees t ts l false (agree-push g′) in
+      let q = decide-agrees r p l false (agree-merge-then (sureFrom t false) false (sym (layout-exit t (push (evaluateFrames T e fs)))) g′ (walk-agrees t (agree-push g′))) in
       λ i. ifThen s e ts (a i) (q i)
-  decide-agrees {fs = fs} (while s e ts t r) p f g =
+  decide-agrees {d = d} {fs = fs} (while s e ts t r) p l f g =
       let g′ = agree-evaluate e g in
-      let a = decide-agrees t ts false (agree-push g′) in
-      let q = decide-agrees r p false (agree-merge-then false false (sym (layout-exit t (push (evaluateFrames T e fs)))) g′ (walk-agrees t (agree-push g′))) in
+      let a = decide-agrees t ts (some (suc d)) false (agree-push g′) in
+      let q = decide-agrees r p l false (agree-merge-then false false (sym (layout-exit t (push (evaluateFrames T e fs)))) g′ (walk-agrees t (agree-push g′))) in
       λ i. while s e ts (a i) (q i)
-  decide-agrees (jump k s r) p f g = ap (jump k s) (decide-agrees r p false g)
+  decide-agrees {σ = σ} (jump k s x r) p l f g =
+      let q = decide-agrees r p l false g in
+      λ i. jump k s (sym (gather-none (states off) T (λ s. dropOf 0 (s .name) (s .ty)) σ) i) (q i)
 
   -- every tree: the reports are the same
-  pub report-agrees : {d : ℕ} {fs : Frames} {σ : Stack State} (c : Tree) (l : Option ℕ) (at : ℕ) → Agree (suc d) fs σ → reportFrames T c l at fs ≡ report T c d l at σ
+  pub report-agrees : {d : ℕ} {fs : Frames} {σ : Stack State} (c : Tree) (l : Option ℕ) (at : ℕ) → Agree (suc d) fs σ → reportFrames T c l at fs ≡ report off T c d l at σ
   report-agrees (done x) l at g = refl
   report-agrees (exprStmt s e y r) l at g =
       let a = agree-use (λ Γ. exprStmtEffects T Γ e) g in let q = report-agrees r l (at + 5 + exprBytes e) (agree-expr e g) in
@@ -823,7 +828,7 @@ module _ (T : Tables) where
   report-agrees (return s e t x r) l at g =
       let a = agree-use (λ Γ. effects T Γ e) g in let q = report-agrees r l (at + 8 + exprBytes e) (agree-evaluate e g) in
       λ i. a i ++ q i
-  report-agrees (bareReturn s t r) l at g =
+  report-agrees (bareReturn s t x r) l at g =
       let q = report-agrees r l (at + 8) g in
       λ i. agree-left T s g i ++ q i
   report-agrees (block s c r) l at g =
@@ -854,21 +859,21 @@ module _ (T : Tables) where
       let q = report-agrees r l (at + 11 + exprBytes e + codeBytes t)
       (agree-merge-then false false (sym (layout-exit t (push (evaluateFrames T e fs)))) g′ (walk-agrees t (agree-push g′))) in
       λ i. o i ++ (a i ++ q i)
-  report-agrees (jump k s r) l at g =
+  report-agrees (jump k s x r) l at g =
       let q = report-agrees r l (at + 5) g in
       λ i. agree-jump T s l g i ++ q i
 
 -- every body: on mod.rs's frames the rules decide what they decide on the flat stack
-pub body-agrees : (T : Tables) (x : Entry) (b : Block) → decideBodyFrames T x b ≡ decideBody T x b
-body-agrees T x b = decide-agrees T (b .code) (b .span) false (agree-push (agree-entered T (localsOf x) (agree-push nothing)))
+pub body-agrees : (T : Tables) (x : Entry) (b : Block) → decideBodyFrames T x b ≡ decideBody off T x b
+body-agrees T x b = decide-agrees T (b .code) (b .span) none false (agree-push (agree-entered T (localsOf x) (agree-push nothing)))
 
 -- every image: on mod.rs's frames the rules report what they report on the flat stack
-pub reports-agree : (i : Image) → reportsFrames i ≡ reports i
+pub reports-agree : (i : Image) → reportsFrames i ≡ reports off i
 reports-agree i =
     report-agrees (i .tables) (i .body .code) none (bodyStart i) (agree-push (agree-entered (i .tables) (localsOf (i .entry)) (agree-push nothing)))
 
 -- The whole: of every image the rules give the same decisions and the same reports on mod.rs's frames and on the flat stack. Its steps: agree-local,
 -- agree-state, agree-deleted, agree-moved, agree-consumed, agree-revived, agree-hand, agree-register, agree-push, agree-pop, agree-merge, agree-merge-then, agree-return,
 -- agree-tail, agree-assign, walk-agrees; the empty stacks agree by `nothing`.
-pub frames-agree : (i : Image) → (decideBodyFrames (i .tables) (i .entry) (i .body) ≡ decideBody (i .tables) (i .entry) (i .body)) × (reportsFrames i ≡ reports i)
+pub frames-agree : (i : Image) → (decideBodyFrames (i .tables) (i .entry) (i .body) ≡ decideBody off (i .tables) (i .entry) (i .body)) × (reportsFrames i ≡ reports off i)
 frames-agree i = (body-agrees (i .tables) (i .entry) (i .body), reports-agree i)

@@ -13,14 +13,16 @@ pub mod Frames
 pub mod Shapes
 pub mod Each
 pub mod Births
-pub mod Spots
 pub mod Order
+pub mod Spots
 pub mod Through
 pub mod Names
 pub mod Assigned
 pub mod Sound
 pub mod Demand
 pub mod Project
+pub mod Settings
+pub mod ErrorSettings
 pub mod Strike
 pub mod AsReturned
 pub mod Unreturned

@@ -14,8 +14,8 @@ use Rattle.image_encoding.specs.Body.{encodeExpr, encodeExprs, encodeCode, enco
 use Rattle.image_body.specs.Expr.{Expr, countWidth, argWidth, lastWidth}
 use Rattle.image_body.specs.Stmt.{Code, Tree, done, exprStmt, variable, assign, return, bareReturn, block, ifElse, ifThen, while, jump}
 use Rattle.image_encoding.specs.Tables.{encodeTables, encodeEntry}
-use Rattle.rules.specs.Rules.{Drop, dropOf, Decided, decideBody}
-use Rattle.rules.specs.Report.{deleteNode, identNode, inserts, flatten, strike, withCode, returnedImage}
+use Rattle.rules.specs.Rules.{Drop, dropOf, Decided, Switches}
+use Rattle.rules.specs.Report.{deleteNode, identNode, inserts, flatten, strike, withCode, returnedImage, decidedImage}
 use Rattle.rules.specs.Run.{code}
 use native.Mathlib.Nat.{le-refl}
 use Rattle.rules.specs.Verdict.{RoomFor}
@@ -49,9 +49,9 @@ module _ {X Y : Type 0} where
   unfolding encodeCode fourBytes twoBytes
   return-bytes s e t x r = let h = length-append (encodeExpr e) (twoBytes t ++ encodeCode r) in omega arith
 
-  pub bareReturn-bytes : (s t : ℕ) (r : Code X Y) → length (encodeCode (bareReturn s t r)) ≡ 8 + length (encodeCode r)
+  pub bareReturn-bytes : (s t : ℕ) (x : X) (r : Code X Y) → length (encodeCode (bareReturn s t x r)) ≡ 8 + length (encodeCode r)
   unfolding encodeCode fourBytes twoBytes
-  bareReturn-bytes s t r = omega arith
+  bareReturn-bytes s t x r = omega arith
 
   pub block-bytes : (s : ℕ) (c r : Code X Y) → length (encodeCode (block s c r)) ≡ 7 + length (encodeCode c) + length (encodeCode r)
   unfolding encodeCode
@@ -81,9 +81,9 @@ module _ {X Y : Type 0} where
       let h′ = counted ts (size t) (encodeCode t) (encodeCode r) in
       omega arith
 
-  pub jump-bytes : (k : Bool) (s : ℕ) (r : Code X Y) → length (encodeCode (jump k s r)) ≡ 5 + length (encodeCode r)
+  pub jump-bytes : (k : Bool) (s : ℕ) (x : X) (r : Code X Y) → length (encodeCode (jump k s x r)) ≡ 5 + length (encodeCode r)
   unfolding encodeCode fourBytes twoBytes
-  jump-bytes k s r = omega arith
+  jump-bytes k s x r = omega arith
 
 delete-bytes : (p : ℕ) (e : Expr) → length (encodeExpr (deleteNode p e)) ≡ 7 + length (encodeExpr e)
 unfolding encodeExpr encodeExprs fourBytes twoBytes numberBytes argWidth countWidth lastWidth
@@ -136,9 +136,10 @@ longer (return s e t x r) =
     let h′ = return-bytes s e t tt (strike r) in
     let ih = longer r in
     omega arith
-longer (bareReturn s t r) =
-    let h = bareReturn-bytes s t (flatten r) in
-    let h′ = bareReturn-bytes s t (strike r) in
+longer (bareReturn s t x r) =
+    let i = inserted x (bareReturn s t tt (flatten r)) in
+    let h = bareReturn-bytes s t tt (flatten r) in
+    let h′ = bareReturn-bytes s t tt (strike r) in
     let ih = longer r in
     omega arith
 longer (block s c r) =
@@ -166,9 +167,10 @@ longer (while s e ts t r) =
     let ih = longer t in
     let ih′ = longer r in
     omega arith
-longer (jump k s r) =
-    let h = jump-bytes k s (flatten r) in
-    let h′ = jump-bytes k s (strike r) in
+longer (jump k s x r) =
+    let i = inserted x (jump k s tt (flatten r)) in
+    let h = jump-bytes k s tt (flatten r) in
+    let h′ = jump-bytes k s tt (strike r) in
     let ih = longer r in
     omega arith
 
@@ -180,23 +182,23 @@ image-bytes L i c =
     omega arith
 
 -- the returned image is longer by what the insertions add
-pub longer-image : (L : Limits) (i : Image) → length (encode L (returnedImage i)) ≡ length (encode L i) + added (decideBody (i .tables) (i .entry) (i .body))
-longer-image L i =
-    let D = decideBody (i .tables) (i .entry) (i .body) in
+pub longer-image : (L : Limits) (w : Switches) (i : Image) → length (encode L (returnedImage w i)) ≡ length (encode L i) + added (decidedImage w i)
+longer-image L w i =
+    let D = decidedImage w i in
     let h = image-bytes L i (flatten D) in
     let h′ = image-bytes L i (i .body .code) in
     let l = longer D in
-    let e = ap (λ (c : Tree). length (encodeCode c)) (strike-body (i .tables) (i .entry) (i .body)) in
+    let e = ap (λ (c : Tree). length (encodeCode c)) (strike-body w (i .tables) (i .entry) (i .body)) in
     omega arith
 
 -- and by no more than document 01's bound
-pub room-image : (L : Limits) (i : Image) → length (encode L (returnedImage i)) ≤ length (encode L i) + roomBound (i .entry) (i .body)
-room-image L i =
-    let h = longer-image L i in
-    let r = room (i .tables) (i .entry) (i .body) in
+pub room-image : (L : Limits) (w : Switches) (i : Image) → length (encode L (returnedImage w i)) ≤ length (encode L i) + roomBound (i .entry) (i .body)
+room-image L w i =
+    let h = longer-image L w i in
+    let r = room w (i .tables) (i .entry) (i .body) in
     omega arith
 
 -- so the room entry can answer the bytes that are written
-pub room-met : (L : Limits) (s : List ℕ) → Bytes s → (i : Image) → decode L s ≡ accepted i → RoomFor L s i (length (encode L (returnedImage i)))
-room-met L s g i e =
-    record { enough = le-refl _; most = subst (λ (z : List ℕ). length (encode L (returnedImage i)) ≤ length z + roomBound (i .entry) (i .body)) (image-written L s g i e) (room-image L i) }
+pub room-met : (L : Limits) (w : Switches) (s : List ℕ) → Bytes s → (i : Image) → decode L s ≡ accepted i → RoomFor L w s i (length (encode L (returnedImage w i)))
+room-met L w s g i e =
+    record { enough = le-refl _; most = subst (λ (z : List ℕ). length (encode L (returnedImage w i)) ≤ length z + roomBound (i .entry) (i .body)) (image-written L s g i e) (room-image L w i) }

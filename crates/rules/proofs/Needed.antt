@@ -18,7 +18,7 @@ use Rattle.rules.specs.Questions.{auto, isTempOf, isMoveOf, consumes, gl
 use Rattle.rules.specs.Stack.{Stack, shape, has}
 use Rattle.rules.specs.State.{State}
 use Rattle.rules.specs.Effects.{takes, handed, finish, effects, exprStmtEffects, takeOver, assignEffects, assignTakes}
-use Rattle.rules.specs.Rules.{Decided, states, Keeps, evaluate, afterVariable, exit, PlainBody, decideBody}
+use Rattle.rules.specs.Rules.{Decided, states, Keeps, evaluate, afterVariable, exit, PlainBody, decideBody, off, concerns}
 use Rattle.rules.specs.Run.{Config, at, start, Moment, moment, holds, Reached, Lost, Demand3}
 use Rattle.rules.proofs.Count.{after, after-steps, steps-after}
 
@@ -34,22 +34,22 @@ abbrev body : Tree → Block
 body c = record { span = 10; code = variable false 21 1 1 literal c }
 
 abbrev decided : Tree → Decided
-decided c = decideBody tables entry (body c)
+decided c = decideBody off tables entry (body c)
 
 abbrev Broken : Tree → Type 0
-Broken c = Demand3 tables [] (decided c) → ⊥
+Broken c = Demand3 (concerns off) tables [] (decided c) → ⊥
 
 abbrev begin : Tree → List Bool → Config
 begin c cs = start tables [] (decided c) cs
 
 abbrev declared : Stack State
-declared = afterVariable states tables (record { name = 1; ty = 1; depth = 1; born = 21 }) literal []
+declared = afterVariable (states off) tables (record { name = 1; ty = 1; depth = 1; born = 21 }) literal []
 
 -- The loop's part: while .. { v = ..; std::move(v); }
 abbrev pub loop : Tree
 loop = while 22 literal 23 (assign 24 (v 25) literal 1 tt (moving 26 (v 27) end)) end
 
-pub loop-lacks : Keeps states declared (exit states tables (assign 24 (v 25) literal 1 tt (moving 26 (v 27) end)) 2 (evaluate states tables literal declared)) → PlainBody tables entry (body loop)
+pub loop-lacks : Keeps (states off) declared (exit (states off) tables (assign 24 (v 25) literal 1 tt (moving 26 (v 27) end)) 2 (evaluate (states off) tables literal declared)) → PlainBody off tables entry (body loop)
 unfolding sameBytes startsWith firstFrom andThen orElse inside structNamed structShaped structOfGeneric structOfTy structOf hasDestructor shouldAutoDelete classOfTy classOf modifierIn modifierOf isConsuming globalOf countWidth through auto isTempOf isMoveOf consumes globalIn takes handed finish effects exprStmtEffects takeOver assignEffects assignTakes
 loop-lacks k = (tt, (tt, (tt, k, tt)))
 
@@ -62,7 +62,7 @@ loop-breaks d = d .heldAtDelete (true ∷ true ∷ []) _ _ _ _ _ _ _ (after-step
 abbrev pub twice : Tree
 twice = variable false 22 1 1 literal end
 
-pub twice-lacks : So (not (has 1 (shape declared))) → PlainBody tables entry (body twice)
+pub twice-lacks : So (not (has 1 (shape declared))) → PlainBody off tables entry (body twice)
 unfolding sameBytes startsWith firstFrom andThen orElse inside structNamed structShaped structOfGeneric structOfTy structOf hasDestructor shouldAutoDelete classOfTy classOf modifierIn modifierOf isConsuming globalOf countWidth through auto isTempOf isMoveOf consumes globalIn takes handed finish effects exprStmtEffects takeOver assignEffects assignTakes
 twice-lacks k = (tt, (tt, (k, tt)))
 
@@ -90,10 +90,10 @@ never-lost D m f l =
 
 -- Break and Continue: if .. { break; std::move(v); }
 abbrev pub leaves : Tree
-leaves = ifThen 22 literal 23 (jump false 24 (moving 25 (v 26) end)) end
+leaves = ifThen 22 literal 23 (jump false 24 tt (moving 25 (v 26) end)) end
 
 -- without the Break it is plain
-pub leaves-lacks : PlainBody tables entry (body (ifThen 22 literal 23 (moving 25 (v 26) end) end))
+pub leaves-lacks : PlainBody off tables entry (body (ifThen 22 literal 23 (moving 25 (v 26) end) end))
 unfolding sameBytes startsWith firstFrom andThen orElse inside structNamed structShaped structOfGeneric structOfTy structOf hasDestructor shouldAutoDelete classOfTy classOf modifierIn modifierOf isConsuming globalOf countWidth through auto isTempOf isMoveOf consumes globalIn takes handed finish effects exprStmtEffects takeOver assignEffects assignTakes
 leaves-lacks = (tt, (tt, (tt, tt)))
 
@@ -103,7 +103,8 @@ leaves-held cs zero = tt
 leaves-held cs (suc zero) = tt
 leaves-held [] (suc (suc k)) = ended k _ []
 leaves-held (true ∷ cs) (suc (suc zero)) = tt
-leaves-held (true ∷ cs) (suc (suc (suc k))) = ended k _ cs
+leaves-held (true ∷ cs) (suc (suc (suc zero))) = tt
+leaves-held (true ∷ cs) (suc (suc (suc (suc k)))) = ended k _ cs
 leaves-held (false ∷ cs) (suc (suc zero)) = tt
 leaves-held (false ∷ cs) (suc (suc (suc zero))) = tt
 leaves-held (false ∷ cs) (suc (suc (suc (suc zero)))) = tt
@@ -119,10 +120,10 @@ leaves-breaks d =
 
 -- A statement after what surely returns: if .. { return; std::move(v); }
 abbrev pub late : Tree
-late = ifThen 22 literal 23 (bareReturn 24 0 (moving 25 (v 26) end)) end
+late = ifThen 22 literal 23 (bareReturn 24 0 tt (moving 25 (v 26) end)) end
 
 -- with nothing after the return it is plain
-pub late-lacks : PlainBody tables entry (body (ifThen 22 literal 23 (bareReturn 24 0 end) end))
+pub late-lacks : PlainBody off tables entry (body (ifThen 22 literal 23 (bareReturn 24 0 tt end) end))
 unfolding sameBytes startsWith firstFrom andThen orElse inside structNamed structShaped structOfGeneric structOfTy structOf hasDestructor shouldAutoDelete classOfTy classOf modifierIn modifierOf isConsuming globalOf countWidth through auto isTempOf isMoveOf consumes globalIn takes handed finish effects exprStmtEffects takeOver assignEffects assignTakes
 late-lacks = (tt, (tt, (tt, tt)))
 
@@ -132,7 +133,9 @@ late-held cs zero = tt
 late-held cs (suc zero) = tt
 late-held [] (suc (suc k)) = ended k _ []
 late-held (true ∷ cs) (suc (suc zero)) = tt
-late-held (true ∷ cs) (suc (suc (suc k))) = ended k _ cs
+late-held (true ∷ cs) (suc (suc (suc zero))) = tt
+late-held (true ∷ cs) (suc (suc (suc (suc zero)))) = tt
+late-held (true ∷ cs) (suc (suc (suc (suc (suc k))))) = ended k _ cs
 late-held (false ∷ cs) (suc (suc zero)) = tt
 late-held (false ∷ cs) (suc (suc (suc zero))) = tt
 late-held (false ∷ cs) (suc (suc (suc (suc zero)))) = tt

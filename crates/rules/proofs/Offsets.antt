@@ -26,10 +26,10 @@ use Rattle.rules.specs.Questions.{auto}
 use Rattle.rules.specs.Stack.{Stack, Shape, shape}
 use Rattle.rules.specs.State.{State}
 use Rattle.rules.specs.Effects.{Effect, effects, exprStmtEffects, assignEffects}
-use Rattle.rules.specs.Rules.{states, evaluate, afterExpr, afterVariable, beforeAssign, afterAssign, exit, behindIf, behindThen, behindLoop, entered, localsOf, declared, Place, atReturn, atJump}
+use Rattle.rules.specs.Rules.{states, evaluate, afterExpr, afterVariable, beforeAssign, afterAssign, exit, behindIf, behindThen, behindLoop, entered, localsOf, declared, Place, atJump, Switches, atBareReturn}
 use Rattle.rules.specs.Report.{Report, error, warning, left, reportAll, unused, leftBehind, exprBytes, codeBytes, report, bodyStart, reports}
 use Rattle.rules.proofs.Each.{Each, EachLocal, each-none, each-more, each-both, each-own, each-effects, left-own}
-use Rattle.rules.specs.Expr.{nobody, tyOf, View, anIdent, aThis, aField, aDelete, aCall, other, viewOf, view, fieldView, deleteView, callView, calleeAt, calleeIn, isCall}
+use Rattle.rules.specs.Expr.{tyOf, View, anIdent, aThis, aField, aDelete, aCall, other, viewOf, view, fieldView, deleteView, callView, calleeAt, calleeIn, isCall}
 
 -- an expression's encoding stands there
 pub record Stood (s : List ℕ) (at : ℕ) (e : Expr) : Type 0 where
@@ -128,8 +128,8 @@ none-warned : (Γ : Shape) → EachLocal (λ s. Unit {0}) Γ
 none-warned [] = tt
 none-warned (s ∷ Γ) = (tt, none-warned Γ)
 
-of-left : (T : Tables) (s : List ℕ) (p : ℕ) (w : Place) (σ : Stack State) → Warned s (leftBehind T p w σ)
-of-left T s p w σ = each-own (AtCallee s) p (left-own T p w σ) (none-warned (shape σ))
+of-left : (T : Tables) (s : List ℕ) (made : Bool) (p : ℕ) (pl : Place) (σ : Stack State) → Warned s (leftBehind T made p pl σ)
+of-left T s made p pl σ = each-own (AtCallee s) p (left-own T made p pl σ) (none-warned (shape σ))
 
 is-call : (v : View) → isCall v ≡ true → (f : Expr) × (v ≡ aCall f)
 is-call (anIdent n p) e = false-true e
@@ -170,56 +170,56 @@ nothing : (s : List ℕ) → Warned s []
 nothing s = each-none (AtCallee s)
 
 -- what report says of statements that stand there
-pub report-warned : (T : Tables) (s : List ℕ) (c : Tree) (d : ℕ) (l : Option ℕ) (at q : ℕ) (σ : Stack State) → Written s at (encodeCode c) q → Warned s (report T c d l at σ)
+pub report-warned : (w : Switches) (T : Tables) (s : List ℕ) (c : Tree) (d : ℕ) (l : Option ℕ) (at q : ℕ) (σ : Stack State) → Written s at (encodeCode c) q → Warned s (report w T c d l at σ)
 unfolding encodeCode twoBytes
-report-warned T s (done x) d l at q σ g = nothing s
-report-warned T s (exprStmt p e y r) d l at q σ g =
-    let w = behind 3 p (encodeExpr e ++ encodeCode r) g in
-    each-both (AtCallee s) _ _ (of-effects s (exprStmtEffects T (shape σ) e) σ) (each-both (AtCallee s) _ _ (of-unused s (auto T (tyOf e)) p e at _ (first (encodeExpr e) (encodeCode r) w))
-    (report-warned T s r d l (at + 5 + exprBytes e) q (afterExpr states T e σ) (skip (encodeExpr e) (encodeCode r) _ refl w)))
-report-warned T s (variable k p n t e r) d l at q σ g =
-    let w = skip (twoBytes n ++ twoBytes t) (encodeExpr e ++ encodeCode r) (at + 9) (omega arith) (behind _ p _ g) in
-    each-both (AtCallee s) _ _ (of-effects s (effects T (shape σ) e) σ) (report-warned T s r d l (at + 9 + exprBytes e) q (afterVariable states T (declared d p n t) e σ) (skip (encodeExpr e) (encodeCode r) _ refl w))
-report-warned T s (assign p e v t x r) d l at q σ g =
-    let w = behind 6 p (encodeExpr e ++ (encodeExpr v ++ (twoBytes t ++ encodeCode r))) g in
-    let w1 = skip (encodeExpr e) (encodeExpr v ++ (twoBytes t ++ encodeCode r)) (at + 5 + exprBytes e) refl w in
+report-warned w T s (done x) d l at q σ g = nothing s
+report-warned w T s (exprStmt p e y r) d l at q σ g =
+    let g₀ = behind 3 p (encodeExpr e ++ encodeCode r) g in
+    each-both (AtCallee s) _ _ (of-effects s (exprStmtEffects T (shape σ) e) σ) (each-both (AtCallee s) _ _ (of-unused s (auto T (tyOf e)) p e at _ (first (encodeExpr e) (encodeCode r) g₀))
+    (report-warned w T s r d l (at + 5 + exprBytes e) q (afterExpr (states w) T e σ) (skip (encodeExpr e) (encodeCode r) _ refl g₀)))
+report-warned w T s (variable k p n t e r) d l at q σ g =
+    let g₀ = skip (twoBytes n ++ twoBytes t) (encodeExpr e ++ encodeCode r) (at + 9) (omega arith) (behind _ p _ g) in
+    each-both (AtCallee s) _ _ (of-effects s (effects T (shape σ) e) σ) (report-warned w T s r d l (at + 9 + exprBytes e) q (afterVariable (states w) T (declared d p n t) e σ) (skip (encodeExpr e) (encodeCode r) _ refl g₀))
+report-warned w T s (assign p e v t x r) d l at q σ g =
+    let g₀ = behind 6 p (encodeExpr e ++ (encodeExpr v ++ (twoBytes t ++ encodeCode r))) g in
+    let w1 = skip (encodeExpr e) (encodeExpr v ++ (twoBytes t ++ encodeCode r)) (at + 5 + exprBytes e) refl g₀ in
     let w2 = skip (encodeExpr v) (twoBytes t ++ encodeCode r) (at + 5 + exprBytes e + exprBytes v) refl w1 in
     let w3 = skip (twoBytes t) (encodeCode r) (at + 7 + exprBytes e + exprBytes v) (omega arith) w2 in
-    each-both (AtCallee s) _ _ (of-effects s (assignEffects T (shape σ) e v) σ) (report-warned T s r d l (at + 7 + exprBytes e + exprBytes v) q (afterAssign states T e v (beforeAssign states T e v σ)) w3)
-report-warned T s (return p e t x r) d l at q σ g =
-    let w = behind 2 p (1 ∷ (encodeExpr e ++ (twoBytes t ++ encodeCode r))) g in
-    let w1 = skip (1 ∷ []) (encodeExpr e ++ (twoBytes t ++ encodeCode r)) (at + 6) (omega arith) w in
+    each-both (AtCallee s) _ _ (of-effects s (assignEffects T (shape σ) e v) σ) (report-warned w T s r d l (at + 7 + exprBytes e + exprBytes v) q (afterAssign (states w) T e v (beforeAssign (states w) T e v σ)) w3)
+report-warned w T s (return p e t x r) d l at q σ g =
+    let g₀ = behind 2 p (1 ∷ (encodeExpr e ++ (twoBytes t ++ encodeCode r))) g in
+    let w1 = skip (1 ∷ []) (encodeExpr e ++ (twoBytes t ++ encodeCode r)) (at + 6) (omega arith) g₀ in
     let w2 = skip (encodeExpr e) (twoBytes t ++ encodeCode r) (at + 6 + exprBytes e) refl w1 in
     let w3 = skip (twoBytes t) (encodeCode r) (at + 8 + exprBytes e) (omega arith) w2 in
-    each-both (AtCallee s) _ _ (of-effects s (effects T (shape σ) e) σ) (report-warned T s r d l (at + 8 + exprBytes e) q (evaluate states T e σ) w3)
-report-warned T s (bareReturn p t r) d l at q σ g =
-    let w = behind 2 p (0 ∷ (twoBytes t ++ encodeCode r)) g in
-    let w1 = skip (0 ∷ twoBytes t) (encodeCode r) (at + 8) (omega arith) w in
-    each-both (AtCallee s) _ _ (of-left T s p (atReturn nobody) σ) (report-warned T s r d l (at + 8) q σ w1)
-report-warned T s (block p b r) d l at q σ g =
-    let w = skip (1 ∷ []) (withCount p (size b) (encodeCode b) ++ encodeCode r) (at + 1) refl g in
-    let i = inside p (size b) (encodeCode b) (encodeCode r) (at + 7) (omega arith) w in
-    each-both (AtCallee s) _ _ (report-warned T s b (suc d) l (at + 7) _ σ (i .0)) (report-warned T s r d l (at + 7 + codeBytes b) q (exit states T b (suc d) σ) (i .1))
-report-warned T s (ifElse p e tp t up u r) d l at q σ g =
-    let w = behind 7 p (encodeExpr e ++ (withCount tp (size t) (encodeCode t) ++ (1 ∷ (withCount up (size u) (encodeCode u) ++ encodeCode r)))) g in
-    let w1 = skip (encodeExpr e) (withCount tp (size t) (encodeCode t) ++ (1 ∷ (withCount up (size u) (encodeCode u) ++ encodeCode r))) (at + 5 + exprBytes e) refl w in
+    each-both (AtCallee s) _ _ (of-effects s (effects T (shape σ) e) σ) (report-warned w T s r d l (at + 8 + exprBytes e) q (evaluate (states w) T e σ) w3)
+report-warned w T s (bareReturn p t x r) d l at q σ g =
+    let g₀ = behind 2 p (0 ∷ (twoBytes t ++ encodeCode r)) g in
+    let w1 = skip (0 ∷ twoBytes t) (encodeCode r) (at + 8) (omega arith) g₀ in
+    each-both (AtCallee s) _ _ (of-left T s (w .bareReturns) p atBareReturn σ) (report-warned w T s r d l (at + 8) q σ w1)
+report-warned w T s (block p b r) d l at q σ g =
+    let g₀ = skip (1 ∷ []) (withCount p (size b) (encodeCode b) ++ encodeCode r) (at + 1) refl g in
+    let i = inside p (size b) (encodeCode b) (encodeCode r) (at + 7) (omega arith) g₀ in
+    each-both (AtCallee s) _ _ (report-warned w T s b (suc d) l (at + 7) _ σ (i .0)) (report-warned w T s r d l (at + 7 + codeBytes b) q (exit (states w) T b (suc d) σ) (i .1))
+report-warned w T s (ifElse p e tp t up u r) d l at q σ g =
+    let g₀ = behind 7 p (encodeExpr e ++ (withCount tp (size t) (encodeCode t) ++ (1 ∷ (withCount up (size u) (encodeCode u) ++ encodeCode r)))) g in
+    let w1 = skip (encodeExpr e) (withCount tp (size t) (encodeCode t) ++ (1 ∷ (withCount up (size u) (encodeCode u) ++ encodeCode r))) (at + 5 + exprBytes e) refl g₀ in
     let i = inside tp (size t) (encodeCode t) (1 ∷ (withCount up (size u) (encodeCode u) ++ encodeCode r)) (at + 11 + exprBytes e) (omega arith) w1 in
     let w2 = skip (1 ∷ []) (withCount up (size u) (encodeCode u) ++ encodeCode r) (at + 12 + exprBytes e + codeBytes t) (omega arith) (i .1) in
     let j = inside up (size u) (encodeCode u) (encodeCode r) (at + 18 + exprBytes e + codeBytes t) (omega arith) w2 in
-    each-both (AtCallee s) _ _ (of-effects s (effects T (shape σ) e) σ) (each-both (AtCallee s) _ _ (report-warned T s t (suc d) l (at + 11 + exprBytes e) _ (evaluate states T e σ) (i .0))
-    (each-both (AtCallee s) _ _ (report-warned T s u (suc d) l (at + 18 + exprBytes e + codeBytes t) _ (evaluate states T e σ) (j .0)) (report-warned T s r d l (at + 18 + exprBytes e + codeBytes t + codeBytes u) q (behindIf states T e t u d σ) (j .1))))
-report-warned T s (ifThen p e tp t r) d l at q σ g =
-    let w = behind 7 p (encodeExpr e ++ (withCount tp (size t) (encodeCode t) ++ (0 ∷ encodeCode r))) g in
-    let w1 = skip (encodeExpr e) (withCount tp (size t) (encodeCode t) ++ (0 ∷ encodeCode r)) (at + 5 + exprBytes e) refl w in
+    each-both (AtCallee s) _ _ (of-effects s (effects T (shape σ) e) σ) (each-both (AtCallee s) _ _ (report-warned w T s t (suc d) l (at + 11 + exprBytes e) _ (evaluate (states w) T e σ) (i .0))
+    (each-both (AtCallee s) _ _ (report-warned w T s u (suc d) l (at + 18 + exprBytes e + codeBytes t) _ (evaluate (states w) T e σ) (j .0)) (report-warned w T s r d l (at + 18 + exprBytes e + codeBytes t + codeBytes u) q (behindIf (states w) T e t u d σ) (j .1))))
+report-warned w T s (ifThen p e tp t r) d l at q σ g =
+    let g₀ = behind 7 p (encodeExpr e ++ (withCount tp (size t) (encodeCode t) ++ (0 ∷ encodeCode r))) g in
+    let w1 = skip (encodeExpr e) (withCount tp (size t) (encodeCode t) ++ (0 ∷ encodeCode r)) (at + 5 + exprBytes e) refl g₀ in
     let i = inside tp (size t) (encodeCode t) (0 ∷ encodeCode r) (at + 11 + exprBytes e) (omega arith) w1 in
     let w2 = skip (0 ∷ []) (encodeCode r) (at + 12 + exprBytes e + codeBytes t) (omega arith) (i .1) in
-    each-both (AtCallee s) _ _ (of-effects s (effects T (shape σ) e) σ) (each-both (AtCallee s) _ _ (report-warned T s t (suc d) l (at + 11 + exprBytes e) _ (evaluate states T e σ) (i .0)) (report-warned T s r d l (at + 12 + exprBytes e + codeBytes t) q (behindThen states T e t d σ) w2))
-report-warned T s (while p e tp t r) d l at q σ g =
-    let w = behind 8 p (encodeExpr e ++ (withCount tp (size t) (encodeCode t) ++ encodeCode r)) g in
-    let w1 = skip (encodeExpr e) (withCount tp (size t) (encodeCode t) ++ encodeCode r) (at + 5 + exprBytes e) refl w in
+    each-both (AtCallee s) _ _ (of-effects s (effects T (shape σ) e) σ) (each-both (AtCallee s) _ _ (report-warned w T s t (suc d) l (at + 11 + exprBytes e) _ (evaluate (states w) T e σ) (i .0)) (report-warned w T s r d l (at + 12 + exprBytes e + codeBytes t) q (behindThen (states w) T e t d σ) w2))
+report-warned w T s (while p e tp t r) d l at q σ g =
+    let g₀ = behind 8 p (encodeExpr e ++ (withCount tp (size t) (encodeCode t) ++ encodeCode r)) g in
+    let w1 = skip (encodeExpr e) (withCount tp (size t) (encodeCode t) ++ encodeCode r) (at + 5 + exprBytes e) refl g₀ in
     let i = inside tp (size t) (encodeCode t) (encodeCode r) (at + 11 + exprBytes e) (omega arith) w1 in
-    each-both (AtCallee s) _ _ (of-effects s (effects T (shape σ) e) σ) (each-both (AtCallee s) _ _ (report-warned T s t (suc d) (some (suc d)) (at + 11 + exprBytes e) _ (evaluate states T e σ) (i .0)) (report-warned T s r d l (at + 11 + exprBytes e + codeBytes t) q (behindLoop states T e t d σ) (i .1)))
-report-warned T s (jump k p r) d l at q σ g = each-both (AtCallee s) _ _ (of-left T s p (atJump l) σ) (report-warned T s r d l (at + 5) q σ (behind _ p (encodeCode r) g))
+    each-both (AtCallee s) _ _ (of-effects s (effects T (shape σ) e) σ) (each-both (AtCallee s) _ _ (report-warned w T s t (suc d) (some (suc d)) (at + 11 + exprBytes e) _ (evaluate (states w) T e σ) (i .0)) (report-warned w T s r d l (at + 11 + exprBytes e + codeBytes t) q (behindLoop (states w) T e t d σ) (i .1)))
+report-warned w T s (jump k p x r) d l at q σ g = each-both (AtCallee s) _ _ (of-left T s (w .jumps) p (atJump l) σ) (report-warned w T s r d l (at + 5) q σ (behind _ p (encodeCode r) g))
 
 -- where a body's statements stand in an image's encoding
 code-written : (L : Limits) (i : Image) → Written (encode L i) (bodyStart i) (encodeCode (i .body .code)) (length (encode L i))
@@ -236,8 +236,8 @@ code-written L i =
     skip (fourBytes (i .body .span) ++ twoBytes (size (i .body .code))) (encodeCode (i .body .code)) (bodyStart i) (omega arith) g3
 
 -- of every accepted image
-pub warnings-stand : (L : Limits) (s : List ℕ) → Bytes s → (i : Image) → decode L s ≡ accepted i → Warned s (reports i)
-warnings-stand L s small i e =
-    let w : encode L i ≡ s = image-written L s small i e in
-    report-warned (i .tables) s (i .body .code) 1 Option.none (bodyStart i) (length s) (entered states (i .tables) (localsOf (i .entry)) [])
-    (subst (λ x. Written x (bodyStart i) (encodeCode (i .body .code)) (length x)) w (code-written L i))
+pub warnings-stand : (L : Limits) (w : Switches) (s : List ℕ) → Bytes s → (i : Image) → decode L s ≡ accepted i → Warned s (reports w i)
+warnings-stand L w s small i e =
+    let h : encode L i ≡ s = image-written L s small i e in
+    report-warned w (i .tables) s (i .body .code) 1 Option.none (bodyStart i) (length s) (entered (states w) (i .tables) (localsOf (i .entry)) [])
+    (subst (λ x. Written x (bodyStart i) (encodeCode (i .body .code)) (length x)) h (code-written L i))

@@ -19,6 +19,7 @@ use Rattle.image.proofs.Example.{bytes, example-read}
 use Rattle.rules.specs.Questions.{auto, isTempOf, isMoveOf, consumes, globalIn}
 use Rattle.rules.specs.Expr.{calleeAt}
 use Rattle.rules.specs.Effects.{takes, handed, finish, effects, exprStmtEffects, takeOver, assignEffects, assignTakes}
+use Rattle.rules.specs.Rules.{off}
 use Rattle.rules.specs.Walk.{crowded, walkFault, imageFault}
 use Rattle.rules.specs.Verdict.{Lent, Verdict, answers, decided, countsFit, passVerdict}
 
@@ -38,6 +39,6 @@ answer = answers (record {
   leftNumbers = [];
 })
 
-pub example-answered : passVerdict version1 lent bytes ≡ answer
+pub example-answered : passVerdict version1 lent 0 bytes ≡ answer
 unfolding passVerdict member sameBytes startsWith ofWidth shapeWidth firstFrom andThen orElse inside structNamed structShaped structOfGeneric structOfTy structOf hasDestructor shouldAutoDelete classOfTy classOf modifierIn modifierOf isConsuming globalOf argWidth countWidth lastWidth through twoBytes fourBytes numberBytes eachBytes encodeName encodeType encodeMethod encodeStruct encodeGlobal encodeParam encodeEntry encodeTables encodeExpr size encodeCode encodeBlock encode auto isTempOf isMoveOf consumes globalIn calleeAt takes handed finish effects exprStmtEffects takeOver assignEffects assignTakes crowded walkFault imageFault countsFit
-example-answered = ap (decided version1 lent) example-read ∙ refl
+example-answered = ap (decided version1 off lent) example-read ∙ refl

@@ -13,8 +13,8 @@ use Rattle.image_encoding.specs.Body.{encodeExpr, encodeExprs, encodeCode, enco
 use Rattle.image.specs.Image.{Image, accepted, decode, encode}
 use Rattle.image_body.specs.Expr.{Expr, countWidth, argWidth, lastWidth}
 use Rattle.image_body.specs.Stmt.{Code, Tree, done, exprStmt, variable, assign, return, bareReturn, block, ifElse, ifThen, while, jump}
-use Rattle.rules.specs.Rules.{Drop, dropOf, Decided, decideBody}
-use Rattle.rules.specs.Report.{deleteNode, identNode, inserts, flatten, strike, returnedImage}
+use Rattle.rules.specs.Rules.{Drop, dropOf, Decided, Switches}
+use Rattle.rules.specs.Report.{deleteNode, identNode, inserts, flatten, strike, returnedImage, decidedImage}
 use Rattle.rules.specs.Pieces.{Piece, kept, put, counted, bytesOf, deletes, putIn, wrapping, pieces, imagePieces, imageOf, Struck}
 use Rattle.rules.proofs.Strike.{strike-bytes}
 
@@ -44,12 +44,12 @@ size-flatten (exprStmt s e y r) = let h = size-flatten r in omega arith
 size-flatten (variable k s n t e r) = let h = size-flatten r in omega arith
 size-flatten (assign s e v t x r) = let h = size-flatten r in let i = size-inserts x (assign s e v t tt (flatten r)) in omega arith
 size-flatten (return s e t x r) = let h = size-flatten r in let i = size-inserts x (return s e t tt (flatten r)) in omega arith
-size-flatten (bareReturn s t r) = let h = size-flatten r in omega arith
+size-flatten (bareReturn s t x r) = let h = size-flatten r in let i = size-inserts x (bareReturn s t tt (flatten r)) in omega arith
 size-flatten (block s c r) = let h = size-flatten r in omega arith
 size-flatten (ifElse s e ts t us u r) = let h = size-flatten r in omega arith
 size-flatten (ifThen s e ts t r) = let h = size-flatten r in omega arith
 size-flatten (while s e ts t r) = let h = size-flatten r in omega arith
-size-flatten (jump k s r) = let h = size-flatten r in omega arith
+size-flatten (jump k s x r) = let h = size-flatten r in let i = size-inserts x (jump k s tt (flatten r)) in omega arith
 
 wrap-put : (y : Bool) (s : ℕ) (e : Expr) (ps : List Piece) → bytesOf true (wrapping y s (kept (encodeExpr e) ∷ ps)) ≡ encodeExpr (cond y (deleteNode s e) e) ++ bytesOf true ps
 unfolding encodeExpr fourBytes twoBytes numberBytes argWidth countWidth lastWidth
@@ -70,7 +70,7 @@ all-pieces (assign s e v t x r) ps =
 all-pieces (return s e t x r) ps =
     deletes-put x _ (return s e t tt (flatten r)) (bytesOf true ps)
     (ap (λ (z : List ℕ). 2 ∷ (fourBytes s ++ (1 ∷ z))) (on (encodeExpr e) (twoBytes t ++ encodeCode (flatten r)) (bytesOf true ps) (ap (λ (z : List ℕ). twoBytes t ++ z) (all-pieces r ps))))
-all-pieces (bareReturn s t r) ps = ap (λ (z : List ℕ). 2 ∷ (fourBytes s ++ (0 ∷ (twoBytes t ++ z)))) (all-pieces r ps)
+all-pieces (bareReturn s t x r) ps = deletes-put x _ (bareReturn s t tt (flatten r)) (bytesOf true ps) (ap (λ (z : List ℕ). 2 ∷ (fourBytes s ++ (0 ∷ (twoBytes t ++ z)))) (all-pieces r ps))
 all-pieces (block s c r) ps =
     ap₂ (λ (n : ℕ) (z : List ℕ). 1 ∷ (fourBytes s ++ (twoBytes n ++ z))) (sym (size-flatten c)) (all-pieces c (pieces r ps) ∙ on (encodeCode (flatten c)) (encodeCode (flatten r)) (bytesOf true ps) (all-pieces r ps))
 all-pieces (ifElse s e ts t us u r) ps =
@@ -83,7 +83,7 @@ all-pieces (ifThen s e ts t r) ps =
 all-pieces (while s e ts t r) ps =
     ap (λ (z : List ℕ). 8 ∷ (fourBytes s ++ z)) (on (encodeExpr e) (withCount ts (size (flatten t)) (encodeCode (flatten t)) ++ encodeCode (flatten r)) (bytesOf true ps)
     (ap₂ (λ (n : ℕ) (z : List ℕ). fourBytes ts ++ (twoBytes n ++ z)) (sym (size-flatten t)) (all-pieces t _ ∙ on (encodeCode (flatten t)) (encodeCode (flatten r)) (bytesOf true ps) (all-pieces r ps))))
-all-pieces (jump k s r) ps = ap (λ (z : List ℕ). cond k 10 9 ∷ (fourBytes s ++ z)) (all-pieces r ps)
+all-pieces (jump k s x r) ps = deletes-put x _ (jump k s tt (flatten r)) (bytesOf true ps) (ap (λ (z : List ℕ). cond k 10 9 ∷ (fourBytes s ++ z)) (all-pieces r ps))
 
 pub size-struck : (c : Decided) → size (strike c) ≡ size c + 0
 unfolding size
@@ -92,12 +92,12 @@ size-struck (exprStmt s e y r) = let h = size-struck r in omega arith
 size-struck (variable k s n t e r) = let h = size-struck r in omega arith
 size-struck (assign s e v t x r) = let h = size-struck r in omega arith
 size-struck (return s e t x r) = let h = size-struck r in omega arith
-size-struck (bareReturn s t r) = let h = size-struck r in omega arith
+size-struck (bareReturn s t x r) = let h = size-struck r in omega arith
 size-struck (block s c r) = let h = size-struck r in omega arith
 size-struck (ifElse s e ts t us u r) = let h = size-struck r in omega arith
 size-struck (ifThen s e ts t r) = let h = size-struck r in omega arith
 size-struck (while s e ts t r) = let h = size-struck r in omega arith
-size-struck (jump k s r) = let h = size-struck r in omega arith
+size-struck (jump k s x r) = let h = size-struck r in omega arith
 
 wrap-struck : (y : Bool) (s : ℕ) (e : Expr) (ps : List Piece) → bytesOf false (wrapping y s (kept (encodeExpr e) ∷ ps)) ≡ encodeExpr e ++ bytesOf false ps
 wrap-struck true s e ps = refl
@@ -117,7 +117,7 @@ left-pieces (assign s e v t x r) ps =
 left-pieces (return s e t x r) ps =
     deletes-struck x _
     ∙ (ap (λ (z : List ℕ). 2 ∷ (fourBytes s ++ (1 ∷ z))) (on (encodeExpr e) (twoBytes t ++ encodeCode (strike r)) (bytesOf false ps) (ap (λ (z : List ℕ). twoBytes t ++ z) (left-pieces r ps))))
-left-pieces (bareReturn s t r) ps = ap (λ (z : List ℕ). 2 ∷ (fourBytes s ++ (0 ∷ (twoBytes t ++ z)))) (left-pieces r ps)
+left-pieces (bareReturn s t x r) ps = deletes-struck x _ ∙ ap (λ (z : List ℕ). 2 ∷ (fourBytes s ++ (0 ∷ (twoBytes t ++ z)))) (left-pieces r ps)
 left-pieces (block s c r) ps =
     ap₂ (λ (n : ℕ) (z : List ℕ). 1 ∷ (fourBytes s ++ (twoBytes n ++ z))) (sym (size-struck c)) (left-pieces c (pieces r ps) ∙ on (encodeCode (strike c)) (encodeCode (strike r)) (bytesOf false ps) (left-pieces r ps))
 left-pieces (ifElse s e ts t us u r) ps =
@@ -130,17 +130,17 @@ left-pieces (ifThen s e ts t r) ps =
 left-pieces (while s e ts t r) ps =
     ap (λ (z : List ℕ). 8 ∷ (fourBytes s ++ z)) (on (encodeExpr e) (withCount ts (size (strike t)) (encodeCode (strike t)) ++ encodeCode (strike r)) (bytesOf false ps)
     (ap₂ (λ (n : ℕ) (z : List ℕ). fourBytes ts ++ (twoBytes n ++ z)) (sym (size-struck t)) (left-pieces t _ ∙ on (encodeCode (strike t)) (encodeCode (strike r)) (bytesOf false ps) (left-pieces r ps))))
-left-pieces (jump k s r) ps = ap (λ (z : List ℕ). cond k 10 9 ∷ (fourBytes s ++ z)) (left-pieces r ps)
+left-pieces (jump k s x r) ps = deletes-struck x _ ∙ ap (λ (z : List ℕ). cond k 10 9 ∷ (fourBytes s ++ z)) (left-pieces r ps)
 
-pub struck : (L : Limits) (s : List ℕ) → Bytes s → (i : Image) → decode L s ≡ accepted i
-    → Struck L s (encode L (returnedImage i)) i (decideBody (i .tables) (i .entry) (i .body))
+pub struck : (L : Limits) (w : Switches) (s : List ℕ) → Bytes s → (i : Image) → decode L s ≡ accepted i
+    → Struck L s (encode L (returnedImage w i)) i (decidedImage w i)
 unfolding encode encodeBlock fourBytes twoBytes
-struck L s g i e =
-    let D = decideBody (i .tables) (i .entry) (i .body) in
+struck L w s g i e =
+    let D = decidedImage w i in
     let part : (b : Bool) (c : Tree) → size c ≡ size D + cond b (putIn D) 0 → bytesOf b (pieces D []) ≡ encodeCode c ++ []
     → bytesOf b (imagePieces L i D) ≡ L .version ∷ (encodeTables (i .tables) ++ (encodeEntry (i .entry) ++ encodeBlock (record { span = i .body .span; code = c }))) =
     λ b c h k. ap₂ (λ (n : ℕ) (z : List ℕ). L .version ∷ (encodeTables (i .tables) ++ (encodeEntry (i .entry) ++ (fourBytes (i .body .span) ++ (twoBytes n ++ z))))) (sym h) (k ∙ append-nil (encodeCode c)) in
     record {
       given = ap (λ (z : List ℕ). fourBytes (length z) ++ z) (sym (part true (flatten D) (size-flatten D) (all-pieces D [])));
-      again = ap (λ (z : List ℕ). fourBytes (length z) ++ z) (part false (strike D) (size-struck D) (left-pieces D [])) ∙ strike-bytes L s g i e;
+      again = ap (λ (z : List ℕ). fourBytes (length z) ++ z) (part false (strike D) (size-struck D) (left-pieces D [])) ∙ strike-bytes L w s g i e;
     }

@@ -11,7 +11,7 @@ use Rattle.image_body.specs.Stmt.{Code, done, exprStmt, variable, assign, retur
 use Rattle.rules.specs.Expr.{view, Named, nobody, called, nameIn}
 use Rattle.rules.specs.Stack.{Static, local, Stack, Shape, shape, inFrame, mark, pop, has}
 use Rattle.rules.specs.Effects.{Effect, use′, kill, hand, badMove, globalMove, effects, exprStmtEffects, takeOver, assignEffects, assignTakes}
-use Rattle.rules.specs.Rules.{Alg, sureFrom, apply, applyAll, doing, revived, register, joins, merge, evaluate, afterExpr, afterVariable, beforeAssign, afterAssign, exit, declared}
+use Rattle.rules.specs.Rules.{Alg, sureFrom, apply, applyAll, doing, revived, register, joins, merge, evaluate, afterExpr, afterVariable, beforeAssign, afterAssign, exit, declared, gather}
 use Rattle.rules.proofs.Bools.{leb-refl, leb-suc, below≢, eqb-self}
 
 abbrev pub popS : ℕ → Shape → Shape
@@ -108,7 +108,7 @@ module _ {A : Type 0} where
           ∙ (ap (popS d) q ∙ ap (λ (b : Bool). cond b (popS d (shape σ)) (declared d s n t ∷ popS d (shape σ))) (eqb-self d))
       shape-exit (assign s e v t x r) d σ w = carry d (shape-assign e v (beforeAssign 𝓐 T e v σ) ∙ shape-doing (λ Γ. assignEffects T Γ e v) σ) (shape-exit r d (afterAssign 𝓐 T e v (beforeAssign 𝓐 T e v σ))) w
       shape-exit (return s e t x r) d σ w = carry d (shape-doing (λ Γ. effects T Γ e) σ) (shape-exit r d (evaluate 𝓐 T e σ)) w
-      shape-exit (bareReturn s t r) d σ w = shape-exit r d σ w
+      shape-exit (bareReturn s t x r) d σ w = shape-exit r d σ w
       shape-exit (block s c r) d σ w =
           carry d (shape-exit c (suc d) σ (within-suc d (shape σ) w) ∙ popS-within d (shape σ) w) (shape-exit r d (exit 𝓐 T c (suc d) σ)) w
       shape-exit (ifElse s e ts t us u r) d σ w =
@@ -137,8 +137,13 @@ module _ {A : Type 0} where
           let ρ = joins 𝓐 (exit 𝓐 T t (suc d) σ′) σ′ in
           carry d (shape-joins (exit 𝓐 T t (suc d) σ′) σ′ ∙ (shape-exit t (suc d) σ′ (within-suc d (shape σ′) w′) ∙ (popS-within d (shape σ′) w′ ∙ q)))
           (shape-exit r d ρ) w
-      shape-exit (jump k s r) d σ w = shape-exit r d σ w
+      shape-exit (jump k s x r) d σ w = shape-exit r d σ w
 
       -- a block keeps the locals it finds
       pub shape-inner : {X Y : Type 0} (c : Code X Y) (d : ℕ) (σ : Stack A) → Within d (shape σ) → shape (exit 𝓐 T c (suc d) σ) ≡ shape σ
       shape-inner c d σ w = shape-exit c (suc d) σ (within-suc d (shape σ) w) ∙ popS-within d (shape σ) w
+
+-- nothing is admitted
+pub gather-none : {A B : Type 0} (𝓐 : Alg A) (T : Tables) (f : Static → B) (σ : Stack A) → gather 𝓐 T (λ s. false) f σ ≡ []
+gather-none 𝓐 T f [] = refl
+gather-none 𝓐 T f (local s a ∷ σ) = gather-none 𝓐 T f σ

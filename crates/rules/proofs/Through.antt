@@ -5,13 +5,14 @@ use mathlib.Core.Path.{_≡_, refl, sym, _∙_, subst}
 use mathlib.Core.Logic.{_⊎_, inl, inr}
 use mathlib.Core.Bool.{Bool, true, false, not, cond, _&&_}
 use mathlib.Core.List.{List, [], _∷_, _++_}
+use mathlib.Core.Option.{Option}
 use lib.Dec.{T as So, T-not}
 use Rattle.tables.specs.Tables.{Tables}
 use Rattle.image_body.specs.Expr.{Expr}
 use Rattle.image_body.specs.Stmt.{Code, Tree, done, exprStmt, variable, assign, return, bareReturn, block, ifElse, ifThen, while, jump}
 use Rattle.rules.specs.Stack.{Stack, Shape, shape, pop, has}
 use Rattle.rules.specs.Effects.{effects, exprStmtEffects, assignEffects}
-use Rattle.rules.specs.Rules.{holding, Drop, dropOf, Decided, sureFrom, isDone, joins, merge, Keeps, tailDrops, assignDrops, evaluate, afterExpr, afterVariable, beforeAssign, afterAssign, exit, decide, Plain, declared}
+use Rattle.rules.specs.Rules.{holding, Drop, dropOf, Decided, sureFrom, isDone, joins, merge, Keeps, evaluate, afterExpr, afterVariable, beforeAssign, afterAssign, exit, decide, Plain, declared, Policy, endDrops, assignDrops}
 use Rattle.rules.specs.Report.{first}
 use Rattle.rules.specs.Run.{next, into, second, Path, Task, code, deleting, closing, assigned, Config, at, givenUp, choose, Steps, arrived, onward}
 use Rattle.rules.proofs.Bools.{leb-refl}
@@ -40,12 +41,12 @@ module _ {X Y : Type 0} where
   done-from (variable k s n u e r) t b = absurd t
   done-from (assign s e v u x r) t b = absurd t
   done-from (return s e u x r) t b = absurd t
-  done-from (bareReturn s u r) t b = absurd t
+  done-from (bareReturn s u x r) t b = absurd t
   done-from (block s c r) t b = absurd t
   done-from (ifElse s e ts u us v r) t b = absurd t
   done-from (ifThen s e ts u r) t b = absurd t
   done-from (while s e ts u r) t b = absurd t
-  done-from (jump k s r) t b = absurd t
+  done-from (jump k s x r) t b = absurd t
 
   pub not-sure : (r : Code X Y) (b : Bool) → So (isDone r) → So b → So (not (sureFrom r b)) → ⊥
   not-sure r b t y n = T-not b (subst (λ (x : Bool). So (not x)) (done-from r t b) n) y
@@ -105,9 +106,6 @@ module _ (T : Tables) where
     pub over : Over n ρ held
     pub steps : (q : Path) (K : List Task) (cs : List Bool) → Steps T (from q K (chosen cs)) (at K held cs)
 
-  abbrev pub Through : ℕ → Tree → ℕ → ℕ → Bool → Stack Bool → Stack Bool → Type 0
-  Through n c p d f σ H = Passes n (exit holding T c d σ) (λ q K cs. at (code q d (decide holding T c p d f σ) ∷ K) H cs)
-
   pub branch : (n : ℕ) (t u : Decided) (d : ℕ) (bt bu : Bool) (σ τ υ H : Stack Bool) → Same τ υ → Distinct (shape τ)
       → (So (not bt) → Passes n τ (λ q K cs. at (code q d t ∷ K) H cs)) → (So (not bu) → Passes n υ (λ q K cs. at (code q d u ∷ K) H cs)) → So (not (bt && bu))
       → Passes n (merge holding bt bu σ τ υ) (λ q K cs. choose T (code (q ++ (into ∷ [])) d t ∷ K) (code (q ++ (second ∷ [])) d u ∷ K) H cs)
@@ -150,130 +148,134 @@ module _ (T : Tables) where
         steps = λ q K cs. steps-trans (one q K (x .chosen (y .chosen cs))) (steps-trans (x .steps q (code (q ++ (next ∷ [])) d r ∷ K) (y .chosen cs)) (y .steps (q ++ (next ∷ [])) K cs));
       }
 
-  -- by the statements
-  pub passing : (c : Tree) (p d : ℕ) (f : Bool) (σ H : Stack Bool) → Plain holding T c d σ → Fit d (shape σ) → (n : ℕ) → Over n σ H → So (not (sureFrom c false)) → Through n c p d f σ H
-  passing (done x) p d f σ H pl fit n o ns =
-      let ds = cond f [] (tailDrops holding T d p σ) in
-      record {
-        chosen = λ cs. cs;
-        held = pop d (deleteAll ds H);
-        over = rel-pop d (over-lower n o (lower-deletes ds H));
-        steps = λ q K cs. onward (steps-trans (run-deletes ds (closing d ∷ K) H cs) (onward (arrived refl)));
-      }
-  passing (exprStmt s e y r) p d f σ H pl fit n o ns =
-      let x = passing r p d false (afterExpr holding T e σ) (afterExpr holding T e H) pl (fit-by d (shape-expr e σ) fit) n (rel-expr holding holding (over-hom n) T e o) ns in
-      record { chosen = x .chosen; held = x .held; over = x .over; steps = λ q K cs. onward (x .steps (q ++ (next ∷ [])) K cs) }
-  passing (variable k s m t e r) p d f σ H pl fit n o ns =
-      let x = passing r p d false (afterVariable holding T (declared d s m t) e σ) (afterVariable holding T (declared d s m t) e H) (pl .1) (fit-variable d s m t e σ fit (pl .0)) n (rel-variable holding holding (over-hom n) T (declared d s m t) e o) ns in
-      record { chosen = x .chosen; held = x .held; over = x .over; steps = λ q K cs. onward (x .steps (q ++ (next ∷ [])) K cs) }
-  passing (assign s e v t y r) p d f σ H pl fit n o ns =
-      let ds = assignDrops holding T s e (beforeAssign holding T e v σ) in
-      let x = passing r p d false (afterAssign holding T e v (beforeAssign holding T e v σ)) (afterAssign holding T e v (deleteAll ds (beforeAssign holding T e v H))) pl (fit-by d (shape-assigned e v σ) fit) n
-      (rel-after holding holding (over-hom n) T e v (over-lower n (rel-before holding holding (over-hom n) T e v o) (lower-deletes ds (beforeAssign holding T e v H)))) ns in
-      record {
-        chosen = x .chosen;
-        held = x .held;
-        over = x .over;
-        steps = λ q K cs.
-            onward (onward (steps-trans (run-deletes ds (assigned q d e v (decide holding T r p d false (afterAssign holding T e v (beforeAssign holding T e v σ))) ∷ K) (beforeAssign holding T e v H) (x .chosen cs))
-            (onward (x .steps (q ++ (next ∷ [])) K cs))));
-      }
-  passing (return s e t x r) p d f σ H pl fit n o ns = absurd (not-sure r true pl tt ns)
-  passing (bareReturn s t r) p d f σ H pl fit n o ns = absurd (not-sure r true pl tt ns)
-  passing (block s c r) p d f σ H pl fit n o ns =
-      pass-block (split (sureFrom c false))
-      (λ nc. passing c s (suc d) false σ H (pl .0) (fit-deeper d (shape σ) fit) n o nc)
-      (λ nc H′ o′. passing r p d (sureFrom c false) (exit holding T c (suc d) σ) H′ (pl .2) (fit-by d (shape-inner holding T c d σ (fit .0)) fit) n o′ (sure-rest r (sureFrom c false) nc ns))
-    where
-      pass-block : So (sureFrom c false) ⊎ So (not (sureFrom c false)) → (So (not (sureFrom c false)) → Through n c s (suc d) false σ H)
-          → (So (not (sureFrom c false)) → (H′ : Stack Bool) → Over n (exit holding T c (suc d) σ) H′ → Through n r p d (sureFrom c false) (exit holding T c (suc d) σ) H′)
-          → Through n (block s c r) p d f σ H
-      pass-block (inl y) first rest = absurd (not-sure r (sureFrom c false) (pl .1 y) y ns)
-      pass-block (inr nc) first rest =
-          let x = first nc in
-          after-first n (exit holding T c (suc d) σ) (exit holding T (block s c r) d σ) H d (decide holding T r p d (sureFrom c false) (exit holding T c (suc d) σ)) (decide holding T (block s c r) p d f σ)
-          (λ q K cs. at (code (q ++ (into ∷ [])) (suc d) (decide holding T c s (suc d) false σ) ∷ K) H cs)
-          (λ q K cs. onward (arrived refl))
-          (record { chosen = x .chosen; held = x .held; over = x .over; steps = λ q K cs. x .steps (q ++ (into ∷ [])) K cs })
-          (rest nc (x .held) (x .over))
-  passing (ifElse s e ts t us u r) p d f σ H pl fit n o ns =
-      pass-if (split (sureFrom t false && sureFrom u false))
-      (λ nt. passing t ts (suc d) false σ′ (evaluate holding T e H) (pl .0) (fit-deeper d (shape σ′) fit′) n o′ nt)
-      (λ nu. passing u us (suc d) false σ′ (evaluate holding T e H) (pl .1) (fit-deeper d (shape σ′) fit′) n o′ nu)
-      (λ nc H′ q. passing r p d (sureFrom t false && sureFrom u false) ρ H′ (pl .3) (fit-by d shape-ρ fit) n q (sure-rest r (sureFrom t false && sureFrom u false) nc ns))
-    where
-      σ′ : Stack Bool
-      σ′ = evaluate holding T e σ
+  module _ (𝓟 : Policy) where
+    abbrev pub Through : ℕ → Tree → ℕ → ℕ → Option ℕ → Bool → Stack Bool → Stack Bool → Type 0
+    Through n c p d l f σ H = Passes n (exit holding T c d σ) (λ q K cs. at (code q d (decide holding T 𝓟 c p d l f σ) ∷ K) H cs)
 
-      fit′ : Fit d (shape σ′)
-      fit′ = fit-by d (shape-evaluate e σ) fit
+    -- by the statements
+    pub passing : (c : Tree) (p d : ℕ) (l : Option ℕ) (f : Bool) (σ H : Stack Bool) → Plain holding T c d σ → Fit d (shape σ) → (n : ℕ) → Over n σ H → So (not (sureFrom c false)) → Through n c p d l f σ H
+    passing (done x) p d l f σ H pl fit n o ns =
+        let ds = cond f [] (endDrops holding T 𝓟 d p σ) in
+        record {
+          chosen = λ cs. cs;
+          held = pop d (deleteAll ds H);
+          over = rel-pop d (over-lower n o (lower-deletes ds H));
+          steps = λ q K cs. onward (steps-trans (run-deletes ds (closing d ∷ K) H cs) (onward (arrived refl)));
+        }
+    passing (exprStmt s e y r) p d l f σ H pl fit n o ns =
+        let x = passing r p d l false (afterExpr holding T e σ) (afterExpr holding T e H) pl (fit-by d (shape-expr e σ) fit) n (rel-expr holding holding (over-hom n) T e o) ns in
+        record { chosen = x .chosen; held = x .held; over = x .over; steps = λ q K cs. onward (x .steps (q ++ (next ∷ [])) K cs) }
+    passing (variable k s m t e r) p d l f σ H pl fit n o ns =
+        let x = passing r p d l false (afterVariable holding T (declared d s m t) e σ) (afterVariable holding T (declared d s m t) e H) (pl .1) (fit-variable d s m t e σ fit (pl .0)) n (rel-variable holding holding (over-hom n) T (declared d s m t) e o) ns in
+        record { chosen = x .chosen; held = x .held; over = x .over; steps = λ q K cs. onward (x .steps (q ++ (next ∷ [])) K cs) }
+    passing (assign s e v t y r) p d l f σ H pl fit n o ns =
+        let ds = assignDrops holding T 𝓟 s e (beforeAssign holding T e v σ) in
+        let x = passing r p d l false (afterAssign holding T e v (beforeAssign holding T e v σ)) (afterAssign holding T e v (deleteAll ds (beforeAssign holding T e v H))) pl (fit-by d (shape-assigned e v σ) fit) n
+        (rel-after holding holding (over-hom n) T e v (over-lower n (rel-before holding holding (over-hom n) T e v o) (lower-deletes ds (beforeAssign holding T e v H)))) ns in
+        record {
+          chosen = x .chosen;
+          held = x .held;
+          over = x .over;
+          steps = λ q K cs.
+              onward (onward (steps-trans (run-deletes ds (assigned q d e v (decide holding T 𝓟 r p d l false (afterAssign holding T e v (beforeAssign holding T e v σ))) ∷ K) (beforeAssign holding T e v H) (x .chosen cs))
+              (onward (x .steps (q ++ (next ∷ [])) K cs))));
+        }
+    passing (return s e t x r) p d l f σ H pl fit n o ns = absurd (not-sure r true pl tt ns)
+    passing (bareReturn s t x r) p d l f σ H pl fit n o ns = absurd (not-sure r true pl tt ns)
+    passing (block s c r) p d l f σ H pl fit n o ns =
+        pass-block (split (sureFrom c false))
+        (λ nc. passing c s (suc d) l false σ H (pl .0) (fit-deeper d (shape σ) fit) n o nc)
+        (λ nc H′ o′. passing r p d l (sureFrom c false) (exit holding T c (suc d) σ) H′ (pl .2) (fit-by d (shape-inner holding T c d σ (fit .0)) fit) n o′ (sure-rest r (sureFrom c false) nc ns))
+      where
+        pass-block : So (sureFrom c false) ⊎ So (not (sureFrom c false)) → (So (not (sureFrom c false)) → Through n c s (suc d) l false σ H)
+            → (So (not (sureFrom c false)) → (H′ : Stack Bool) → Over n (exit holding T c (suc d) σ) H′ → Through n r p d l (sureFrom c false) (exit holding T c (suc d) σ) H′)
+            → Through n (block s c r) p d l f σ H
+        pass-block (inl y) first rest = absurd (not-sure r (sureFrom c false) (pl .1 y) y ns)
+        pass-block (inr nc) first rest =
+            let x = first nc in
+            after-first n (exit holding T c (suc d) σ) (exit holding T (block s c r) d σ) H d (decide holding T 𝓟 r p d l (sureFrom c false) (exit holding T c (suc d) σ)) (decide holding T 𝓟 (block s c r) p d l f σ)
+            (λ q K cs. at (code (q ++ (into ∷ [])) (suc d) (decide holding T 𝓟 c s (suc d) l false σ) ∷ K) H cs)
+            (λ q K cs. onward (arrived refl))
+            (record { chosen = x .chosen; held = x .held; over = x .over; steps = λ q K cs. x .steps (q ++ (into ∷ [])) K cs })
+            (rest nc (x .held) (x .over))
+    passing (ifElse s e ts t us u r) p d l f σ H pl fit n o ns =
+        pass-if (split (sureFrom t false && sureFrom u false))
+        (λ nt. passing t ts (suc d) l false σ′ (evaluate holding T e H) (pl .0) (fit-deeper d (shape σ′) fit′) n o′ nt)
+        (λ nu. passing u us (suc d) l false σ′ (evaluate holding T e H) (pl .1) (fit-deeper d (shape σ′) fit′) n o′ nu)
+        (λ nc H′ q. passing r p d l (sureFrom t false && sureFrom u false) ρ H′ (pl .3) (fit-by d shape-ρ fit) n q (sure-rest r (sureFrom t false && sureFrom u false) nc ns))
+      where
+        σ′ : Stack Bool
+        σ′ = evaluate holding T e σ
 
-      o′ : Over n σ′ (evaluate holding T e H)
-      o′ = rel-evaluate holding holding (over-hom n) T e o
+        fit′ : Fit d (shape σ′)
+        fit′ = fit-by d (shape-evaluate e σ) fit
 
-      ρ : Stack Bool
-      ρ = merge holding (sureFrom t false) (sureFrom u false) σ′ (exit holding T t (suc d) σ′) (exit holding T u (suc d) σ′)
+        o′ : Over n σ′ (evaluate holding T e H)
+        o′ = rel-evaluate holding holding (over-hom n) T e o
 
-      shape-t : shape (exit holding T t (suc d) σ′) ≡ shape σ′
-      shape-t = shape-inner holding T t d σ′ (fit′ .0)
+        ρ : Stack Bool
+        ρ = merge holding (sureFrom t false) (sureFrom u false) σ′ (exit holding T t (suc d) σ′) (exit holding T u (suc d) σ′)
 
-      shape-u : shape (exit holding T u (suc d) σ′) ≡ shape σ′
-      shape-u = shape-inner holding T u d σ′ (fit′ .0)
+        shape-t : shape (exit holding T t (suc d) σ′) ≡ shape σ′
+        shape-t = shape-inner holding T t d σ′ (fit′ .0)
 
-      shape-ρ : shape ρ ≡ shape σ
-      shape-ρ = shape-merge holding (sureFrom t false) (sureFrom u false) σ′ (exit holding T t (suc d) σ′) (exit holding T u (suc d) σ′) (shape σ) (shape-evaluate e σ) (shape-t ∙ shape-evaluate e σ) (shape-u ∙ shape-evaluate e σ)
+        shape-u : shape (exit holding T u (suc d) σ′) ≡ shape σ′
+        shape-u = shape-inner holding T u d σ′ (fit′ .0)
 
-      pass-if : So (sureFrom t false && sureFrom u false) ⊎ So (not (sureFrom t false && sureFrom u false))
-          → (So (not (sureFrom t false)) → Through n t ts (suc d) false σ′ (evaluate holding T e H))
-          → (So (not (sureFrom u false)) → Through n u us (suc d) false σ′ (evaluate holding T e H))
-          → (So (not (sureFrom t false && sureFrom u false)) → (H′ : Stack Bool) → Over n ρ H′ → Through n r p d (sureFrom t false && sureFrom u false) ρ H′)
-          → Through n (ifElse s e ts t us u r) p d f σ H
-      pass-if (inl y) ft fu rest = absurd (not-sure r (sureFrom t false && sureFrom u false) (pl .2 y) y ns)
-      pass-if (inr nc) ft fu rest =
-          let x = branch n (decide holding T t ts (suc d) false σ′) (decide holding T u us (suc d) false σ′) (suc d) (sureFrom t false) (sureFrom u false) σ′
-          (exit holding T t (suc d) σ′) (exit holding T u (suc d) σ′) (evaluate holding T e H)
-          (same-shape (exit holding T t (suc d) σ′) (exit holding T u (suc d) σ′) (shape-t ∙ sym shape-u)) (fit-by d shape-t fit′ .1) ft fu nc in
-          after-first n ρ (exit holding T (ifElse s e ts t us u r) d σ) H d (decide holding T r p d (sureFrom t false && sureFrom u false) ρ) (decide holding T (ifElse s e ts t us u r) p d f σ)
-          (λ q K cs. choose T (code (q ++ (into ∷ [])) (suc d) (decide holding T t ts (suc d) false σ′) ∷ K) (code (q ++ (second ∷ [])) (suc d) (decide holding T u us (suc d) false σ′) ∷ K) (evaluate holding T e H) cs)
-          (λ q K cs. onward (arrived refl)) x (rest nc (x .held) (x .over))
-  passing (ifThen s e ts t r) p d f σ H pl fit n o ns =
-      pass-then
-      (λ nt. passing t ts (suc d) false σ′ (evaluate holding T e H) (pl .0) (fit-deeper d (shape σ′) fit′) n o′ nt)
-      (λ H′ q. passing r p d false ρ H′ (pl .1) (fit-by d shape-ρ fit) n q ns)
-    where
-      σ′ : Stack Bool
-      σ′ = evaluate holding T e σ
+        shape-ρ : shape ρ ≡ shape σ
+        shape-ρ = shape-merge holding (sureFrom t false) (sureFrom u false) σ′ (exit holding T t (suc d) σ′) (exit holding T u (suc d) σ′) (shape σ) (shape-evaluate e σ) (shape-t ∙ shape-evaluate e σ) (shape-u ∙ shape-evaluate e σ)
 
-      fit′ : Fit d (shape σ′)
-      fit′ = fit-by d (shape-evaluate e σ) fit
+        pass-if : So (sureFrom t false && sureFrom u false) ⊎ So (not (sureFrom t false && sureFrom u false))
+            → (So (not (sureFrom t false)) → Through n t ts (suc d) l false σ′ (evaluate holding T e H))
+            → (So (not (sureFrom u false)) → Through n u us (suc d) l false σ′ (evaluate holding T e H))
+            → (So (not (sureFrom t false && sureFrom u false)) → (H′ : Stack Bool) → Over n ρ H′ → Through n r p d l (sureFrom t false && sureFrom u false) ρ H′)
+            → Through n (ifElse s e ts t us u r) p d l f σ H
+        pass-if (inl y) ft fu rest = absurd (not-sure r (sureFrom t false && sureFrom u false) (pl .2 y) y ns)
+        pass-if (inr nc) ft fu rest =
+            let x = branch n (decide holding T 𝓟 t ts (suc d) l false σ′) (decide holding T 𝓟 u us (suc d) l false σ′) (suc d) (sureFrom t false) (sureFrom u false) σ′
+            (exit holding T t (suc d) σ′) (exit holding T u (suc d) σ′) (evaluate holding T e H)
+            (same-shape (exit holding T t (suc d) σ′) (exit holding T u (suc d) σ′) (shape-t ∙ sym shape-u)) (fit-by d shape-t fit′ .1) ft fu nc in
+            after-first n ρ (exit holding T (ifElse s e ts t us u r) d σ) H d (decide holding T 𝓟 r p d l (sureFrom t false && sureFrom u false) ρ) (decide holding T 𝓟 (ifElse s e ts t us u r) p d l f σ)
+            (λ q K cs. choose T (code (q ++ (into ∷ [])) (suc d) (decide holding T 𝓟 t ts (suc d) l false σ′) ∷ K) (code (q ++ (second ∷ [])) (suc d) (decide holding T 𝓟 u us (suc d) l false σ′) ∷ K) (evaluate holding T e H) cs)
+            (λ q K cs. onward (arrived refl)) x (rest nc (x .held) (x .over))
+    passing (ifThen s e ts t r) p d l f σ H pl fit n o ns =
+        pass-then
+        (λ nt. passing t ts (suc d) l false σ′ (evaluate holding T e H) (pl .0) (fit-deeper d (shape σ′) fit′) n o′ nt)
+        (λ H′ q. passing r p d l false ρ H′ (pl .1) (fit-by d shape-ρ fit) n q ns)
+      where
+        σ′ : Stack Bool
+        σ′ = evaluate holding T e σ
 
-      o′ : Over n σ′ (evaluate holding T e H)
-      o′ = rel-evaluate holding holding (over-hom n) T e o
+        fit′ : Fit d (shape σ′)
+        fit′ = fit-by d (shape-evaluate e σ) fit
 
-      ρ : Stack Bool
-      ρ = merge holding (sureFrom t false) false σ′ (exit holding T t (suc d) σ′) σ′
+        o′ : Over n σ′ (evaluate holding T e H)
+        o′ = rel-evaluate holding holding (over-hom n) T e o
 
-      shape-t : shape (exit holding T t (suc d) σ′) ≡ shape σ′
-      shape-t = shape-inner holding T t d σ′ (fit′ .0)
+        ρ : Stack Bool
+        ρ = merge holding (sureFrom t false) false σ′ (exit holding T t (suc d) σ′) σ′
 
-      shape-ρ : shape ρ ≡ shape σ
-      shape-ρ = shape-merge holding (sureFrom t false) false σ′ (exit holding T t (suc d) σ′) σ′ (shape σ) (shape-evaluate e σ) (shape-t ∙ shape-evaluate e σ) (shape-evaluate e σ)
+        shape-t : shape (exit holding T t (suc d) σ′) ≡ shape σ′
+        shape-t = shape-inner holding T t d σ′ (fit′ .0)
 
-      pass-then : (So (not (sureFrom t false)) → Through n t ts (suc d) false σ′ (evaluate holding T e H))
-          → ((H′ : Stack Bool) → Over n ρ H′ → Through n r p d false ρ H′)
-          → Through n (ifThen s e ts t r) p d f σ H
-      pass-then ft rest =
-          let x = skip n (decide holding T t ts (suc d) false σ′) (suc d) (sureFrom t false) σ′ (exit holding T t (suc d) σ′) (evaluate holding T e H)
-          (same-shape (exit holding T t (suc d) σ′) σ′ shape-t) (fit-by d shape-t fit′ .1) o′ ft in
-          after-first n ρ (exit holding T (ifThen s e ts t r) d σ) H d (decide holding T r p d false ρ) (decide holding T (ifThen s e ts t r) p d f σ)
-          (λ q K cs. choose T (code (q ++ (into ∷ [])) (suc d) (decide holding T t ts (suc d) false σ′) ∷ K) K (evaluate holding T e H) cs)
-          (λ q K cs. onward (arrived refl)) x (rest (x .held) (x .over))
-  passing (while s e ts t r) p d f σ H pl fit n o ns =
-      let σ′ = evaluate holding T e σ in
-      let fit′ = fit-by d (shape-evaluate e σ) fit in
-      let ρ = joins holding (exit holding T t (suc d) σ′) σ′ in
-      let x = passing r p d false ρ (evaluate holding T e H) (pl .2)
-      (fit-by d (shape-joins holding (exit holding T t (suc d) σ′) σ′ ∙ (shape-inner holding T t d σ′ (fit′ .0) ∙ shape-evaluate e σ)) fit) n
-      (over-trans n (joins-over n (loop-under′ e t d σ fit (pl .1))) (rel-evaluate holding holding (over-hom n) T e o)) ns in
-      record { chosen = λ cs. false ∷ x .chosen cs; held = x .held; over = x .over; steps = λ q K cs. onward (x .steps (q ++ (next ∷ [])) K cs) }
-  passing (jump k s r) p d f σ H pl fit n o ns = absurd pl
+        shape-ρ : shape ρ ≡ shape σ
+        shape-ρ = shape-merge holding (sureFrom t false) false σ′ (exit holding T t (suc d) σ′) σ′ (shape σ) (shape-evaluate e σ) (shape-t ∙ shape-evaluate e σ) (shape-evaluate e σ)
+
+        pass-then : (So (not (sureFrom t false)) → Through n t ts (suc d) l false σ′ (evaluate holding T e H))
+            → ((H′ : Stack Bool) → Over n ρ H′ → Through n r p d l false ρ H′)
+            → Through n (ifThen s e ts t r) p d l f σ H
+        pass-then ft rest =
+            let x = skip n (decide holding T 𝓟 t ts (suc d) l false σ′) (suc d) (sureFrom t false) σ′ (exit holding T t (suc d) σ′) (evaluate holding T e H)
+            (same-shape (exit holding T t (suc d) σ′) σ′ shape-t) (fit-by d shape-t fit′ .1) o′ ft in
+            after-first n ρ (exit holding T (ifThen s e ts t r) d σ) H d (decide holding T 𝓟 r p d l false ρ) (decide holding T 𝓟 (ifThen s e ts t r) p d l f σ)
+            (λ q K cs. choose T (code (q ++ (into ∷ [])) (suc d) (decide holding T 𝓟 t ts (suc d) l false σ′) ∷ K) K (evaluate holding T e H) cs)
+            (λ q K cs. onward (arrived refl)) x (rest (x .held) (x .over))
+    passing (while s e ts t r) p d l f σ H pl fit n o ns =
+        let σ′ = evaluate holding T e σ in
+        let fit′ = fit-by d (shape-evaluate e σ) fit in
+        let ρ = joins holding (exit holding T t (suc d) σ′) σ′ in
+        let x = passing r p d l false ρ (evaluate holding T e H) (pl .2)
+        (fit-by d (shape-joins holding (exit holding T t (suc d) σ′) σ′ ∙ (shape-inner holding T t d σ′ (fit′ .0) ∙ shape-evaluate e σ)) fit) n
+        (over-trans n (joins-over n (loop-under′ e t d σ fit (pl .1))) (rel-evaluate holding holding (over-hom n) T e o)) ns in
+        record { chosen = λ cs. false ∷ x .chosen cs; held = x .held; over = x .over; steps = λ q K cs. onward (x .steps (q ++ (next ∷ [])) K cs) }
+    passing (jump k s x r) p d l f σ H pl fit n o ns = absurd pl

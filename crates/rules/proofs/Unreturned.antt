@@ -19,7 +19,7 @@ use Rattle.rules.specs.Questions.{auto, isTempOf, isMoveOf, consumes, gl
 use Rattle.rules.specs.Expr.{nobody, called}
 use Rattle.rules.specs.Stack.{Stack}
 use Rattle.rules.specs.Effects.{takes, handed, finish, effects, exprStmtEffects, takeOver, assignEffects, assignTakes}
-use Rattle.rules.specs.Rules.{holding, dropOf, Decided, atReturn, entered}
+use Rattle.rules.specs.Rules.{holding, dropOf, Decided, Switches, atReturn, concerns, entered}
 use Rattle.rules.specs.Report.{forget}
 use Rattle.rules.specs.Run.{returning, deleting, Config, at, Steps, arrived, onward, start, Moment, moment, Reached, holds, Lost, Demand3}
 use Rattle.rules.specs.AsReturned.{Marked, gathered, ReturnedBody}
@@ -40,36 +40,36 @@ never : {A : Type 0} → _≡_ {A = ℕ} 0 1 → A
 never z = absurd (omega arith)
 
 -- marks on no statements, and on a return alone, show that nothing is put in
-no-end : (m : Marked) → forget m ≡ done tt → gathered m ≡ some (done [])
-no-end (done x) q = refl
-no-end (exprStmt s e o r) q = never (cc)
-no-end (variable k s n t e r) q = never (cc)
-no-end (assign s e v t x r) q = never (cc)
-no-end (return s e t x r) q = never (cc)
-no-end (bareReturn s t r) q = never (cc)
-no-end (block s c r) q = never (cc)
-no-end (ifElse s e ts t us u r) q = never (cc)
-no-end (ifThen s e ts t r) q = never (cc)
-no-end (while s e ts t r) q = never (cc)
-no-end (jump k s r) q = never (cc)
+no-end : (w : Switches) (m : Marked) → forget m ≡ done tt → gathered w m ≡ some (done [])
+no-end w (done x) q = refl
+no-end w (exprStmt s e o r) q = never (cc)
+no-end w (variable k s n t e r) q = never (cc)
+no-end w (assign s e v t x r) q = never (cc)
+no-end w (return s e t x r) q = never (cc)
+no-end w (bareReturn s t x r) q = never (cc)
+no-end w (block s c r) q = never (cc)
+no-end w (ifElse s e ts t us u r) q = never (cc)
+no-end w (ifThen s e ts t r) q = never (cc)
+no-end w (while s e ts t r) q = never (cc)
+no-end w (jump k s x r) q = never (cc)
 
-no-return : (m : Marked) → forget m ≡ returning-only .code → gathered m ≡ some nothing
-no-return (done x) q = never (cc)
-no-return (exprStmt s e o r) q = never (cc)
-no-return (variable k s n t e r) q = never (cc)
-no-return (assign s e v t x r) q = never (cc)
-no-return (return s e t x r) q =
-    let end : gathered r ≡ some (done []) = no-end r (cc) in
+no-return : (w : Switches) (m : Marked) → forget m ≡ returning-only .code → gathered w m ≡ some nothing
+no-return w (done x) q = never (cc)
+no-return w (exprStmt s e o r) q = never (cc)
+no-return w (variable k s n t e r) q = never (cc)
+no-return w (assign s e v t x r) q = never (cc)
+no-return w (return s e t x r) q =
+    let end : gathered w r ≡ some (done []) = no-end w r (cc) in
     let span : s ≡ 11 = cc in
     let value : e ≡ literal = cc in
     let ty : t ≡ 0 = cc in
     λ i. Option·map (λ (z : Decided). return (span i) (value i) (ty i) [] z) (end i)
-no-return (bareReturn s t r) q = never (cc)
-no-return (block s c r) q = never (cc)
-no-return (ifElse s e ts t us u r) q = never (cc)
-no-return (ifThen s e ts t r) q = never (cc)
-no-return (while s e ts t r) q = never (cc)
-no-return (jump k s r) q = never (cc)
+no-return w (bareReturn s t x r) q = never (cc)
+no-return w (block s c r) q = never (cc)
+no-return w (ifElse s e ts t us u r) q = never (cc)
+no-return w (ifThen s e ts t r) q = never (cc)
+no-return w (while s e ts t r) q = never (cc)
+no-return w (jump k s x r) q = never (cc)
 
 -- what is held from the start to the end of every run
 abbrev held : Stack Bool
@@ -86,7 +86,7 @@ deleted : {k : Config} (cs : List Bool) (m : Moment) → Steps tables (at (delet
 deleted cs m (arrived e) q = Option·none-ne-some m (ap moment e ∙ q)
 deleted cs m (onward s) q = ended cs m s q
 
-returned : {k : Config} (cs : List Bool) (m : Moment) → Steps tables (at (returning [] nobody [] ∷ []) held cs) k → moment k ≡ some m → m ≡ atIt
+returned : {k : Config} (cs : List Bool) (m : Moment) → Steps tables (at (returning [] (atReturn nobody) [] ∷ []) held cs) k → moment k ≡ some m → m ≡ atIt
 returned cs m (arrived e) q = sym (Option·some-injective atIt m (ap moment e ∙ q))
 returned cs m (onward s) q = absurd (deleted cs m s q)
 
@@ -102,25 +102,25 @@ come =
     let c = start tables (param 1 ∷ []) nothing [] in
     record { choices = []; config = after tables 1 c; steps = after-steps tables 1 c; stands = refl }
 
-not-demanded : Demand3 tables (param 1 ∷ []) nothing → ⊥
+not-demanded : (w : Switches) → Demand3 (concerns w) tables (param 1 ∷ []) nothing → ⊥
 unfolding sameBytes startsWith firstFrom andThen orElse inside structNamed structShaped structOfGeneric structOfTy structOf hasDestructor shouldAutoDelete classOfTy classOf auto
-not-demanded d =
+not-demanded w d =
     let l : Lost tables (param 1 ∷ []) nothing atIt 1 = d .passedOver atIt come 1 tt tt .0 tt in
     subst (λ (m : Moment). So (not (holds 1 (m .held)))) (one-moment (l .reached .choices) (l .there) (l .reached .steps) (l .reached .stands)) (l .notHeld)
 
 -- the body as submitted, whose parameter the return leaves behind, is not what demand 3 asks to be given back
-pub not-returned : ReturnedBody tables taking returning-only (returning-only .code) → ⊥
-not-returned r =
-    not-demanded (subst (λ (c : Decided). Demand3 tables (param 1 ∷ []) c)
-    (Option·some-injective _ _ (sym (r .shown) ∙ no-return (r .marked) (r .given))) (r .plain ((tt, tt), tt)))
+pub not-returned : (w : Switches) → ReturnedBody w tables taking returning-only (returning-only .code) → ⊥
+not-returned w r =
+    not-demanded w (subst (λ (c : Decided). Demand3 (concerns w) tables (param 1 ∷ []) c)
+    (Option·some-injective _ _ (sym (r .shown) ∙ no-return w (r .marked) (r .given))) (r .plain ((tt, tt), tt)))
 
 -- nor is the returned value to be deleted: `return v;` with a delete of `v` put before it
 abbrev deletes-returned : Decided
 deletes-returned = return 11 (ident 12 1 1) 1 (dropOf 0 1 1 ∷ []) (done [])
 
-pub returned-kept : Demand3 tables (param 1 ∷ []) deletes-returned → ⊥
+pub returned-kept : (w : Switches) → Demand3 (concerns w) tables (param 1 ∷ []) deletes-returned → ⊥
 unfolding sameBytes startsWith firstFrom andThen orElse inside structNamed structShaped structOfGeneric structOfTy structOf hasDestructor shouldAutoDelete classOfTy classOf auto countWidth through isTempOf isMoveOf consumes globalIn takes handed finish effects
-returned-kept d =
+returned-kept w d =
     let c = start tables (param 1 ∷ []) deletes-returned [] in
     d .concernedOnly (record { path = []; place = atReturn (called 1 12); drops = dropOf 0 1 1 ∷ []; held = held })
     (record { choices = []; config = after tables 1 c; steps = after-steps tables 1 c; stands = refl }) 1 tt

@@ -20,6 +20,7 @@ use Rattle.rules.proofs.Nodes.{ident, unary, call, delete, end}
 use Rattle.rules.specs.Questions.{auto, isTempOf, isMoveOf, consumes, globalIn}
 use Rattle.rules.specs.Expr.{calleeAt}
 use Rattle.rules.specs.Effects.{takes, handed, finish, effects, exprStmtEffects, takeOver, assignEffects, assignTakes}
+use Rattle.rules.specs.Rules.{off}
 use Rattle.rules.specs.Report.{error, warning, returnedImage, reports, withCode}
 
 -- the tables of document 01's example with two statements, `x;` and `x();` in a unary without an operator: the second's result is unused
@@ -28,10 +29,10 @@ unusedResult = withCode tree (exprStmt 11 (ident 12 1 1) tt (exprStmt 13 (unary 
 
 -- a warning with the statement's span and where the callee's tag, that of an Ident, stands
 pub record Unused : Type 0 where
-  pub reported : reports unusedResult ≡ warning 13 80 ∷ []
+  pub reported : reports off unusedResult ≡ warning 13 80 ∷ []
   pub stands : getD (encode version1 unusedResult) 80 0 ≡ 1
   pub span : getD (encode version1 unusedResult) 84 0 ≡ 16
-  pub returned : returnedImage unusedResult
+  pub returned : returnedImage off unusedResult
       ≡ withCode tree (exprStmt 11 (ident 12 1 1) tt (exprStmt 13 (delete 13 (unary 14 1 0 (call 15 1 (ident 16 1 1) none))) tt end))
 
 pub unused-result : Unused

@@ -10,7 +10,7 @@ use Rattle.tables.specs.Tables.{Tables}
 use Rattle.image_body.specs.Expr.{Expr, Exprs, node, none, more}
 use Rattle.image_body.specs.Stmt.{Code, Tree, Block, done, exprStmt, variable, assign, return, bareReturn, block, ifElse, ifThen, while, jump}
 use Rattle.rules.specs.Expr.{view, isCall}
-use Rattle.rules.specs.Rules.{Drop, dropOf, Decided, localsOf, PlainBody}
+use Rattle.rules.specs.Rules.{Drop, dropOf, Decided, Switches, concerns, localsOf, PlainBody}
 use Rattle.rules.specs.Report.{forget}
 use Rattle.rules.specs.Run.{Demand3}
 
@@ -37,43 +37,46 @@ inResult e = bind (inDelete e) (λ v. cond (isCall (view v)) (some v) Option.non
 abbrev pub ofIdent : Expr → Option Drop
 ofIdent (node h ks xs) = cond (eqb (h .tag) 1) (some (dropOf (h .span) (h .arg) (h .ty))) Option.none
 
--- an inserted delete stands before an assignment, a return with a value or a block's end, or before another that does, and nowhere else
-abbrev pub putBefore : Drop → Decided → Option Decided
-putBefore i (done x) = some (done (i ∷ x))
-putBefore i (exprStmt s e y r) = Option.none
-putBefore i (variable k s n t e r) = Option.none
-putBefore i (assign s e v t x r) = some (assign s e v t (i ∷ x) r)
-putBefore i (return s e t x r) = some (return s e t (i ∷ x) r)
-putBefore i (bareReturn s t r) = Option.none
-putBefore i (block s c r) = Option.none
-putBefore i (ifElse s e ts t us u r) = Option.none
-putBefore i (ifThen s e ts t r) = Option.none
-putBefore i (while s e ts t r) = Option.none
-putBefore i (jump k s r) = Option.none
+module _ (w : Switches) where
+  -- an inserted delete stands before an assignment, a return with a value or a block's end, with switch 1 a bare return, with switch 2 a
+  -- Break or Continue, or before another that does, and nowhere else
+  abbrev pub putBefore : Drop → Decided → Option Decided
+  putBefore i (done x) = some (done (i ∷ x))
+  putBefore i (exprStmt s e y r) = Option.none
+  putBefore i (variable k s n t e r) = Option.none
+  putBefore i (assign s e v t x r) = some (assign s e v t (i ∷ x) r)
+  putBefore i (return s e t x r) = some (return s e t (i ∷ x) r)
+  putBefore i (bareReturn s t x r) = cond (w .bareReturns) (some (bareReturn s t (i ∷ x) r)) Option.none
+  putBefore i (block s c r) = Option.none
+  putBefore i (ifElse s e ts t us u r) = Option.none
+  putBefore i (ifThen s e ts t r) = Option.none
+  putBefore i (while s e ts t r) = Option.none
+  putBefore i (jump k s x r) = cond (w .jumps) (some (jump k s (i ∷ x) r)) Option.none
 
--- the decisions that a marked tree shows; none if a mark is out of place, or is on what is no delete of an Ident or of a call's result
-abbrev pub gathered : Marked → Option Decided
-gathered (done x) = some (done [])
-gathered (exprStmt s e original r) = Option·map (λ z. exprStmt s e false z) (gathered r)
-gathered (exprStmt s e inserted r) = bind (inDelete e) (λ v. bind (ofIdent v) (λ i. bind (gathered r) (λ z. putBefore i z)))
-gathered (exprStmt s e wrapped r) = bind (inResult e) (λ v. Option·map (λ z. exprStmt s v true z) (gathered r))
-gathered (variable k s n t e r) = Option·map (λ z. variable k s n t e z) (gathered r)
-gathered (assign s e v t x r) = Option·map (λ z. assign s e v t [] z) (gathered r)
-gathered (return s e t x r) = Option·map (λ z. return s e t [] z) (gathered r)
-gathered (bareReturn s t r) = Option·map (λ z. bareReturn s t z) (gathered r)
-gathered (block s c r) = bind (gathered c) (λ y. Option·map (λ z. block s y z) (gathered r))
-gathered (ifElse s e ts t us u r) =
-    bind (gathered t) (λ x. bind (gathered u) (λ y. Option·map (λ z. ifElse s e ts x us y z) (gathered r)))
-gathered (ifThen s e ts t r) = bind (gathered t) (λ y. Option·map (λ z. ifThen s e ts y z) (gathered r))
-gathered (while s e ts t r) = bind (gathered t) (λ y. Option·map (λ z. while s e ts y z) (gathered r))
-gathered (jump k s r) = Option·map (λ z. jump k s z) (gathered r)
+  -- the decisions that a marked tree shows; none if a mark is out of place, or is on what is no delete of an Ident or of a
+  -- call's result
+  abbrev pub gathered : Marked → Option Decided
+  gathered (done x) = some (done [])
+  gathered (exprStmt s e original r) = Option·map (λ z. exprStmt s e false z) (gathered r)
+  gathered (exprStmt s e inserted r) = bind (inDelete e) (λ v. bind (ofIdent v) (λ i. bind (gathered r) (λ z. putBefore i z)))
+  gathered (exprStmt s e wrapped r) = bind (inResult e) (λ v. Option·map (λ z. exprStmt s v true z) (gathered r))
+  gathered (variable k s n t e r) = Option·map (λ z. variable k s n t e z) (gathered r)
+  gathered (assign s e v t x r) = Option·map (λ z. assign s e v t [] z) (gathered r)
+  gathered (return s e t x r) = Option·map (λ z. return s e t [] z) (gathered r)
+  gathered (bareReturn s t x r) = Option·map (λ z. bareReturn s t [] z) (gathered r)
+  gathered (block s c r) = bind (gathered c) (λ y. Option·map (λ z. block s y z) (gathered r))
+  gathered (ifElse s e ts t us u r) =
+      bind (gathered t) (λ x. bind (gathered u) (λ y. Option·map (λ z. ifElse s e ts x us y z) (gathered r)))
+  gathered (ifThen s e ts t r) = bind (gathered t) (λ y. Option·map (λ z. ifThen s e ts y z) (gathered r))
+  gathered (while s e ts t r) = bind (gathered t) (λ y. Option·map (λ z. while s e ts y z) (gathered r))
+  gathered (jump k s x r) = Option·map (λ z. jump k s [] z) (gathered r)
 
 -- Demand 3, first two sentences, of the statements given back for a body: marks on them show decisions on the submitted statements,
 -- and if the body is plain all runs with these decisions are as demanded
-pub record ReturnedBody (T : Tables) (x : Entry) (b : Block) (returned : Tree) : Type 0 where
+pub record ReturnedBody (w : Switches) (T : Tables) (x : Entry) (b : Block) (returned : Tree) : Type 0 where
   pub marked : Marked
   pub decided : Decided
   pub given : forget marked ≡ returned
-  pub shown : gathered marked ≡ some decided
+  pub shown : gathered w marked ≡ some decided
   pub submitted : forget decided ≡ b .code
-  pub plain : PlainBody T x b → Demand3 T (localsOf x) decided
+  pub plain : PlainBody w T x b → Demand3 (concerns w) T (localsOf x) decided

@@ -39,12 +39,12 @@ putIn (exprStmt s e y r) = putIn r
 putIn (variable k s n t e r) = putIn r
 putIn (assign s e v t x r) = length x + putIn r
 putIn (return s e t x r) = length x + putIn r
-putIn (bareReturn s t r) = putIn r
+putIn (bareReturn s t x r) = length x + putIn r
 putIn (block s c r) = putIn r
 putIn (ifElse s e ts t us u r) = putIn r
 putIn (ifThen s e ts t r) = putIn r
 putIn (while s e ts t r) = putIn r
-putIn (jump k s r) = putIn r
+putIn (jump k s x r) = length x + putIn r
 
 -- the delete round an unused result: its tag, span and type
 abbrev pub wrapping : Bool → ℕ → List Piece → List Piece
@@ -58,7 +58,7 @@ pieces (exprStmt s e y r) ps = kept (3 ∷ fourBytes s) ∷ wrapping y s (kept (
 pieces (variable k s n t e r) ps = kept (cond k 5 4 ∷ (fourBytes s ++ (twoBytes n ++ twoBytes t))) ∷ kept (encodeExpr e) ∷ pieces r ps
 pieces (assign s e v t x r) ps = deletes x (kept (6 ∷ fourBytes s) ∷ kept (encodeExpr e) ∷ kept (encodeExpr v) ∷ kept (twoBytes t) ∷ pieces r ps)
 pieces (return s e t x r) ps = deletes x (kept (2 ∷ (fourBytes s ++ (1 ∷ []))) ∷ kept (encodeExpr e) ∷ kept (twoBytes t) ∷ pieces r ps)
-pieces (bareReturn s t r) ps = kept (2 ∷ (fourBytes s ++ (0 ∷ twoBytes t))) ∷ pieces r ps
+pieces (bareReturn s t x r) ps = deletes x (kept (2 ∷ (fourBytes s ++ (0 ∷ twoBytes t))) ∷ pieces r ps)
 pieces (block s c r) ps = kept (1 ∷ fourBytes s) ∷ counted (size c) (putIn c) ∷ pieces c (pieces r ps)
 pieces (ifElse s e ts t us u r) ps =
     kept (7 ∷ fourBytes s) ∷ kept (encodeExpr e) ∷ kept (fourBytes ts) ∷ counted (size t) (putIn t)
@@ -67,7 +67,7 @@ pieces (ifThen s e ts t r) ps =
     kept (7 ∷ fourBytes s) ∷ kept (encodeExpr e) ∷ kept (fourBytes ts) ∷ counted (size t) (putIn t) ∷ pieces t (kept (0 ∷ []) ∷ pieces r ps)
 pieces (while s e ts t r) ps =
     kept (8 ∷ fourBytes s) ∷ kept (encodeExpr e) ∷ kept (fourBytes ts) ∷ counted (size t) (putIn t) ∷ pieces t (pieces r ps)
-pieces (jump k s r) ps = kept (cond k 10 9 ∷ fourBytes s) ∷ pieces r ps
+pieces (jump k s x r) ps = deletes x (kept (cond k 10 9 ∷ fourBytes s) ∷ pieces r ps)
 
 -- an image whose body is so decided, in pieces: what follows the length
 abbrev pub imagePieces : Limits → Image → Decided → List Piece

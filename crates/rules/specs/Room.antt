@@ -13,12 +13,12 @@ added (exprStmt s e y r) = cond y 7 0 + added r
 added (variable k s n t e r) = added r
 added (assign s e v t x r) = 21 * length x + added r
 added (return s e t x r) = 21 * length x + added r
-added (bareReturn s t r) = added r
+added (bareReturn s t x r) = 21 * length x + added r
 added (block s c r) = added c + added r
 added (ifElse s e ts t us u r) = added t + added u + added r
 added (ifThen s e ts t r) = added t + added r
 added (while s e ts t r) = added t + added r
-added (jump k s r) = added r
+added (jump k s x r) = 21 * length x + added r
 
 module _ {X Y : Type 0} where
   -- statements in all blocks
@@ -28,12 +28,12 @@ module _ {X Y : Type 0} where
   sizeOf (variable k s n t e r) = suc (sizeOf r)
   sizeOf (assign s e v t x r) = suc (sizeOf r)
   sizeOf (return s e t x r) = suc (sizeOf r)
-  sizeOf (bareReturn s t r) = suc (sizeOf r)
+  sizeOf (bareReturn s t x r) = suc (sizeOf r)
   sizeOf (block s c r) = suc (sizeOf c + sizeOf r)
   sizeOf (ifElse s e ts t us u r) = suc (sizeOf t + sizeOf u + sizeOf r)
   sizeOf (ifThen s e ts t r) = suc (sizeOf t + sizeOf r)
   sizeOf (while s e ts t r) = suc (sizeOf t + sizeOf r)
-  sizeOf (jump k s r) = suc (sizeOf r)
+  sizeOf (jump k s x r) = suc (sizeOf r)
 
   -- registrations: Let and Const
   abbrev pub regsOf : Code X Y → ℕ
@@ -42,12 +42,12 @@ module _ {X Y : Type 0} where
   regsOf (variable k s n t e r) = suc (regsOf r)
   regsOf (assign s e v t x r) = regsOf r
   regsOf (return s e t x r) = regsOf r
-  regsOf (bareReturn s t r) = regsOf r
+  regsOf (bareReturn s t x r) = regsOf r
   regsOf (block s c r) = regsOf c + regsOf r
   regsOf (ifElse s e ts t us u r) = regsOf t + regsOf u + regsOf r
   regsOf (ifThen s e ts t r) = regsOf t + regsOf r
   regsOf (while s e ts t r) = regsOf t + regsOf r
-  regsOf (jump k s r) = regsOf r
+  regsOf (jump k s x r) = regsOf r
 
 -- what document 01 grants the room entry beyond the image's length: registrations are Let, Const, parameters and `this`
 abbrev pub roomBound : Entry → Block → ℕ

@@ -1,7 +1,7 @@
--- The rules of the ownership pass on trees, for whatever a scope stack says of a local: the stack after statements (exit), the
--- deletes put in (decide), and which bodies are plain.
-use Prim.Native.Nat.{ℕ, suc}
-use mathlib.Core.Bool.{Bool, true, false, not, _&&_, cond}
+-- The rules of the ownership pass on trees, for whatever a scope stack says of a local and all settings of the switches: the stack
+-- after statements (exit), the deletes put in (decide), and which bodies are plain.
+use Prim.Native.Nat.{ℕ, suc, _/_, _%_}
+use mathlib.Core.Bool.{Bool, true, false, not, _&&_, _||_, cond}
 use mathlib.Core.List.{List, [], _∷_}
 use mathlib.Core.Option.{Option, none, some}
 use lib.Dec.{eqb, ltb, leb, T as So}
@@ -24,9 +24,32 @@ pub record Alg (A : Type 0) : Type 0 where
   pub join : A → A → A
   pub lives : A → Bool
 
+-- The switches for the drop rules (02, e), in this order: a bare return drops as a return with a value that excludes no name; Break and
+-- Continue drop what they would leave behind; two conditional states of one family join to a conditional one; the end of the body
+-- block drops the parameters' frame too
+pub record Switches : Type 0 where
+  pub bareReturns : Bool
+  pub jumps : Bool
+  pub conditional : Bool
+  pub parameters : Bool
+
+-- all off, where the Rust is the measure, and all on
+abbrev pub off : Switches
+off = record { bareReturns = false; jumps = false; conditional = false; parameters = false }
+
+abbrev pub on : Switches
+on = record { bareReturns = true; jumps = true; conditional = true; parameters = true }
+
+-- as a value: the bits 1, 2, 4 and 8
+abbrev pub switchesOf : ℕ → Switches
+switchesOf v = record { bareReturns = eqb (v % 2) 1; jumps = eqb (v / 2 % 2) 1; conditional = eqb (v / 4 % 2) 1; parameters = eqb (v / 8 % 2) 1 }
+
 -- the pass says a state
-abbrev pub states : Alg State
-states = record { new = alive; killed = λ k p a. gone false k (p ∷ []); handedOver = handState; join = joinState; lives = isAlive }
+abbrev pub joining : Bool → Alg State
+joining b = record { new = alive; killed = λ k p a. gone false k (p ∷ []); handedOver = handState; join = joinState b; lives = isAlive }
+
+abbrev pub states : Switches → Alg State
+states w = joining (w .conditional)
 
 -- a run says whether it is held
 abbrev pub holding : Alg Bool
@@ -40,8 +63,8 @@ pub data Drop : Type 0 where
 abbrev pub deleteAt : ℕ → Static → Drop
 deleteAt p s = dropOf p (s .name) (s .ty)
 
--- A tree with the pass's decisions: the deletes put in at a block's end, before an assignment and before a return with a value,
--- and whether an expression statement's unused result is deleted
+-- A tree with the pass's decisions: the deletes put in at a block's end and before an assignment, a return, a Break and a Continue, and
+-- whether an expression statement's unused result is deleted
 abbrev pub Decided : Type 0
 Decided = Code (List Drop) Bool
 
@@ -53,12 +76,12 @@ module _ {X Y : Type 0} where
   sureFrom (variable k s n t e r) b = sureFrom r false
   sureFrom (assign s e v t x r) b = sureFrom r false
   sureFrom (return s e t x r) b = sureFrom r true
-  sureFrom (bareReturn s t r) b = sureFrom r true
+  sureFrom (bareReturn s t x r) b = sureFrom r true
   sureFrom (block s c r) b = sureFrom r (sureFrom c false)
   sureFrom (ifElse s e ts t us u r) b = sureFrom r (sureFrom t false && sureFrom u false)
   sureFrom (ifThen s e ts t r) b = sureFrom r false
   sureFrom (while s e ts t r) b = sureFrom r false
-  sureFrom (jump k s r) b = sureFrom r false
+  sureFrom (jump k s x r) b = sureFrom r false
 
   -- no statement is left
   abbrev pub isDone : Code X Y → Bool
@@ -67,33 +90,43 @@ module _ {X Y : Type 0} where
   isDone (variable k s n t e r) = false
   isDone (assign s e v t x r) = false
   isDone (return s e t x r) = false
-  isDone (bareReturn s t r) = false
+  isDone (bareReturn s t x r) = false
   isDone (block s c r) = false
   isDone (ifElse s e ts t us u r) = false
   isDone (ifThen s e ts t r) = false
   isDone (while s e ts t r) = false
-  isDone (jump k s r) = false
+  isDone (jump k s x r) = false
 
 -- is n that name
 abbrev pub excludes : Named → ℕ → Bool
 excludes nobody n = false
 excludes (called m s) n = eqb n m
 
--- A place where locals are deleted or left behind: a block's end and its depth; a return and the returned name; a Break or Continue
--- and the depth of the nearest loop's body, if any; an assignment and the name it assigns
+-- A place where locals are deleted or left behind: a block's end and its depth; a return and the returned name; a return without a
+-- value; a Break or Continue and the depth of the nearest loop's body, if any; an assignment and the name it assigns
 pub data Place : Type 0 where
   atEnd : ℕ → Place
   atReturn : Named → Place
+  atBareReturn : Place
   atJump : Option ℕ → Place
   atAssign : Named → Place
 
--- does the place concern a local; a Break or Continue: the frames from the innermost out to the nearest loop's body (02, c)
-abbrev pub concerns : Place → Static → Bool
-concerns (atEnd d) s = eqb (s .depth) d
-concerns (atReturn n) s = not (excludes n (s .name))
-concerns (atJump none) s = false
-concerns (atJump (some l)) s = leb l (s .depth)
-concerns (atAssign n) s = excludes n (s .name)
+-- which locals a place concerns: those that it deletes if they are alive and of a type with a destructor
+abbrev pub Policy : Type 0
+Policy = Place → Static → Bool
+
+-- the frames from the innermost out to the nearest loop's body; none outside any loop (02, c)
+abbrev pub inLoop : Option ℕ → Static → Bool
+inLoop none s = false
+inLoop (some l) s = leb l (s .depth)
+
+-- by the switches (02, e); what a place deletes it deletes newest first, so a block's own locals before the parameters
+abbrev pub concerns : Switches → Policy
+concerns w (atEnd d) s = (w .parameters && eqb d 1 && eqb (s .depth) 0) || eqb (s .depth) d
+concerns w (atReturn n) s = not (excludes n (s .name))
+concerns w atBareReturn s = w .bareReturns
+concerns w (atJump l) s = w .jumps && inLoop l s
+concerns w (atAssign n) s = excludes n (s .name)
 
 -- the local of a Let or Const in a block of depth d: the statement's span, name and type
 abbrev pub declared : ℕ → ℕ → ℕ → ℕ → Static
@@ -160,25 +193,14 @@ module _ {A : Type 0} (𝓐 : Alg A) where
     abbrev pub collect : (Static → Bool) → ℕ → Stack A → List Drop
     collect q p σ = gather q (deleteAt p) σ
 
-    -- transform_block's tail_drops: the block's own frame, with the block's span
-    abbrev pub tailDrops : ℕ → ℕ → Stack A → List Drop
-    tailDrops d p σ = collect (λ s. concerns (atEnd d) s) p σ
+    abbrev pub dropNewest : (Static → Bool) → ℕ → ℕ → Option (Local A) → List Drop
+    dropNewest q p n none = []
+    dropNewest q p n (some (local s a)) = cond (q s && 𝓐 .lives a && auto T (s .ty)) (dropOf p n (s .ty) ∷ []) []
 
-    -- collect_scope_drops: every frame, but not the returned name, with span 0
-    abbrev pub returnDrops : Named → Stack A → List Drop
-    returnDrops n σ = collect (λ s. concerns (atReturn n) s) 0 σ
-
-    abbrev pub dropNewest : ℕ → ℕ → Option (Local A) → List Drop
-    dropNewest p n none = []
-    dropNewest p n (some (local s a)) = cond (𝓐 .lives a && auto T (s .ty)) (dropOf p n (s .ty) ∷ []) []
-
-    abbrev pub dropNamed : ℕ → Named → Stack A → List Drop
-    dropNamed p nobody σ = []
-    dropNamed p (called n s) σ = dropNewest p n (lookup n σ)
-
-    -- pre_delete_before_assign: an Ident's newest local, with the statement's span
-    abbrev pub assignDrops : ℕ → Expr → Stack A → List Drop
-    assignDrops p dst σ = dropNamed p (identIn (view dst)) σ
+    -- the delete of a name's newest local, if q admits it
+    abbrev pub dropNamed : (Static → Bool) → ℕ → Named → Stack A → List Drop
+    dropNamed q p nobody σ = []
+    dropNamed q p (called n s) σ = dropNewest q p n (lookup n σ)
 
     -- the stack after a statement's parts, in the order of transform_block: an expression
     abbrev pub evaluate : Expr → Stack A → Stack A
@@ -207,13 +229,13 @@ module _ {A : Type 0} (𝓐 : Alg A) where
     exit (variable k s n t e r) d σ = exit r d (afterVariable (declared d s n t) e σ)
     exit (assign s e v t x r) d σ = exit r d (afterAssign e v (beforeAssign e v σ))
     exit (return s e t x r) d σ = exit r d (evaluate e σ)
-    exit (bareReturn s t r) d σ = exit r d σ
+    exit (bareReturn s t x r) d σ = exit r d σ
     exit (block s c r) d σ = exit r d (exit c (suc d) σ)
     exit (ifElse s e ts t us u r) d σ =
         exit r d (merge (sureFrom t false) (sureFrom u false) (evaluate e σ) (exit t (suc d) (evaluate e σ)) (exit u (suc d) (evaluate e σ)))
     exit (ifThen s e ts t r) d σ = exit r d (merge (sureFrom t false) false (evaluate e σ) (exit t (suc d) (evaluate e σ)) (evaluate e σ))
     exit (while s e ts t r) d σ = exit r d (joins (exit t (suc d) (evaluate e σ)) (evaluate e σ))
-    exit (jump k s r) d σ = exit r d σ
+    exit (jump k s x r) d σ = exit r d σ
 
     -- behind an if with an else, an if without one, and a loop
     module _ {X Y : Type 0} (e : Expr) where
@@ -226,24 +248,45 @@ module _ {A : Type 0} (𝓐 : Alg A) where
       abbrev pub behindLoop : Code X Y → ℕ → Stack A → Stack A
       behindLoop t d σ = joins (exit t (suc d) (evaluate e σ)) (evaluate e σ)
 
-    -- transform_block: the decisions. p is the block's span, d its depth, f whether the statement before surely returns
-    abbrev pub decide : Tree → ℕ → ℕ → Bool → Stack A → Decided
-    decide (done x) p d f σ = done (cond f [] (tailDrops d p σ))
-    decide (exprStmt s e y r) p d f σ = exprStmt s e (auto T (tyOf e) && isCall (view e)) (decide r p d false (afterExpr e σ))
-    decide (variable k s n t e r) p d f σ = variable k s n t e (decide r p d false (afterVariable (declared d s n t) e σ))
-    decide (assign s e v t x r) p d f σ =
-        assign s e v t (assignDrops s e (beforeAssign e v σ)) (decide r p d false (afterAssign e v (beforeAssign e v σ)))
-    decide (return s e t x r) p d f σ = return s e t (returnDrops (nameIn (view e)) (evaluate e σ)) (decide r p d true (evaluate e σ))
-    decide (bareReturn s t r) p d f σ = bareReturn s t (decide r p d true σ)
-    decide (block s c r) p d f σ = block s (decide c s (suc d) false σ) (decide r p d (sureFrom c false) (exit c (suc d) σ))
-    decide (ifElse s e ts t us u r) p d f σ =
-        ifElse s e ts (decide t ts (suc d) false (evaluate e σ)) us (decide u us (suc d) false (evaluate e σ))
-        (decide r p d (sureFrom t false && sureFrom u false) (behindIf e t u d σ))
-    decide (ifThen s e ts t r) p d f σ =
-        ifThen s e ts (decide t ts (suc d) false (evaluate e σ)) (decide r p d false (behindThen e t d σ))
-    decide (while s e ts t r) p d f σ =
-        while s e ts (decide t ts (suc d) false (evaluate e σ)) (decide r p d false (behindLoop e t d σ))
-    decide (jump k s r) p d f σ = jump k s (decide r p d false σ)
+    module _ (𝓟 : Policy) where
+      -- transform_block's tail_drops: the block's own frame, with the block's span; and the parameters' (02, e, switch 4)
+      abbrev pub endDrops : ℕ → ℕ → Stack A → List Drop
+      endDrops d p σ = collect (λ s. 𝓟 (atEnd d) s) p σ
+
+      -- collect_scope_drops: every frame, but not the returned name, with span 0
+      abbrev pub returnDrops : Named → Stack A → List Drop
+      returnDrops n σ = collect (λ s. 𝓟 (atReturn n) s) 0 σ
+
+      -- (02, e, switches 1 and 2)
+      abbrev pub bareReturnDrops : Stack A → List Drop
+      bareReturnDrops σ = collect (λ s. 𝓟 atBareReturn s) 0 σ
+
+      abbrev pub jumpDrops : Option ℕ → Stack A → List Drop
+      jumpDrops l σ = collect (λ s. 𝓟 (atJump l) s) 0 σ
+
+      -- pre_delete_before_assign: an Ident's newest local, with the statement's span
+      abbrev pub assignDrops : ℕ → Expr → Stack A → List Drop
+      assignDrops p dst σ = dropNamed (λ s. 𝓟 (atAssign (identIn (view dst))) s) p (identIn (view dst)) σ
+
+      -- transform_block: the decisions. p is the block's span, d its depth, l the depth of the nearest loop's body, if there is one, f
+      -- whether the statement before surely returns
+      abbrev pub decide : Tree → ℕ → ℕ → Option ℕ → Bool → Stack A → Decided
+      decide (done x) p d l f σ = done (cond f [] (endDrops d p σ))
+      decide (exprStmt s e y r) p d l f σ = exprStmt s e (auto T (tyOf e) && isCall (view e)) (decide r p d l false (afterExpr e σ))
+      decide (variable k s n t e r) p d l f σ = variable k s n t e (decide r p d l false (afterVariable (declared d s n t) e σ))
+      decide (assign s e v t x r) p d l f σ =
+          assign s e v t (assignDrops s e (beforeAssign e v σ)) (decide r p d l false (afterAssign e v (beforeAssign e v σ)))
+      decide (return s e t x r) p d l f σ = return s e t (returnDrops (nameIn (view e)) (evaluate e σ)) (decide r p d l true (evaluate e σ))
+      decide (bareReturn s t x r) p d l f σ = bareReturn s t (bareReturnDrops σ) (decide r p d l true σ)
+      decide (block s c r) p d l f σ = block s (decide c s (suc d) l false σ) (decide r p d l (sureFrom c false) (exit c (suc d) σ))
+      decide (ifElse s e ts t us u r) p d l f σ =
+          ifElse s e ts (decide t ts (suc d) l false (evaluate e σ)) us (decide u us (suc d) l false (evaluate e σ))
+          (decide r p d l (sureFrom t false && sureFrom u false) (behindIf e t u d σ))
+      decide (ifThen s e ts t r) p d l f σ =
+          ifThen s e ts (decide t ts (suc d) l false (evaluate e σ)) (decide r p d l false (behindThen e t d σ))
+      decide (while s e ts t r) p d l f σ =
+          while s e ts (decide t ts (suc d) (some (suc d)) false (evaluate e σ)) (decide r p d l false (behindLoop e t d σ))
+      decide (jump k s x r) p d l f σ = jump k s (jumpDrops l σ) (decide r p d l false σ)
 
     -- Plain, in its four parts: no Break or Continue; no name registered while a frame holds it; nothing after what surely returns;
     -- no loop body ending with a name not alive that was alive before the loop's condition
@@ -253,16 +296,15 @@ module _ {A : Type 0} (𝓐 : Alg A) where
     Plain (variable k s n t e r) d σ = So (not (has n (shape σ))) × Plain r d (afterVariable (declared d s n t) e σ)
     Plain (assign s e v t x r) d σ = Plain r d (afterAssign e v (beforeAssign e v σ))
     Plain (return s e t x r) d σ = So (isDone r)
-    Plain (bareReturn s t r) d σ = So (isDone r)
+    Plain (bareReturn s t x r) d σ = So (isDone r)
     Plain (block s c r) d σ = Plain c (suc d) σ × (So (sureFrom c false) → So (isDone r)) × Plain r d (exit c (suc d) σ)
     Plain (ifElse s e ts t us u r) d σ =
         Plain t (suc d) (evaluate e σ) × Plain u (suc d) (evaluate e σ) × (So (sureFrom t false && sureFrom u false) → So (isDone r))
         × Plain r d (behindIf e t u d σ)
-    Plain (ifThen s e ts t r) d σ =
-        Plain t (suc d) (evaluate e σ) × Plain r d (behindThen e t d σ)
+    Plain (ifThen s e ts t r) d σ = Plain t (suc d) (evaluate e σ) × Plain r d (behindThen e t d σ)
     Plain (while s e ts t r) d σ =
         Plain t (suc d) (evaluate e σ) × Keeps σ (exit t (suc d) (evaluate e σ)) × Plain r d (behindLoop e t d σ)
-    Plain (jump k s r) d σ = ⊥
+    Plain (jump k s x r) d σ = ⊥
 
     -- run_ownership_for_method_body, run_ownership_for_body: the locals a body is entered with, registered in the outermost frame
     abbrev pub entered : List Param → Stack A → Stack A
@@ -278,13 +320,14 @@ module _ {A : Type 0} (𝓐 : Alg A) where
     PlainIn params body = Fresh params [] × Plain body 1 (entered params [])
 
     -- the body block has depth 1; p is its span
-    abbrev pub decideIn : List Param → ℕ → Tree → Decided
-    decideIn params p body = decide body p 1 false (entered params [])
+    abbrev pub decideIn : Policy → List Param → ℕ → Tree → Decided
+    decideIn 𝓟 params p body = decide 𝓟 body p 1 none false (entered params [])
 
--- a plain body, by the pass's states
-abbrev pub PlainBody : Tables → Entry → Block → Type 0
-PlainBody T x b = PlainIn states T (localsOf x) (b .code)
+module _ (w : Switches) (T : Tables) where
+  -- a plain body, by the pass's states
+  abbrev pub PlainBody : Entry → Block → Type 0
+  PlainBody x b = PlainIn (states w) T (localsOf x) (b .code)
 
--- what the pass decides on a body
-abbrev pub decideBody : Tables → Entry → Block → Decided
-decideBody T x b = decideIn states T (localsOf x) (b .span) (b .code)
+  -- what the pass decides on a body
+  abbrev pub decideBody : Entry → Block → Decided
+  decideBody x b = decideIn (states w) T (concerns w) (localsOf x) (b .span) (b .code)

@@ -57,10 +57,11 @@ joinKind consumed deleted = consumed
 joinKind consumed moved = consumed
 joinKind consumed consumed = consumed
 
--- merge_join_state, with conditionalize_state: then's state, else's state
-abbrev pub joinState : State → State → State
-joinState alive alive = alive
-joinState alive (gone c k ps) = gone true k ps
-joinState (gone c k ps) alive = gone true k ps
-joinState (gone c k ps) (gone c′ k′ ps′) =
-    cond (Bool·beq c c′ && kindEq k k′ && placesEq ps ps′) (gone c k ps) (gone false (joinKind k k′) (combine ps ps′))
+-- merge_join_state, with conditionalize_state: then's state, else's state. If b, two conditional states of one family join to a
+-- conditional one (02, e, switch 3)
+abbrev pub joinState : Bool → State → State → State
+joinState b alive alive = alive
+joinState b alive (gone c k ps) = gone true k ps
+joinState b (gone c k ps) alive = gone true k ps
+joinState b (gone c k ps) (gone c′ k′ ps′) =
+    cond (Bool·beq c c′ && kindEq k k′ && placesEq ps ps′) (gone c k ps) (gone (b && c && c′ && kindEq k k′) (joinKind k k′) (combine ps ps′))

@@ -1,15 +1,16 @@
--- What an entry answers (document 01, "Faults" and "What is reported"), from the image's bytes and the lengths lent: the first fault of
--- the table, or the totals, the bytes and the lists.
+-- What an entry answers (document 01, "Faults" and "What is reported"; 02, e), from the value of the switches, the image's bytes and the
+-- lengths lent: 17 or the first fault of the table, or the totals, the bytes and the lists.
 use Prim.Native.Nat.{ℕ, _+_, _≤_}
 use mathlib.Core.Bool.{Bool, true, cond, _&&_}
 use mathlib.Core.List.{List, [], _∷_, _++_}
 use mathlib.Core.Option.{Option, some}
 use lib.ListN.{length, take, replicate}
-use lib.Dec.{leb}
+use lib.Dec.{leb, ltb}
 use Rattle.tables.specs.Limits.{Limits}
 use Rattle.image_encoding.specs.Body.{size}
 use Rattle.image_body.specs.Stmt.{Tree, done, exprStmt, variable, assign, return, bareReturn, block, ifElse, ifThen, while, jump}
 use Rattle.image.specs.Image.{Image, Decoded, accepted, refused, decode, encode}
+use Rattle.rules.specs.Rules.{Switches, switchesOf}
 use Rattle.rules.specs.Report.{Report, error, warning, left, reports, errors, warnings, lefts, returnedImage}
 use Rattle.rules.specs.Room.{roomBound}
 use Rattle.rules.specs.Walk.{imageFault}
@@ -41,15 +42,15 @@ pub record Answer : Type 0 where
   pub warningNumbers : List ℕ
   pub leftNumbers : List ℕ
 
-abbrev pub answerOf : Limits → Image → Answer
-answerOf L i = record {
-  output = encode L (returnedImage i);
-  errorCount = length (errors (reports i));
-  warningCount = length (warnings (reports i));
-  leftCount = length (lefts (reports i));
-  errorNumbers = entriesOf L (errors (reports i));
-  warningNumbers = entriesOf L (warnings (reports i));
-  leftNumbers = entriesOf L (lefts (reports i));
+abbrev pub answerOf : Limits → Switches → Image → Answer
+answerOf L w i = record {
+  output = encode L (returnedImage w i);
+  errorCount = length (errors (reports w i));
+  warningCount = length (warnings (reports w i));
+  leftCount = length (lefts (reports w i));
+  errorNumbers = entriesOf L (errors (reports w i));
+  warningNumbers = entriesOf L (warnings (reports w i));
+  leftNumbers = entriesOf L (lefts (reports w i));
 }
 
 -- every block counts at most so many statements
@@ -59,12 +60,12 @@ countsFit m (exprStmt s e y r) = countsFit m r
 countsFit m (variable k s n t e r) = countsFit m r
 countsFit m (assign s e v t x r) = countsFit m r
 countsFit m (return s e t x r) = countsFit m r
-countsFit m (bareReturn s t r) = countsFit m r
+countsFit m (bareReturn s t x r) = countsFit m r
 countsFit m (block s c r) = leb (size c) m && countsFit m c && countsFit m r
 countsFit m (ifElse s e ts t us u r) = leb (size t) m && leb (size u) m && countsFit m t && countsFit m u && countsFit m r
 countsFit m (ifThen s e ts t r) = leb (size t) m && countsFit m t && countsFit m r
 countsFit m (while s e ts t r) = leb (size t) m && countsFit m t && countsFit m r
-countsFit m (jump k s r) = countsFit m r
+countsFit m (jump k s x r) = countsFit m r
 
 abbrev pub imageCountsFit : ℕ → Image → Bool
 imageCountsFit m i = leb (size (i .body .code)) m && countsFit m (i .body .code)
@@ -78,35 +79,39 @@ abbrev pub listsFit : Lent → Answer → Bool
 listsFit lent a = leb (a .errorCount) (lent .errors) && leb (a .warningCount) (lent .warnings) && leb (a .leftCount) (lent .lefts)
 
 -- 15: the image does not fit the bytes lent, or a block would count over 65,535 statements
-abbrev pub outputFits : Lent → Image → Answer → Bool
-outputFits lent i a = leb (length (a .output)) (lent .bytes) && imageCountsFit 65535 (returnedImage i)
+abbrev pub outputFits : Switches → Lent → Image → Answer → Bool
+outputFits w lent i a = leb (length (a .output)) (lent .bytes) && imageCountsFit 65535 (returnedImage w i)
 
 -- lists, then output
-abbrev pub fitted : Lent → Image → Answer → Verdict
-fitted lent i a = cond (listsFit lent a) (cond (outputFits lent i a) (answers a) (refuses 15)) (refuses 14)
+abbrev pub fitted : Switches → Lent → Image → Answer → Verdict
+fitted w lent i a = cond (listsFit lent a) (cond (outputFits w lent i a) (answers a) (refuses 15)) (refuses 14)
 
 -- faults 12 and 13, then the lists
-abbrev pub walked : Limits → Lent → Image → Option ℕ → Verdict
-walked L lent i (some n) = refuses n
-walked L lent i Option.none = fitted lent i (answerOf L i)
+abbrev pub walked : Limits → Switches → Lent → Image → Option ℕ → Verdict
+walked L w lent i (some n) = refuses n
+walked L w lent i Option.none = fitted w lent i (answerOf L w i)
 
-abbrev pub decided : Limits → Lent → Decoded → Verdict
-decided L lent (refused n) = refuses n
-decided L lent (accepted i) = walked L lent i (imageFault L i)
+abbrev pub decided : Limits → Switches → Lent → Decoded → Verdict
+decided L w lent (refused n) = refuses n
+decided L w lent (accepted i) = walked L w lent i (imageFault L w i)
 
--- the entry that gives back the body
-unfoldable pub passVerdict : Limits → Lent → List ℕ → Verdict
-passVerdict L lent s = decided L lent (decode L s)
+-- 17, before the head's checks: a switch value above 15 (02, e)
+abbrev pub tooHigh : ℕ → Bool
+tooHigh v = ltb 15 v
 
--- the fault of the entry that answers the room: 1 to 13
-abbrev pub roomFaultOf : Limits → Decoded → Option ℕ
-roomFaultOf L (refused n) = some n
-roomFaultOf L (accepted i) = imageFault L i
+-- the entry that gives back the body, given the value of the switches
+unfoldable pub passVerdict : Limits → Lent → ℕ → List ℕ → Verdict
+passVerdict L lent v s = cond (tooHigh v) (refuses 17) (decided L (switchesOf v) lent (decode L s))
 
-unfoldable pub roomFault : Limits → List ℕ → Option ℕ
-roomFault L s = roomFaultOf L (decode L s)
+-- the fault of the entry that answers the room: 17, then 1 to 13
+abbrev pub roomFaultOf : Limits → Switches → Decoded → Option ℕ
+roomFaultOf L w (refused n) = some n
+roomFaultOf L w (accepted i) = imageFault L w i
+
+unfoldable pub roomFault : Limits → ℕ → List ℕ → Option ℕ
+roomFault L v s = cond (tooHigh v) (some 17) (roomFaultOf L (switchesOf v) (decode L s))
 
 -- Without a fault it answers a number that document 01 leaves free within these bounds
-pub record RoomFor (L : Limits) (s : List ℕ) (i : Image) (n : ℕ) : Type 0 where
-  pub enough : length (encode L (returnedImage i)) ≤ n
+pub record RoomFor (L : Limits) (w : Switches) (s : List ℕ) (i : Image) (n : ℕ) : Type 0 where
+  pub enough : length (encode L (returnedImage w i)) ≤ n
   pub most : n ≤ length s + roomBound (i .entry) (i .body)

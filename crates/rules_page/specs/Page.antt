@@ -61,7 +61,8 @@ lines h (a ∷ b ∷ []) = line h (a ∷ b ∷ []) ∷ []
 lines h (a ∷ b ∷ c ∷ []) = line h (a ∷ b ∷ c ∷ []) ∷ []
 lines h (a ∷ b ∷ c ∷ d ∷ ps) = line h (a ∷ b ∷ c ∷ []) ∷ lines (blanks 36) (d ∷ ps)
 
--- the place or span first; as other places an error's, a warning's offset, the name's number and the birth of what is left behind (02, d); no hint is shown
+-- the place or span first; as other places an error's, a warning's offset, the name's number and the birth of what is left behind (02, d); no
+-- hint is shown
 unfoldable pub entry : Report → List (List ℕ)
 entry (error k p h ps) = lines (head (kindName k) p) ps
 entry (warning s o) = lines (head (bytes "unused result") s) (o ∷ [])

@@ -1,5 +1,5 @@
--- What the entry that writes the page answers (document 02, (a)), from the image's bytes and the length of the page lent: the first of the
--- faults 1 to 13, then 16, or the page. The lists may be of any length, and a block may count any number of statements.
+-- What the entry that writes the page answers (document 02, (a) and (e)), from the value of the switches, the image's bytes and the length of
+-- the page lent: fault 17, the first of 1 to 13, then 16, or the page. The lists may be of any length, and a block may count any number of statements.
 use Prim.Native.Nat.{ℕ}
 use mathlib.Core.Bool.{cond}
 use mathlib.Core.List.{List}
@@ -8,8 +8,10 @@ use lib.ListN.{length}
 use lib.Dec.{leb}
 use Rattle.tables.specs.Limits.{Limits}
 use Rattle.image.specs.Image.{Image, Decoded, accepted, refused, decode}
+use Rattle.rules.specs.Rules.{Switches, switchesOf}
 use Rattle.rules.specs.Report.{reports}
 use Rattle.rules.specs.Walk.{imageFault}
+use Rattle.rules.specs.Verdict.{tooHigh}
 use Rattle.rules_page.specs.Page.{pageOf}
 
 pub data PageVerdict : Type 0 where
@@ -21,13 +23,13 @@ abbrev pub pageFitted : ℕ → List ℕ → PageVerdict
 pageFitted room page = cond (leb (length page) room) (writes page) (refusesPage 16)
 
 -- faults 12 and 13, then the page
-abbrev pub pageWalked : ℕ → Image → Option ℕ → PageVerdict
-pageWalked room i (some n) = refusesPage n
-pageWalked room i Option.none = pageFitted room (pageOf (reports i))
+abbrev pub pageWalked : Switches → ℕ → Image → Option ℕ → PageVerdict
+pageWalked w room i (some n) = refusesPage n
+pageWalked w room i Option.none = pageFitted room (pageOf (reports w i))
 
-abbrev pub pageDecided : Limits → ℕ → Decoded → PageVerdict
-pageDecided L room (refused n) = refusesPage n
-pageDecided L room (accepted i) = pageWalked room i (imageFault L i)
+abbrev pub pageDecided : Limits → Switches → ℕ → Decoded → PageVerdict
+pageDecided L w room (refused n) = refusesPage n
+pageDecided L w room (accepted i) = pageWalked w room i (imageFault L w i)
 
-unfoldable pub pageVerdict : Limits → ℕ → List ℕ → PageVerdict
-pageVerdict L room s = pageDecided L room (decode L s)
+unfoldable pub pageVerdict : Limits → ℕ → ℕ → List ℕ → PageVerdict
+pageVerdict L room v s = cond (tooHigh v) (refusesPage 17) (pageDecided L (switchesOf v) room (decode L s))

@@ -20,7 +20,7 @@ use Rattle.tables_lookup.specs.Lent.{Lent, Says}
 use Rattle.rules.specs.Questions.{auto}
 use Rattle.rules.specs.State.{State as Status}
 use Rattle.rules.specs.Stack.{shape, Stack as Scope}
-use Rattle.rules.specs.Rules.{declared, given, states, register, entered, localsOf}
+use Rattle.rules.specs.Rules.{declared, given, states, register, entered, localsOf, off}
 use Rattle.scope_stack.specs.declared.Locals.{Locals}
 use Rattle.scope_stack.specs.declared.States.{States}
 use Rattle.scope_stack.specs.View.{view, aliveAt, Kept, Drops, Nested, Named, Grows}
@@ -28,13 +28,13 @@ use Rattle.scope_stack.proofs.Frames.{nested-register}
 use Rattle.scope_stack.proofs.Scopes.{view-none, rowed-none, nested-view, registers-fresh}
 use Rattle.scope_entered.specs.Entered.{paramsIn, Fresh, Adds, Enters}
 
-entered-both : (T : Tables) (ps qs : List Param) (σ : Scope Status) → entered states T (ps ++ qs) σ ≡ entered states T qs (entered states T ps σ)
+entered-both : (T : Tables) (ps qs : List Param) (σ : Scope Status) → entered (states off) T (ps ++ qs) σ ≡ entered (states off) T qs (entered (states off) T ps σ)
 entered-both T [] qs σ = refl
-entered-both T (p ∷ ps) qs σ = entered-both T ps qs (register states (given p) σ)
+entered-both T (p ∷ ps) qs σ = entered-both T ps qs (register (states off) (given p) σ)
 
-nested-entered : (T : Tables) (ps : List Param) (σ : Scope Status) → Nested 0 (shape σ) → Nested 0 (shape (entered states T ps σ))
+nested-entered : (T : Tables) (ps : List Param) (σ : Scope Status) → Nested 0 (shape σ) → Nested 0 (shape (entered (states off) T ps σ))
 nested-entered T [] σ h = h
-nested-entered T (p ∷ ps) σ h = nested-entered T ps (register states (given p) σ) (nested-register (p .name) (p .ty) 0 0 σ h)
+nested-entered T (p ∷ ps) σ h = nested-entered T ps (register (states off) (given p) σ) (nested-register (p .name) (p .ty) 0 0 σ h)
 
 -- no parameter, and one more
 pub params-none : (s : List ℕ) (at : ℕ) → paramsIn s 0 at ≡ []
@@ -73,7 +73,7 @@ module _ (tb : List ℕ) where
     kept = b .kept;
     count = let z = length-append ps qs in omega (arith, a .count, b .count);
     drops = λ s T lent says d. b .drops s T lent says (a .drops s T lent says d);
-    is = λ T t f rows cur width. b .is T t f rows cur width ∙ ap (entered states T qs) (a .is T t f rows cur width) ∙ sym (entered-both T ps qs (view l t rows cur width));
+    is = λ T t f rows cur width. b .is T t f rows cur width ∙ ap (entered (states off) T qs) (a .is T t f rows cur width) ∙ sym (entered-both T ps qs (view l t rows cur width));
   }
 
 module _ (s tb : List ℕ) where
@@ -94,11 +94,11 @@ module _ (s tb : List ℕ) where
     nested = λ t rows cur width. nested-view 0 r none t [] rows 0 cur width
         (subst (λ (σ : Scope Status). Nested 0 (shape σ)) (sym (whole T₀ none (λ i. refl) [] 0 width)) (nested-entered T₀ ps [] tt));
     drops = λ T lent says. a .drops s T lent says (d T);
-    is = λ names types x next g T t f rows cur width. whole T t f rows cur width ∙ ap (λ (qs : List Param). entered states T qs []) (sym (e names types x next g));
+    is = λ names types x next g T t f rows cur width. whole T t f rows cur width ∙ ap (λ (qs : List Param). entered (states off) T qs []) (sym (e names types x next g));
   }
     where
-      whole : (T : Tables) (t : States) → Fresh t → (rows : List ℕ) (cur width : ℕ) → view r t rows cur width ≡ entered states T ps []
-      whole T t f rows cur width = a .is T t f rows cur width ∙ ap (entered states T ps) (view-none l t rows cur width z)
+      whole : (T : Tables) (t : States) → Fresh t → (rows : List ℕ) (cur width : ℕ) → view r t rows cur width ≡ entered (states off) T ps []
+      whole T t f rows cur width = a .is T t f rows cur width ∙ ap (entered (states off) T ps) (view-none l t rows cur width z)
 
       none : States
       none = record { kinds = []; firsts = []; alive = 0 }

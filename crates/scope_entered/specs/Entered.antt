@@ -9,7 +9,7 @@ use Rattle.tables.specs.Limits.{version1}
 use Rattle.tables.specs.Tables.{Tables}
 use Rattle.tables.specs.Signature.{Entry, Param, paramIn, entryAt}
 use Rattle.rules.specs.Stack.{shape}
-use Rattle.rules.specs.Rules.{states, entered, localsOf}
+use Rattle.rules.specs.Rules.{states, entered, localsOf, off}
 use Rattle.tables_lookup.specs.Lent.{Lent, Says}
 use Rattle.scope_stack.specs.declared.Locals.{Locals}
 use Rattle.scope_stack.specs.declared.States.{States}
@@ -36,7 +36,7 @@ pub record Adds (tb : List ℕ) (ps : List Param) (l r : Locals) : Type 0 where
   pub kept : Kept r
   pub count : r .count ≡ l .count + length ps
   pub drops : (s : List ℕ) (T : Tables) → Lent s tb → Says s tb T → Drops T l → Drops T r
-  pub is : (T : Tables) (t : States) → Fresh t → (rows : List ℕ) (cur width : ℕ) → view r t rows cur width ≡ entered states T ps (view l t rows cur width)
+  pub is : (T : Tables) (t : States) → Fresh t → (rows : List ℕ) (cur width : ℕ) → view r t rows cur width ≡ entered (states off) T ps (view l t rows cur width)
 
 -- whatever entry was read there, its locals, in the outermost frame
 pub record Enters (s tb : List ℕ) (at : ℕ) (r : Locals) : Type 0 where
@@ -45,4 +45,4 @@ pub record Enters (s tb : List ℕ) (at : ℕ) (r : Locals) : Type 0 where
   pub nested : (t : States) (rows : List ℕ) (cur width : ℕ) → Nested 0 (shape (view r t rows cur width))
   pub drops : (T : Tables) → Lent s tb → Says s tb T → Drops T r
   pub is : (names types : ℕ) (x : Entry) (next : ℕ) → entryAt version1 names types s at ≡ ok x next
-      → (T : Tables) (t : States) → Fresh t → (rows : List ℕ) (cur width : ℕ) → view r t rows cur width ≡ entered states T (localsOf x) []
+      → (T : Tables) (t : States) → Fresh t → (rows : List ℕ) (cur width : ℕ) → view r t rows cur width ≡ entered (states off) T (localsOf x) []

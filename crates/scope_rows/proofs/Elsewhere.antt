@@ -19,9 +19,9 @@ use Rattle.scope_rows.specs.Rows.{JoinsAll, Copied, Copies}
 use Rattle.scope_rows.proofs.Rowing.{known-same, said-same, row-before}
 
 -- a join keeps a stack sound: the bits of its mark are those of the joined states
-pub sound-join : {P : Tables → Type 0} (l : Locals) (t u r : States) (rows new : List ℕ) (a b width : ℕ) → Sound P l t rows a width → JoinsAll (l .count) width t u rows a b r new 0
+pub sound-join : {P : Tables → Type 0} (keeps : Bool) (l : Locals) (t u r : States) (rows new : List ℕ) (a b width : ℕ) → Sound P l t rows a width → JoinsAll keeps (l .count) width t u rows a b r new 0
     → Sound P l r new a width
-sound-join l t u r rows new a b width s j = sound-states l t r rows new a a width s (j .held refl) (j .rowed refl)
+sound-join keeps l t u r rows new a b width s j = sound-states l t r rows new a a width s (j .held refl) (j .rowed refl)
 
 -- rows that changed elsewhere
 module _ (l : Locals) (t : States) (rows new : List ℕ) (cur width : ℕ) (h : Rowed (l .count) t rows cur width) (room : length new ≡ length rows)

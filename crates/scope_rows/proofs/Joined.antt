@@ -13,7 +13,7 @@ use Rattle.image_fields.proofs.Tests.{split, less, or-true, false-true}
 use Rattle.tables.specs.Limits.{Limits}
 use Rattle.rules.specs.State.{State as Status, alive, gone, joinState, placesEq, combine}
 use Rattle.rules.specs.Stack.{Static, local, Stack as Scope}
-use Rattle.rules.specs.Rules.{states, joins}
+use Rattle.rules.specs.Rules.{joining, joins}
 use Rattle.rules.specs.Walk.{placesOf, crowded}
 use Rattle.rules.proofs.Bools.{eqb-self}
 use Rattle.scope_state.specs.Kinds.{said, family, kindOf}
@@ -30,10 +30,10 @@ use Rattle.scope_stack.proofs.Marked.{said-one, known-one}
 use Rattle.scope_rows.proofs.Rowing.{positive, known-same, said-same, else-none, row-before, row-mono, row-next}
 
 -- two stacks of the same locals, joined local by local
-pub joined : (n : ℕ) (f f′ : ℕ → Static) (g h : ℕ → Status) → joins states (stacked n f g) (stacked n f′ h) ≡ stacked n f (λ i. joinState (g i) (h i))
+pub joined : (k : Bool) (n : ℕ) (f f′ : ℕ → Static) (g h : ℕ → Status) → joins (joining k) (stacked n f g) (stacked n f′ h) ≡ stacked n f (λ i. joinState k (g i) (h i))
 unfolding stacked
-joined zero f f′ g h = refl
-joined (suc n) f f′ g h = ap (λ (σ : Scope Status). local (f n) (joinState (g n) (h n)) ∷ σ) (joined n f f′ g h)
+joined k zero f f′ g h = refl
+joined k (suc n) f f′ g h = ap (λ (σ : Scope Status). local (f n) (joinState k (g n) (h n)) ∷ σ) (joined k n f f′ g h)
 
 pub calm-all : (L : Limits) (n : ℕ) (f : ℕ → Static) (g : ℕ → Status) → ((k : ℕ) → k < n → over (L .places) (g k) ≡ false) → crowded L (stacked n f g) ≡ false
 unfolding stacked crowded
@@ -66,23 +66,23 @@ few width k f h = by-test (eqb k 0)
     by-test false = le-ltb width 1 h
 
 -- a join of what is alike changes nothing
-said-twice : (k f g : ℕ) → k < 7 → (k ≡ 0) ⊎ (g ≡ f) → joinState (said k (f ∷ [])) (said k (g ∷ [])) ≡ said k (f ∷ [])
-said-twice k f g l h =
+said-twice : (keeps : Bool) (k f g : ℕ) → k < 7 → (k ≡ 0) ⊎ (g ≡ f) → joinState keeps (said k (f ∷ [])) (said k (g ∷ [])) ≡ said k (f ∷ [])
+said-twice keeps k f g l h =
     ⊎-elim
     (λ (z : eqb k 0 ≡ true). rw z)
     (λ (z : eqb k 0 ≡ false).
     let pos : 0 < k = positive k (eqb-false k 0 z) in
     let same : g ≡ f = ⊎-elim (λ (q : k ≡ 0). absurd (eqb-false k 0 z q)) (λ (q : g ≡ f). q) h in
-    ap (λ (x : ℕ). joinState (said k (f ∷ [])) (said k (x ∷ []))) same
-    ∙ join-given k k pos l pos l (f ∷ []) (f ∷ [])
-    ∙ ap (λ (b : Bool). cond (b && placesEq (f ∷ []) (f ∷ [])) (said k (f ∷ [])) (said (family k k) (combine (f ∷ []) (f ∷ [])))) (eqb-self k)
-    ∙ ap (λ (b : Bool). cond b (said k (f ∷ [])) (said (family k k) (combine (f ∷ []) (f ∷ [])))) (one-eq f))
+    ap (λ (x : ℕ). joinState keeps (said k (f ∷ [])) (said k (x ∷ []))) same
+    ∙ join-given keeps k k pos l pos l (f ∷ []) (f ∷ [])
+    ∙ ap (λ (b : Bool). cond (b && placesEq (f ∷ []) (f ∷ [])) (said k (f ∷ [])) (said (family keeps k k) (combine (f ∷ []) (f ∷ [])))) (eqb-self k)
+    ∙ ap (λ (b : Bool). cond b (said k (f ∷ [])) (said (family keeps k k) (combine (f ∷ []) (f ∷ [])))) (one-eq f))
     (split (eqb k 0))
 
-module _ (width : ℕ) (t u : States) (rows : List ℕ) (a b : ℕ) where
+module _ (keeps : Bool) (width : ℕ) (t u : States) (rows : List ℕ) (a b : ℕ) where
   -- what two branches say of the local i
   abbrev pub joinAt : ℕ → Status
-  joinAt i = joinState (stateAt t rows a width i) (stateAt u rows b width i)
+  joinAt i = joinState keeps (stateAt t rows a width i) (stateAt u rows b width i)
 
   -- the first i locals are joined, the rest is as it was
   pub record Joining (i : ℕ) (s : States) (new : List ℕ) : Type 0 where
@@ -93,11 +93,11 @@ module _ (width : ℕ) (t u : States) (rows : List ℕ) (a b : ℕ) where
     pub calm : (k : ℕ) → k < i → over width (joinAt k) ≡ false
     pub rest : (k : ℕ) → i ≤ k → entryAt s k ≡ entryAt t k
 
-module _ (n width : ℕ) (t u : States) (rows : List ℕ) (a b : ℕ) (br : Branches n width t u rows a b) where
+module _ (keeps : Bool) (n width : ℕ) (t u : States) (rows : List ℕ) (a b : ℕ) (br : Branches n width t u rows a b) where
   abbrev at′ : ℕ → Status
-  at′ = joinAt width t u rows a b
+  at′ = joinAt keeps width t u rows a b
 
-  pub joining-none : Joining width t u rows a b 0 t rows
+  pub joining-none : Joining keeps width t u rows a b 0 t rows
   joining-none = record {
     held = br .held;
     else = else-none a (rowOf a width 0) rows;
@@ -107,7 +107,7 @@ module _ (n width : ℕ) (t u : States) (rows : List ℕ) (a b : ℕ) (br : Bran
     rest = λ k l. refl;
   }
 
-  module _ (i : ℕ) (s : States) (new : List ℕ) (h : Joining width t u rows a b i s new) where
+  module _ (i : ℕ) (s : States) (new : List ℕ) (h : Joining keeps width t u rows a b i s new) where
     same-a : (j : ℕ) → i ≤ j → (k : ℕ) → rowOf a width j ≤ k → k ≤ rowOf a width j + width → getD new k 0 ≡ getD rows k 0
     same-a j l k lo hi = h .else .same k (inr (omega (arith, row-mono a width i j l)))
 
@@ -128,8 +128,8 @@ module _ (n width : ℕ) (t u : States) (rows : List ℕ) (a b : ℕ) (br : Bran
       pub known-b : Known new width (rowOf b width i) (getD (u .kinds) i 0)
       known-b = known-same rows new width (rowOf b width i) (h .else .room) same-b (getD (u .kinds) i 0) (br .otherRowed .known i)
 
-      join-same : joinOf (entryAt s i) (entryAt u i) new (rowOf a width i) (rowOf b width i) ≡ at′ i
-      join-same = ap₂ joinState said-a (said-same rows new width (rowOf b width i) (h .else .room) same-b (entryAt u i) (br .otherRowed .known i))
+      join-same : joinOf keeps (entryAt s i) (entryAt u i) new (rowOf a width i) (rowOf b width i) ≡ at′ i
+      join-same = ap₂ (joinState keeps) said-a (said-same rows new width (rowOf b width i) (h .else .room) same-b (entryAt u i) (br .otherRowed .known i))
 
       alike-said : Alike (entryAt s i) (entryAt u i) → (saidAt new (rowOf a width i) (entryAt s i) ≡ at′ i) × (over width (at′ i) ≡ false)
       alike-said k =
@@ -138,7 +138,7 @@ module _ (n width : ℕ) (t u : States) (rows : List ℕ) (a b : ℕ) (br : Bran
           let x = said-one new (rowOf a width i) (getD (s .kinds) i 0) (getD (s .firsts) i 0) small in
           let y = said-one new (rowOf b width i) (getD (u .kinds) i 0) (getD (u .firsts) i 0) small′
           ∙ ap (λ (z : ℕ). said z (getD (u .firsts) i 0 ∷ [])) (k .kind) in
-          let j : at′ i ≡ said (getD (s .kinds) i 0) (getD (s .firsts) i 0 ∷ []) = sym join-same ∙ ap₂ joinState x y ∙ said-twice (getD (s .kinds) i 0) (getD (s .firsts) i 0) (getD (u .firsts) i 0) small (k .first) in
+          let j : at′ i ≡ said (getD (s .kinds) i 0) (getD (s .firsts) i 0 ∷ []) = sym join-same ∙ ap₂ (joinState keeps) x y ∙ said-twice keeps (getD (s .kinds) i 0) (getD (s .firsts) i 0) (getD (u .firsts) i 0) small (k .first) in
           (x ∙ sym j, ap (over width) j ∙ few width (getD (s .kinds) i 0) (getD (s .firsts) i 0) (br .one))
 
       else-more : (new′ : List ℕ) → Else (rowOf a width i) (rowOf a width i + (width + 1)) new new′ → Else a (rowOf a width (i + 1)) rows new′
@@ -150,8 +150,8 @@ module _ (n width : ℕ) (t u : States) (rows : List ℕ) (a b : ℕ) (br : Bran
             o;
       }
 
-      pub joining-skip : (s′ : States) (new′ : List ℕ) → s′ ≡ s → new′ ≡ new → Alike (entryAt s i) (entryAt u i) → Joining width t u rows a b (i + 1) s′ new′
-      joining-skip s′ new′ es er k = subst (λ (x : States). Joining width t u rows a b (i + 1) x new′) (sym es) (subst (λ (x : List ℕ). Joining width t u rows a b (i + 1) s x) (sym er) (record {
+      pub joining-skip : (s′ : States) (new′ : List ℕ) → s′ ≡ s → new′ ≡ new → Alike (entryAt s i) (entryAt u i) → Joining keeps width t u rows a b (i + 1) s′ new′
+      joining-skip s′ new′ es er k = subst (λ (x : States). Joining keeps width t u rows a b (i + 1) x new′) (sym es) (subst (λ (x : List ℕ). Joining keeps width t u rows a b (i + 1) s x) (sym er) (record {
         held = h .held;
         else = else-more new (else-none _ _ new);
         done = λ j lj. ⊎-elim (λ (q : j < i). h .done j q) (λ (q : i ≤ j). let z : j ≡ i = omega arith in rw z (alike-said k .0)) (less j i);
@@ -160,12 +160,12 @@ module _ (n width : ℕ) (t u : States) (rows : List ℕ) (a b : ℕ) (br : Bran
         rest = λ j lj. h .rest j (omega arith);
       }))
 
-      module _ (z : Entry) (new′ : List ℕ) (e : JoinsAt width (entryAt s i) (entryAt u i) new (rowOf a width i) (rowOf b width i) z new′) where
+      module _ (z : Entry) (new′ : List ℕ) (e : JoinsAt keeps width (entryAt s i) (entryAt u i) new (rowOf a width i) (rowOf b width i) z new′) where
         same-older : (j : ℕ) → j < i → (k : ℕ) → rowOf a width j ≤ k → k ≤ rowOf a width j + width → getD new′ k 0 ≡ getD new k 0
         same-older j lj k lo hi = e .rest .same k (inl (omega (arith, row-before a width j i lj)))
 
         pub joining-put : (w : ℕ) (o : Bool) (s′ : States) (new″ : List ℕ) → z .kind < 15 → s′ ≡ stored s i (z .kind) (z .first) w → new″ ≡ new′ → o ≡ eqb (z .kind) 0
-            → w ≡ wordOf 64 (λ j. cond (eqb j i) o (aliveAt s j)) → Joining width t u rows a b (i + 1) s′ new″
+            → w ≡ wordOf 64 (λ j. cond (eqb j i) o (aliveAt s j)) → Joining keeps width t u rows a b (i + 1) s′ new″
         joining-put w o s′ new″ lz es er eo is =
             let l64 : i < 64 = omega (arith, br .small) in
             let r = stored s i (z .kind) (z .first) w in
@@ -173,7 +173,7 @@ module _ (n width : ℕ) (t u : States) (rows : List ℕ) (a b : ℕ) (br : Bran
             let there : (j : ℕ) → j < i → entryAt r j ≡ entryAt s j = λ j lj. let ne : j ≢ i = λ q. omega arith in stored-other s i (z .kind) (z .first) w (h .held) l64 j ne in
             let said-here : saidAt new′ (rowOf a width i) (entryAt r i) ≡ at′ i = ap (saidAt new′ (rowOf a width i)) here ∙ e .is lz .0 ∙ join-same in
             let known-here : Known new′ width (rowOf a width i) (getD (r .kinds) i 0) = subst (λ (x : Entry). Known new′ width (rowOf a width i) (x .kind)) (sym here) (e .is lz .1) in
-            subst (λ (x : States). Joining width t u rows a b (i + 1) x new″) (sym es) (subst (λ (x : List ℕ). Joining width t u rows a b (i + 1) r x) (sym er) (record {
+            subst (λ (x : States). Joining keeps width t u rows a b (i + 1) x new″) (sym es) (subst (λ (x : List ℕ). Joining keeps width t u rows a b (i + 1) r x) (sym er) (record {
               held = stored-held s i (z .kind) (z .first) w (h .held) l64 o eo is;
               else = else-more new′ (e .rest);
               done = λ j lj. ⊎-elim
@@ -194,7 +194,7 @@ module _ (n width : ℕ) (t u : States) (rows : List ℕ) (a b : ℕ) (br : Bran
             }))
 
         -- no more is looked at
-        pub joining-stop : (told : ℕ) → told ≡ z .kind → 15 ≤ z .kind → JoinsAll n width t u rows a b s new′ told
+        pub joining-stop : (told : ℕ) → told ≡ z .kind → 15 ≤ z .kind → JoinsAll keeps n width t u rows a b s new′ told
         joining-stop told et big = record {
           rest = record {
             room = e .rest .room ∙ h .else .room;
@@ -207,13 +207,13 @@ module _ (n width : ℕ) (t u : States) (rows : List ℕ) (a b : ℕ) (br : Bran
           rowed = λ q. absurd (omega arith);
           is = λ q. absurd (omega arith);
           calm = λ q. absurd (omega arith);
-          crowd = λ q L eL m em. ap (crowded L) (joined (m .count) (staticAt m) (staticAt m) (stateAt t rows a width) (stateAt u rows b width))
+          crowd = λ q L eL m em. ap (crowded L) (joined keeps (m .count) (staticAt m) (staticAt m) (stateAt t rows a width) (stateAt u rows b width))
               ∙ crowd-any L (m .count) (staticAt m) at′ i (omega arith) (ap (λ (x : ℕ). over x (at′ i)) eL ∙ ap (over width) (sym join-same) ∙ e .crowd (sym et ∙ q));
           short = λ q. let sh : length new < rowOf a width i + (width + 1) = e .short (sym et ∙ q) in omega (arith, h .else .room, row-before a width i n l);
           three = ⊎-elim (λ (q : z .kind < 15). absurd (omega arith)) (λ q. inr (⊎-elim (λ (x : z .kind ≡ 255). inl (et ∙ x)) (λ (x : z .kind ≡ 254). inr (et ∙ x)) q)) (e .three);
         }
 
-    pub joining-all : i ≡ n → JoinsAll n width t u rows a b s new 0
+    pub joining-all : i ≡ n → JoinsAll keeps n width t u rows a b s new 0
     joining-all end = record {
       rest = subst (λ (x : ℕ). Else a (rowOf a width x) rows new) end (h .else);
       held = λ q. h .held;
@@ -222,8 +222,8 @@ module _ (n width : ℕ) (t u : States) (rows : List ℕ) (a b : ℕ) (br : Bran
         free = λ j l. ap (λ (x : Entry). x .kind) (h .rest j (omega arith)) ∙ br .rowed .free j l;
       };
       is = λ q m em. agree (m .count) (staticAt m) (staticAt m) (stateAt s new a width) at′ (λ k l. refl) (λ k l. h .done k (omega arith))
-          ∙ sym (joined (m .count) (staticAt m) (staticAt m) (stateAt t rows a width) (stateAt u rows b width));
-      calm = λ q L eL m em. ap (crowded L) (joined (m .count) (staticAt m) (staticAt m) (stateAt t rows a width) (stateAt u rows b width))
+          ∙ sym (joined keeps (m .count) (staticAt m) (staticAt m) (stateAt t rows a width) (stateAt u rows b width));
+      calm = λ q L eL m em. ap (crowded L) (joined keeps (m .count) (staticAt m) (staticAt m) (stateAt t rows a width) (stateAt u rows b width))
           ∙ calm-all L (m .count) (staticAt m) at′ (λ k l. ap (λ (x : ℕ). over x (at′ k)) eL ∙ h .calm k (omega arith));
       crowd = λ q. absurd (omega arith);
       short = λ q. absurd (omega arith);

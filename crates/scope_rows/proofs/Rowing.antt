@@ -181,16 +181,16 @@ one-take list n e h = rw e (first list h)
     first [] q = absurd (omega arith)
     first (x ∷ xs) q = refl
 
-pub joins-from : (x y : Entry) (rows : List ℕ) (row more : ℕ) (a b : State) (r : NextState) → stateOf a ≡ saidAt rows row x → stateOf b ≡ saidAt rows more y
-    → Joins r (joinState (stateOf a) (stateOf b)) → Joins r (joinOf x y rows row more)
-joins-from x y rows row more a b r ea eb h =
-    subst (λ (s : Status). Joins r (joinState s (saidAt rows more y))) ea (subst (λ (s : Status). Joins r (joinState (stateOf a) s)) eb h)
+pub joins-from : (k : Bool) (x y : Entry) (rows : List ℕ) (row more : ℕ) (a b : State) (r : NextState) → stateOf a ≡ saidAt rows row x → stateOf b ≡ saidAt rows more y
+    → Joins r (joinState k (stateOf a) (stateOf b)) → Joins r (joinOf k x y rows row more)
+joins-from k x y rows row more a b r ea eb h =
+    subst (λ (s : Status). Joins r (joinState k s (saidAt rows more y))) ea (subst (λ (s : Status). Joins r (joinState k (stateOf a) s)) eb h)
 
-module _ (width : ℕ) (x y : Entry) (rows : List ℕ) (row more : ℕ) (r : NextState) (j : Joins r (joinOf x y rows row more)) (le : width ≤ 8) where
+module _ (keeps : Bool) (width : ℕ) (x y : Entry) (rows : List ℕ) (row more : ℕ) (r : NextState) (j : Joins r (joinOf keeps x y rows row more)) (le : width ≤ 8) where
   abbrev J : Status
-  J = joinOf x y rows row more
+  J = joinOf keeps x y rows row more
 
-  crowds : over width J ≡ true → JoinsAt width x y rows row more (record { kind = 255; first = 0 }) rows
+  crowds : over width J ≡ true → JoinsAt keeps width x y rows row more (record { kind = 255; first = 0 }) rows
   crowds e = record {
     rest = else-none _ _ rows;
     is = λ l. absurd (omega arith);
@@ -199,7 +199,7 @@ module _ (width : ℕ) (x y : Entry) (rows : List ℕ) (row more : ℕ) (r : Nex
     three = inr (inl refl);
   }
 
-  pub joins-crowd : r .ok ≡ false → JoinsAt width x y rows row more (record { kind = 255; first = 0 }) rows
+  pub joins-crowd : r .ok ≡ false → JoinsAt keeps width x y rows row more (record { kind = 255; first = 0 }) rows
   joins-crowd off =
       let more8 : ltb 8 (length (placesOf J)) ≡ true = not-not (ltb 8 (length (placesOf J))) ∙ ap not (sym (j .ok) ∙ off) in
       crowds (lt-ltb width (length (placesOf J)) (omega (arith, ltb-true 8 (length (placesOf J)) more8)))
@@ -219,7 +219,7 @@ module _ (width : ℕ) (x y : Entry) (rows : List ℕ) (row more : ℕ) (r : Nex
     count-of : length (placesOf J) ≡ r .state .places .count
     count-of = ap (λ (a : Status). length (placesOf a)) (sym (j .is on .0)) ∙ places-of (eqb (r .state .kind) 0) refl
 
-    pub joins-over : width < r .state .places .count → JoinsAt width x y rows row more (record { kind = 255; first = 0 }) rows
+    pub joins-over : width < r .state .places .count → JoinsAt keeps width x y rows row more (record { kind = 255; first = 0 }) rows
     joins-over l = crowds (lt-ltb width (length (placesOf J)) (omega (arith, count-of)))
 
     module _ (fits : r .state .places .count ≤ width) where
@@ -237,7 +237,7 @@ module _ (width : ℕ) (x y : Entry) (rows : List ℕ) (row more : ℕ) (r : Nex
           counts : (n : ℕ) → n < 2 → (n ≡ 0 → ⊥) → n ≡ 1
           counts n a b = omega arith
 
-      pub joins-one : r .state .places .count < 2 → JoinsAt width x y rows row more (record { kind = r .state .kind; first = getD (r .state .places .list) 0 0 }) rows
+      pub joins-one : r .state .places .count < 2 → JoinsAt keeps width x y rows row more (record { kind = r .state .kind; first = getD (r .state .places .list) 0 0 }) rows
       joins-one l = record {
         rest = else-none _ _ rows;
         is = λ q. (
@@ -250,7 +250,7 @@ module _ (width : ℕ) (x y : Entry) (rows : List ℕ) (row more : ℕ) (r : Nex
         three = inl (omega (arith, made .known));
       }
 
-      pub joins-short : length rows ≤ row + width → JoinsAt width x y rows row more (record { kind = 254; first = 0 }) rows
+      pub joins-short : length rows ≤ row + width → JoinsAt keeps width x y rows row more (record { kind = 254; first = 0 }) rows
       joins-short l = record {
         rest = else-none _ _ rows;
         is = λ q. absurd (omega arith);
@@ -260,7 +260,7 @@ module _ (width : ℕ) (x y : Entry) (rows : List ℕ) (row more : ℕ) (r : Nex
       }
 
       pub joins-many : (f : ℕ) (new : List ℕ) → 2 ≤ r .state .places .count → row + width < length rows → Wrote rows row (listed (r .state .places)) new
-          → JoinsAt width x y rows row more (record { kind = r .state .kind + 8; first = f }) new
+          → JoinsAt keeps width x y rows row more (record { kind = r .state .kind + 8; first = f }) new
       joins-many f new l room w =
           let gone : r .state .places .count ≡ 0 → ⊥ = λ z. omega arith in
           let pos : r .state .kind ≡ 0 → ⊥ = eqb-false (r .state .kind) 0 (made .given ∙ ne-eqb (r .state .places .count) 0 gone) in

@@ -8,7 +8,7 @@ use lib.Dec.{ltb}
 use lib.ListN.{length, getD}
 use Rattle.tables.specs.Limits.{Limits}
 use Rattle.rules.specs.State.{State as Status, joinState}
-use Rattle.rules.specs.Rules.{states, joins}
+use Rattle.rules.specs.Rules.{joining, joins}
 use Rattle.rules.specs.Walk.{placesOf, crowded}
 use Rattle.scope_stack.specs.declared.Locals.{Locals}
 use Rattle.scope_stack.specs.declared.States.{States}
@@ -30,9 +30,9 @@ pub record Wrote (old : List ℕ) (row : ℕ) (ps : List ℕ) (new : List ℕ) :
   pub is : rowAt new row ≡ ps
   pub count : getD new row 0 ≡ length ps
 
--- what two branches say of a local
-abbrev pub joinOf : Entry → Entry → List ℕ → ℕ → ℕ → Status
-joinOf x y rows row more = joinState (saidAt rows row x) (saidAt rows more y)
+-- what two branches say of a local; k: two conditional states of one family stay so (02, e, switch 3)
+abbrev pub joinOf : Bool → Entry → Entry → List ℕ → ℕ → ℕ → Status
+joinOf k x y rows row more = joinState k (saidAt rows row x) (saidAt rows more y)
 
 -- more places than a row has room for
 abbrev pub over : ℕ → Status → Bool
@@ -49,10 +49,10 @@ pub record Alike (x y : Entry) : Type 0 where
   pub first : (x .kind ≡ 0) ⊎ (y .first ≡ x .first)
 
 -- the joined state, with its row at the first's; 255: it has too many places; 254: the rows end before its row does
-pub record JoinsAt (width : ℕ) (x y : Entry) (rows : List ℕ) (row more : ℕ) (r : Entry) (new : List ℕ) : Type 0 where
+pub record JoinsAt (k : Bool) (width : ℕ) (x y : Entry) (rows : List ℕ) (row more : ℕ) (r : Entry) (new : List ℕ) : Type 0 where
   pub rest : Else row (row + (width + 1)) rows new
-  pub is : r .kind < 15 → (saidAt new row r ≡ joinOf x y rows row more) × Known new width row (r .kind) × (over width (joinOf x y rows row more) ≡ false)
-  pub crowd : r .kind ≡ 255 → over width (joinOf x y rows row more) ≡ true
+  pub is : r .kind < 15 → (saidAt new row r ≡ joinOf k x y rows row more) × Known new width row (r .kind) × (over width (joinOf k x y rows row more) ≡ false)
+  pub crowd : r .kind ≡ 255 → over width (joinOf k x y rows row more) ≡ true
   pub short : r .kind ≡ 254 → length rows < row + (width + 1)
   pub three : (r .kind < 15) ⊎ ((r .kind ≡ 255) ⊎ (r .kind ≡ 254))
 
@@ -69,13 +69,13 @@ pub record Branches (n width : ℕ) (t u : States) (rows : List ℕ) (a b : ℕ)
   pub fits : (rowOf a width n < 2 ^ 64) × (rowOf b width n < 2 ^ 64)
 
 -- told 0: the states after both branches, with their rows at a; 255: a state has too many places; 254: the rows end too early
-pub record JoinsAll (n width : ℕ) (t u : States) (rows : List ℕ) (a b : ℕ) (r : States) (new : List ℕ) (told : ℕ) : Type 0 where
+pub record JoinsAll (k : Bool) (n width : ℕ) (t u : States) (rows : List ℕ) (a b : ℕ) (r : States) (new : List ℕ) (told : ℕ) : Type 0 where
   pub rest : Else a (rowOf a width n) rows new
   pub held : told ≡ 0 → Held r
   pub rowed : told ≡ 0 → Rowed n r new a width
-  pub is : told ≡ 0 → (l : Locals) → l .count ≡ n → view l r new a width ≡ joins states (view l t rows a width) (view l u rows b width)
-  pub calm : told ≡ 0 → (L : Limits) → L .places ≡ width → (l : Locals) → l .count ≡ n → crowded L (joins states (view l t rows a width) (view l u rows b width)) ≡ false
-  pub crowd : told ≡ 255 → (L : Limits) → L .places ≡ width → (l : Locals) → l .count ≡ n → crowded L (joins states (view l t rows a width) (view l u rows b width)) ≡ true
+  pub is : told ≡ 0 → (l : Locals) → l .count ≡ n → view l r new a width ≡ joins (joining k) (view l t rows a width) (view l u rows b width)
+  pub calm : told ≡ 0 → (L : Limits) → L .places ≡ width → (l : Locals) → l .count ≡ n → crowded L (joins (joining k) (view l t rows a width) (view l u rows b width)) ≡ false
+  pub crowd : told ≡ 255 → (L : Limits) → L .places ≡ width → (l : Locals) → l .count ≡ n → crowded L (joins (joining k) (view l t rows a width) (view l u rows b width)) ≡ true
   pub short : told ≡ 254 → length rows < rowOf a width n
   pub three : (told ≡ 0) ⊎ ((told ≡ 255) ⊎ (told ≡ 254))
 

@@ -83,13 +83,21 @@ fn differ(x: Entry, y: Entry) -> bool
 }
 
 // What two branches say of one local, with their rows; a joined row goes to the first's.
-fn join_at(x: Entry, y: Entry, rows: &mut [u32], row: usize, more: usize, width: usize) -> Entry
+fn join_at(
+    x: Entry,
+    y: Entry,
+    rows: &mut [u32],
+    row: usize,
+    more: usize,
+    width: usize,
+    keeps: bool,
+) -> Entry
     requires { ⌜ Known (now rows) width row (x .kind) × Known (now rows) width more (y .kind) × (width ≤ 8) × (row + width < 2 ^ 64) ⌝ }
-    ensures { λ r. ⌜ JoinsAt width x y (now (rows .entry)) row more r (now (rows .exit)) ⌝ }
+    ensures { λ r. ⌜ JoinsAt «keeps» width x y (now (rows .entry)) row more r (now (rows .exit)) ⌝ }
 {
     let a = load(&*rows, x, row);
     let b = load(&*rows, y, more);
-    let r = a.join(b);
+    let r = a.join(b, keeps);
     if !r.ok {
         return Entry {
             kind: 255,
@@ -136,10 +144,11 @@ pub fn join(
     a: usize,
     b: usize,
     width: usize,
+    keeps: bool,
     told: &mut u8,
 ) -> States
     requires { ⌜ Branches n width then other (now rows) a b ⌝ }
-    ensures { λ r. ⌜ JoinsAll n width then other (now (rows .entry)) a b r (now (rows .exit)) (now (told .exit)) ⌝ }
+    ensures { λ r. ⌜ JoinsAll «keeps» n width then other (now (rows .entry)) a b r (now (rows .exit)) (now (told .exit)) ⌝ }
 {
     *told = 0;
     let mut i = 0;
@@ -152,7 +161,7 @@ pub fn join(
         let y = Entry { kind: l, first: g };
         if differ(x, y) {
             let row = i * (width + 1);
-            let z = join_at(x, y, rows, a + row, b + row, width);
+            let z = join_at(x, y, rows, a + row, b + row, width, keeps);
             if 15 <= z.kind {
                 *told = z.kind;
                 return then;

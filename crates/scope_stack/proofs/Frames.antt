@@ -9,7 +9,7 @@ use native.Mathlib.Omega.{arith}
 use lib.Dec.{eqb}
 use Rattle.rules.specs.State.{State as Status, alive, gone, moved, handState}
 use Rattle.rules.specs.Stack.{Static, local, Shape, shape, inFrame, mark, pop, Stack as Scope}
-use Rattle.rules.specs.Rules.{declared, states, register}
+use Rattle.rules.specs.Rules.{declared, states, register, off}
 use Rattle.rules.proofs.Bools.{eqb-self}
 use Rattle.rules.proofs.Shapes.{shape-frame}
 use Rattle.scope_state.specs.Kinds.{put}
@@ -52,5 +52,5 @@ pub nested-deeper : (d e : ℕ) (Γ : Shape) → d ≤ e → Nested d Γ → Nes
 nested-deeper d e [] l h = tt
 nested-deeper d e (s ∷ Γ) l h = (omega (arith, h .0), h .1)
 
-pub nested-register : (n t d p : ℕ) (σ : Scope Status) → Nested d (shape σ) → Nested d (shape (register states (declared d p n t) σ))
+pub nested-register : (n t d p : ℕ) (σ : Scope Status) → Nested d (shape σ) → Nested d (shape (register (states off) (declared d p n t) σ))
 nested-register n t d p σ h = (omega arith, subst (Nested d) (sym (shape-frame n d (λ (a : Status). alive) σ)) h)

@@ -14,7 +14,7 @@ use Rattle.image_fields.proofs.Tests.{less}
 use Rattle.tables.specs.Tables.{Tables}
 use Rattle.rules.specs.State.{State as Status, alive, isAlive}
 use Rattle.rules.specs.Stack.{Static, local, Stack as Scope}
-use Rattle.rules.specs.Rules.{declared, states, register}
+use Rattle.rules.specs.Rules.{declared, states, register, off}
 use Rattle.scope_state.proofs.Stacked.{stacked-more, framed}
 use Rattle.scope_stack.specs.declared.Locals.{Locals}
 use Rattle.scope_stack.specs.declared.States.{States}
@@ -40,7 +40,7 @@ same-states (suc n) f f′ g h e i l =
     (less i n)
 
 module _ (l r : Locals) (name ty depth born : ℕ) (dtor : Bool) (g : Grows l (declared depth born name ty) dtor r) (t u : States) (rows : List ℕ) (cur width : ℕ)
-    (is : view r u rows cur width ≡ register states (declared depth born name ty) (view l t rows cur width)) where
+    (is : view r u rows cur width ≡ register (states off) (declared depth born name ty) (view l t rows cur width)) where
   -- what the frame of the new local says of those before it
   abbrev framed-at : ℕ → Status
   framed-at i = cond (eqb (getD (l .names) i 0) name && eqb (getD (l .depths) i 0) depth) alive (stateAt t rows cur width i)

@@ -15,7 +15,7 @@ use Rattle.tables.specs.Tables.{Tables}
 use Rattle.rules.specs.Questions.{auto}
 use Rattle.rules.specs.State.{State as Status, deleted, moved, consumed, alive, handState}
 use Rattle.rules.specs.Stack.{Static, local, shape, mark, pop, Stack as Scope}
-use Rattle.rules.specs.Rules.{declared, states, register}
+use Rattle.rules.specs.Rules.{declared, states, register, off}
 use Rattle.rules.proofs.Bools.{eqb-self}
 use Rattle.scope_state.specs.Kinds.{said, put}
 use Rattle.scope_stack.specs.declared.Locals.{Locals}
@@ -49,13 +49,13 @@ pub nested-view : (d : ℕ) (l : Locals) (t u : States) (rows new : List ℕ) (c
 nested-view d l t u rows new cur at width = subst (Nested d) (shape-same (l .count) (staticAt l) (stateAt t rows cur width) (stateAt u new at width))
 
 -- what the code's kinds mark
-pub killed-deleted : (n p : ℕ) (σ : Scope Status) → mark n (put false (said 1 (p ∷ []))) σ ≡ mark n (states .killed deleted p) σ
+pub killed-deleted : (n p : ℕ) (σ : Scope Status) → mark n (put false (said 1 (p ∷ []))) σ ≡ mark n (states off .killed deleted p) σ
 killed-deleted n p σ = refl
 
-pub killed-moved : (n p : ℕ) (σ : Scope Status) → mark n (put false (said 2 (p ∷ []))) σ ≡ mark n (states .killed moved p) σ
+pub killed-moved : (n p : ℕ) (σ : Scope Status) → mark n (put false (said 2 (p ∷ []))) σ ≡ mark n (states off .killed moved p) σ
 killed-moved n p σ = refl
 
-pub killed-consumed : (n p : ℕ) (σ : Scope Status) → mark n (put false (said 3 (p ∷ []))) σ ≡ mark n (states .killed consumed p) σ
+pub killed-consumed : (n p : ℕ) (σ : Scope Status) → mark n (put false (said 3 (p ∷ []))) σ ≡ mark n (states off .killed consumed p) σ
 killed-consumed n p σ = refl
 
 pub marked-alive : (n p : ℕ) (σ : Scope Status) → mark n (put false (said 0 (p ∷ []))) σ ≡ mark n (λ a. alive) σ
@@ -87,7 +87,7 @@ module _ {P : Tables → Type 0} where
 
 -- fault 12 is decided by the count, whatever is registered
 pub register-length : (l : Locals) (name ty depth born : ℕ) (t : States) (rows : List ℕ) (cur width : ℕ)
-    → length (register states (declared depth born name ty) (view l t rows cur width)) ≡ l .count + 1
+    → length (register (states off) (declared depth born name ty) (view l t rows cur width)) ≡ l .count + 1
 register-length l name ty depth born t rows cur width =
     let z : suc (l .count) ≡ l .count + 1 = omega arith in
     ap suc (ap length (framed name depth (λ (a : Status). alive) (staticAt l) (stateAt t rows cur width) (l .count)) ∙ length-stacked (staticAt l) _ (l .count)) ∙ z
@@ -111,7 +111,7 @@ module _ (l r : Locals) (name ty depth born : ℕ) (dtor : Bool) (g : Grows l (d
   pub sound-register : {P : Tables → Type 0} → Held t → ((T : Tables) → P T → Drops T l) → ((T : Tables) → P T → dtor ≡ auto T ty) → Sound P r t rows cur width
   sound-register held d asked = sound-of r t rows cur width (g .kept) held rowed-more (λ T p. g .drops T (asked T p) (d T p))
 
-  pub registers-marked : (p : ℕ) (u : States) → Marks r name (put false (said 0 (p ∷ []))) t u → view r u rows cur width ≡ register states (declared depth born name ty) (view l t rows cur width)
+  pub registers-marked : (p : ℕ) (u : States) → Marks r name (put false (said 0 (p ∷ []))) t u → view r u rows cur width ≡ register (states off) (declared depth born name ty) (view l t rows cur width)
   registers-marked p u m = m .is rows cur width rowed-more ∙ ap (mark name (λ (a : Status). alive)) new-view ∙ rw (eqb-self name)
 
   frame-alive : ((i : ℕ) → i < 64 → aliveAt t i ≡ false → Named (r .names) (r .depths) name depth i → ⊥) → l .count ≤ 64 → (i : ℕ) → i < l .count → (b : Bool)
@@ -127,7 +127,7 @@ module _ (l r : Locals) (name ty depth born : ℕ) (dtor : Bool) (g : Grows l (d
       (split (aliveAt t i))
 
   pub registers-fresh : ((i : ℕ) → i < 64 → aliveAt t i ≡ false → Named (r .names) (r .depths) name depth i → ⊥) → l .count ≤ 64
-      → view r t rows cur width ≡ register states (declared depth born name ty) (view l t rows cur width)
+      → view r t rows cur width ≡ register (states off) (declared depth born name ty) (view l t rows cur width)
   registers-fresh calm small =
       new-view ∙ ap (λ (σ : Scope Status). local here alive ∷ σ)
       (agree (l .count) (staticAt l) (staticAt l) (stateAt t rows cur width)

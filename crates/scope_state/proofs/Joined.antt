@@ -54,35 +54,35 @@ joins-fits r ps k f g l m = record {
 pos : (a : ℕ) → (a ≡ 0 → ⊥) → 0 < a
 pos a ne = omega arith
 
-module _ (s t : State) (m : Made (s .kind) (s .places)) (n : Made (t .kind) (t .places)) where
+module _ (w : Bool) (s t : State) (m : Made (s .kind) (s .places)) (n : Made (t .kind) (t .places)) where
   pub join-then-alive : (k : ℕ) → s .kind ≡ 0 → k ≡ conditional (t .kind)
-      → Joins (record { ok = true; state = record { kind = k; places = t .places } }) (joinState (stateOf s) (stateOf t))
+      → Joins (record { ok = true; state = record { kind = k; places = t .places } }) (joinState w (stateOf s) (stateOf t))
   join-then-alive k z e =
-      joins-ok (record { kind = k; places = t .places }) (joinState (stateOf s) (stateOf t))
+      joins-ok (record { kind = k; places = t .places }) (joinState w (stateOf s) (stateOf t))
       (ap (λ (x : ℕ). said x (listed (t .places))) e
-      ∙ sym (join-then (t .kind) (listed (t .places)) (n .known))
-      ∙ ap (λ (b : Bool). joinState (cond b alive (gone (ltb 3 (s .kind)) (kindOf (s .kind)) (listed (s .places)))) (stateOf t)) (sym (eq-eqb (s .kind) 0 z)))
+      ∙ sym (join-then w (t .kind) (listed (t .places)) (n .known))
+      ∙ ap (λ (b : Bool). joinState w (cond b alive (gone (ltb 3 (s .kind)) (kindOf (s .kind)) (listed (s .places)))) (stateOf t)) (sym (eq-eqb (s .kind) 0 z)))
       (rw e (record { known = conditional-known (t .kind) (n .known); roomy = n .roomy; given = conditional-given (t .kind) (n .known) ∙ n .given }))
 
   pub join-else-alive : (k : ℕ) → t .kind ≡ 0 → k ≡ conditional (s .kind)
-      → Joins (record { ok = true; state = record { kind = k; places = s .places } }) (joinState (stateOf s) (stateOf t))
+      → Joins (record { ok = true; state = record { kind = k; places = s .places } }) (joinState w (stateOf s) (stateOf t))
   join-else-alive k z e =
-      joins-ok (record { kind = k; places = s .places }) (joinState (stateOf s) (stateOf t))
+      joins-ok (record { kind = k; places = s .places }) (joinState w (stateOf s) (stateOf t))
       (ap (λ (x : ℕ). said x (listed (s .places))) e
-      ∙ sym (join-else (s .kind) (listed (s .places)) (m .known) ∙ join-then (s .kind) (listed (s .places)) (m .known))
-      ∙ ap (λ (b : Bool). joinState (stateOf s) (cond b alive (gone (ltb 3 (t .kind)) (kindOf (t .kind)) (listed (t .places))))) (sym (eq-eqb (t .kind) 0 z)))
+      ∙ sym (join-else w (s .kind) (listed (s .places)) (m .known) ∙ join-then w (s .kind) (listed (s .places)) (m .known))
+      ∙ ap (λ (b : Bool). joinState w (stateOf s) (cond b alive (gone (ltb 3 (t .kind)) (kindOf (t .kind)) (listed (t .places))))) (sym (eq-eqb (t .kind) 0 z)))
       (rw e (record { known = conditional-known (s .kind) (m .known); roomy = m .roomy; given = conditional-given (s .kind) (m .known) ∙ m .given }))
 
   module _ (a : s .kind ≡ 0 → ⊥) (b : t .kind ≡ 0 → ⊥) where
     both-given : (x : Bool) → (eqb (s .kind) (t .kind) && placesEq (listed (s .places)) (listed (t .places))) ≡ x
-        → joinState (stateOf s) (stateOf t) ≡ cond x (stateOf s) (said (family (s .kind) (t .kind)) (combine (listed (s .places)) (listed (t .places))))
+        → joinState w (stateOf s) (stateOf t) ≡ cond x (stateOf s) (said (family w (s .kind) (t .kind)) (combine (listed (s .places)) (listed (t .places))))
     both-given x e =
-        join-given (s .kind) (t .kind) (pos _ a) (m .known) (pos _ b) (n .known) (listed (s .places)) (listed (t .places))
-        ∙ ap (λ (y : Bool). cond y (stateOf s) (said (family (s .kind) (t .kind)) (combine (listed (s .places)) (listed (t .places))))) e
+        join-given w (s .kind) (t .kind) (pos _ a) (m .known) (pos _ b) (n .known) (listed (s .places)) (listed (t .places))
+        ∙ ap (λ (y : Bool). cond y (stateOf s) (said (family w (s .kind) (t .kind)) (combine (listed (s .places)) (listed (t .places))))) e
 
     pub join-same : (eqb (s .kind) (t .kind) && placesEq (listed (s .places)) (listed (t .places))) ≡ true
-        → Joins (record { ok = true; state = s }) (joinState (stateOf s) (stateOf t))
-    join-same e = joins-ok s (joinState (stateOf s) (stateOf t)) (sym (both-given true e)) m
+        → Joins (record { ok = true; state = s }) (joinState w (stateOf s) (stateOf t))
+    join-same e = joins-ok s (joinState w (stateOf s) (stateOf t)) (sym (both-given true e)) m
 
     places-some : 0 < length (combine (listed (s .places)) (listed (t .places)))
     places-some =
@@ -92,14 +92,14 @@ module _ (s t : State) (m : Made (s .kind) (s .places)) (n : Made (t .kind) (t .
         let g = combine-grows (listed (s .places)) (listed (t .places)) in
         omega (arith, e, l, g)
 
-    pub join-differ : (eqb (s .kind) (t .kind) && placesEq (listed (s .places)) (listed (t .places))) ≡ false → (k : ℕ) → k ≡ family (s .kind) (t .kind)
+    pub join-differ : (eqb (s .kind) (t .kind) && placesEq (listed (s .places)) (listed (t .places))) ≡ false → (k : ℕ) → k ≡ family w (s .kind) (t .kind)
         → (r : NextPlaces) → Fits r (combine (listed (s .places)) (listed (t .places)))
-        → Joins (record { ok = r .ok; state = record { kind = k; places = r .places } }) (joinState (stateOf s) (stateOf t))
+        → Joins (record { ok = r .ok; state = record { kind = k; places = r .places } }) (joinState w (stateOf s) (stateOf t))
     join-differ e k ek r f =
-        joins-eq (record { ok = r .ok; state = record { kind = k; places = r .places } }) (said (family (s .kind) (t .kind)) (combine (listed (s .places)) (listed (t .places))))
-        (joinState (stateOf s) (stateOf t))
+        joins-eq (record { ok = r .ok; state = record { kind = k; places = r .places } }) (said (family w (s .kind) (t .kind)) (combine (listed (s .places)) (listed (t .places))))
+        (joinState w (stateOf s) (stateOf t))
         (sym (both-given false e))
         (rw ek
-        (joins-fits r (combine (listed (s .places)) (listed (t .places))) (family (s .kind) (t .kind)) f
-        (family-given (s .kind) (t .kind) (pos _ a) (m .known) (pos _ b) (n .known))
-        (family-known (s .kind) (t .kind) (pos _ a) (m .known) (pos _ b) (n .known)) places-some))
+        (joins-fits r (combine (listed (s .places)) (listed (t .places))) (family w (s .kind) (t .kind)) f
+        (family-given w (s .kind) (t .kind) (pos _ a) (m .known) (pos _ b) (n .known))
+        (family-known w (s .kind) (t .kind) (pos _ a) (m .known) (pos _ b) (n .known)) places-some))

@@ -64,20 +64,27 @@ not-so false t = refl
 said-gone : (k : ℕ) → eqb k 0 ≡ false → (ps : List ℕ) → said k ps ≡ gone (ltb 3 k) (kindOf k) ps
 said-gone k e ps = ap (λ (b : Bool). cond b alive (gone (ltb 3 k) (kindOf k) ps)) e
 
-module _ (a b : ℕ) (pa : 0 < a) (la : a < 7) (pb : 0 < b) (lb : b < 7) where
-  family-kind : joinKind (kindOf a) (kindOf b) ≡ kindOf (family a b)
+-- a test of every two given-up states, for either answer
+given-for : (p : Bool → ℕ → ℕ → Bool) → So (given2 (p true)) → So (given2 (p false)) → (w : Bool) (a b : ℕ) → 0 < a → a < 7 → 0 < b → b < 7 → So (p w a b)
+given-for p t f true = given-at (p true) t
+given-for p t f false = given-at (p false) f
+
+module _ (w : Bool) (a b : ℕ) (pa : 0 < a) (la : a < 7) (pb : 0 < b) (lb : b < 7) where
+  family-kind : joinKind (kindOf a) (kindOf b) ≡ kindOf (family w a b)
   family-kind =
-      kind-eq (joinKind (kindOf a) (kindOf b)) (kindOf (family a b))
-      (given-at (λ x y. kindEq (joinKind (kindOf x) (kindOf y)) (kindOf (family x y))) tt a b pa la pb lb)
+      kind-eq (joinKind (kindOf a) (kindOf b)) (kindOf (family w a b))
+      (given-for (λ v x y. kindEq (joinKind (kindOf x) (kindOf y)) (kindOf (family v x y))) tt tt w a b pa la pb lb)
 
-  family-sure : ltb 3 (family a b) ≡ false
-  family-sure = not-so (ltb 3 (family a b)) (given-at (λ x y. not (ltb 3 (family x y))) tt a b pa la pb lb)
+  family-conditional : ltb 3 (family w a b) ≡ (w && ltb 3 a && ltb 3 b && kindEq (kindOf a) (kindOf b))
+  family-conditional =
+      bool-eq (ltb 3 (family w a b)) (w && ltb 3 a && ltb 3 b && kindEq (kindOf a) (kindOf b))
+      (given-for (λ v x y. Bool·beq (ltb 3 (family v x y)) (v && ltb 3 x && ltb 3 y && kindEq (kindOf x) (kindOf y))) tt tt w a b pa la pb lb)
 
-  pub family-given : eqb (family a b) 0 ≡ false
-  family-given = not-so (eqb (family a b) 0) (given-at (λ x y. not (eqb (family x y) 0)) tt a b pa la pb lb)
+  pub family-given : eqb (family w a b) 0 ≡ false
+  family-given = not-so (eqb (family w a b) 0) (given-for (λ v x y. not (eqb (family v x y) 0)) tt tt w a b pa la pb lb)
 
-  pub family-known : family a b < 7
-  family-known = let h = ltb-false 3 (family a b) family-sure in omega arith
+  pub family-known : family w a b < 7
+  family-known = ltb-true (family w a b) 7 (yes≡ (ltb (family w a b) 7) (given-for (λ v x y. ltb (family v x y) 7) tt tt w a b pa la pb lb))
 
   same-kind : (Bool·beq (ltb 3 a) (ltb 3 b) && kindEq (kindOf a) (kindOf b)) ≡ eqb a b
   same-kind =
@@ -86,39 +93,40 @@ module _ (a b : ℕ) (pa : 0 < a) (la : a < 7) (pb : 0 < b) (lb : b < 7) where
 
   -- merge_join_state of two given-up states
   pub join-given : (ps qs : List ℕ)
-      → joinState (said a ps) (said b qs) ≡ cond (eqb a b && placesEq ps qs) (said a ps) (said (family a b) (combine ps qs))
+      → joinState w (said a ps) (said b qs) ≡ cond (eqb a b && placesEq ps qs) (said a ps) (said (family w a b) (combine ps qs))
   join-given ps qs =
       let na : a ≡ 0 → ⊥ = λ e. omega arith in
       let nb : b ≡ 0 → ⊥ = λ e. omega arith in
       let ea = said-gone a (ne-eqb a 0 na) ps in
-      ap (λ (x : State). joinState x (said b qs)) ea
-      ∙ ap (λ (y : State). joinState (gone (ltb 3 a) (kindOf a) ps) y) (said-gone b (ne-eqb b 0 nb) qs)
-      ∙ ap (λ (t : Bool). cond (t && placesEq ps qs) (gone (ltb 3 a) (kindOf a) ps) (gone false (joinKind (kindOf a) (kindOf b)) (combine ps qs))) same-kind
-      ∙ ap (λ (x : State). cond (eqb a b && placesEq ps qs) x (gone false (joinKind (kindOf a) (kindOf b)) (combine ps qs))) (sym ea)
-      ∙ ap (λ (k : Kind). cond (eqb a b && placesEq ps qs) (said a ps) (gone false k (combine ps qs))) family-kind
-      ∙ ap (λ (c : Bool). cond (eqb a b && placesEq ps qs) (said a ps) (gone c (kindOf (family a b)) (combine ps qs))) (sym family-sure)
-      ∙ ap (λ (x : State). cond (eqb a b && placesEq ps qs) (said a ps) x) (sym (said-gone (family a b) family-given (combine ps qs)))
+      let c = w && ltb 3 a && ltb 3 b && kindEq (kindOf a) (kindOf b) in
+      ap (λ (x : State). joinState w x (said b qs)) ea
+      ∙ ap (λ (y : State). joinState w (gone (ltb 3 a) (kindOf a) ps) y) (said-gone b (ne-eqb b 0 nb) qs)
+      ∙ ap (λ (t : Bool). cond (t && placesEq ps qs) (gone (ltb 3 a) (kindOf a) ps) (gone c (joinKind (kindOf a) (kindOf b)) (combine ps qs))) same-kind
+      ∙ ap (λ (x : State). cond (eqb a b && placesEq ps qs) x (gone c (joinKind (kindOf a) (kindOf b)) (combine ps qs))) (sym ea)
+      ∙ ap (λ (k : Kind). cond (eqb a b && placesEq ps qs) (said a ps) (gone c k (combine ps qs))) family-kind
+      ∙ ap (λ (t : Bool). cond (eqb a b && placesEq ps qs) (said a ps) (gone t (kindOf (family w a b)) (combine ps qs))) (sym family-conditional)
+      ∙ ap (λ (x : State). cond (eqb a b && placesEq ps qs) (said a ps) x) (sym (said-gone (family w a b) family-given (combine ps qs)))
 
 -- a join with what is Alive
-pub join-then : (k : ℕ) (ps : List ℕ) → k < 7 → joinState alive (said k ps) ≡ said (conditional k) ps
-join-then zero ps h = refl
-join-then (suc zero) ps h = refl
-join-then (suc (suc zero)) ps h = refl
-join-then (suc (suc (suc zero))) ps h = refl
-join-then (suc (suc (suc (suc zero)))) ps h = refl
-join-then (suc (suc (suc (suc (suc zero))))) ps h = refl
-join-then (suc (suc (suc (suc (suc (suc zero)))))) ps h = refl
-join-then (suc (suc (suc (suc (suc (suc (suc k))))))) ps h = absurd (omega arith)
+pub join-then : (w : Bool) (k : ℕ) (ps : List ℕ) → k < 7 → joinState w alive (said k ps) ≡ said (conditional k) ps
+join-then w zero ps h = refl
+join-then w (suc zero) ps h = refl
+join-then w (suc (suc zero)) ps h = refl
+join-then w (suc (suc (suc zero))) ps h = refl
+join-then w (suc (suc (suc (suc zero)))) ps h = refl
+join-then w (suc (suc (suc (suc (suc zero))))) ps h = refl
+join-then w (suc (suc (suc (suc (suc (suc zero)))))) ps h = refl
+join-then w (suc (suc (suc (suc (suc (suc (suc k))))))) ps h = absurd (omega arith)
 
-pub join-else : (k : ℕ) (ps : List ℕ) → k < 7 → joinState (said k ps) alive ≡ joinState alive (said k ps)
-join-else zero ps h = refl
-join-else (suc zero) ps h = refl
-join-else (suc (suc zero)) ps h = refl
-join-else (suc (suc (suc zero))) ps h = refl
-join-else (suc (suc (suc (suc zero)))) ps h = refl
-join-else (suc (suc (suc (suc (suc zero))))) ps h = refl
-join-else (suc (suc (suc (suc (suc (suc zero)))))) ps h = refl
-join-else (suc (suc (suc (suc (suc (suc (suc k))))))) ps h = absurd (omega arith)
+pub join-else : (w : Bool) (k : ℕ) (ps : List ℕ) → k < 7 → joinState w (said k ps) alive ≡ joinState w alive (said k ps)
+join-else w zero ps h = refl
+join-else w (suc zero) ps h = refl
+join-else w (suc (suc zero)) ps h = refl
+join-else w (suc (suc (suc zero))) ps h = refl
+join-else w (suc (suc (suc (suc zero)))) ps h = refl
+join-else w (suc (suc (suc (suc (suc zero))))) ps h = refl
+join-else w (suc (suc (suc (suc (suc (suc zero)))))) ps h = refl
+join-else w (suc (suc (suc (suc (suc (suc (suc k))))))) ps h = absurd (omega arith)
 
 pub conditional-given : (k : ℕ) → k < 7 → eqb (conditional k) 0 ≡ eqb k 0
 conditional-given k h =

@@ -21,9 +21,9 @@ said k ps = cond (eqb k 0) alive (gone (ltb 3 k) (kindOf k) ps)
 abbrev pub conditional : ℕ → ℕ
 conditional k = cond (eqb k 0) 0 (cond (ltb 3 k) k (k + 3))
 
--- is_delete_family, is_move_family: of one family that family's, else Consumed
-abbrev pub family : ℕ → ℕ → ℕ
-family a b = cond (eqb (baseOf a) (baseOf b)) (baseOf a) 3
+-- is_delete_family, is_move_family: of one family that family's, else Consumed; if w, two potential ones of a family stay so (02, e, switch 3)
+abbrev pub family : Bool → ℕ → ℕ → ℕ
+family w a b = cond (eqb (baseOf a) (baseOf b)) (cond (w && (ltb 3 a && ltb 3 b)) a (baseOf a)) 3
 
 -- a new state, or where `only` a new one for what is Alive only
 abbrev pub put : Bool → State → State → State

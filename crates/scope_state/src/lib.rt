@@ -3,7 +3,7 @@ ghost use mathlib.Core.Path.{_≡_};
 ghost use mathlib.Core.Bool.{cond, _&&_};
 ghost use mathlib.Core.List.{[], _∷_, _++_};
 ghost use Prim.Native.Nat.{_≤_, _<_};
-ghost use lib.Dec.{eqb};
+ghost use lib.Dec.{eqb, ltb};
 ghost use Rattle.image_fields.specs.Table.{member};
 ghost use Rattle.rules.specs.State.{alive, placesEq, combine as combined, joinState};
 ghost use Rattle.scope_state.specs.Kinds.{said, baseOf, conditional as conditionalOf, family as familyOf};
@@ -198,15 +198,30 @@ fn conditional(kind: u8) -> u8
     kind + 3
 }
 
-// Of two states of one family that family's number, else that of Consumed.
-fn family(a: u8, b: u8) -> u8
-    ensures { λ r. ⌜ r ≡ familyOf a b ⌝ }
+// Whether two states under a condition stay so, if they are of one family.
+fn stays(a: u8, b: u8, keeps: bool) -> bool
+    ensures { λ r. ⌜ r ≡ («keeps» && (ltb 3 a && ltb 3 b)) ⌝ }
+{
+    if keeps {
+        if 3 < a {
+            return 3 < b;
+        }
+    }
+    false
+}
+
+// Of two states of one family that family's number, under a condition if both are and so asked; else that of Consumed.
+fn family(a: u8, b: u8, keeps: bool) -> u8
+    ensures { λ r. ⌜ r ≡ familyOf «keeps» a b ⌝ }
 {
     let x = base(a);
-    if x == base(b) {
-        return x;
+    if x != base(b) {
+        return 3;
     }
-    3
+    if stays(a, b, keeps) {
+        return a;
+    }
+    x
 }
 
 impl State {
@@ -242,10 +257,10 @@ impl State {
         p.same(q)
     }
 
-    // merge_join_state: the state after two branches, this one then's.
-    pub fn join(self, other: State) -> NextState
+    // merge_join_state: the state after two branches, this one then's; two conditional ones of a family keep it, if so asked.
+    pub fn join(self, other: State, keeps: bool) -> NextState
         requires { ⌜ Made (self .kind) (self .places) × Made (other .kind) (other .places) ⌝ }
-        ensures { λ r. ⌜ Joins r (joinState (stateOf self) (stateOf other)) ⌝ }
+        ensures { λ r. ⌜ Joins r (joinState «keeps» (stateOf self) (stateOf other)) ⌝ }
     {
         let a = self.kind;
         let b = other.kind;
@@ -274,7 +289,7 @@ impl State {
         let r = p.combine(q);
         let ps = r.places;
         let s = State {
-            kind: family(a, b),
+            kind: family(a, b, keeps),
             places: ps,
         };
         NextState { ok: r.ok, state: s }

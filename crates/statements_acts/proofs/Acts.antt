@@ -1,6 +1,6 @@
 -- What the code of each kind of statement does is what the rules say of whatever statement was read there.
 -- Assumes nothing.
-use mathlib.Core.Option.{Option}
+use mathlib.Core.Option.{Option, some}
 use mathlib.Core.Path.{_≡_, refl, sym, ap, _∙_, subst}
 use mathlib.Core.List.{List, [], _∷_, _++_, append-nil}
 use mathlib.Core.Bool.{Bool, true, false, cond, _&&_, _||_}
@@ -29,10 +29,10 @@ use Rattle.image_encoding.proofs.ExprWritten.{expr-written}
 use Rattle.rules.specs.Questions.{auto}
 use Rattle.rules.specs.Expr.{view as viewed, identIn, nameIn, isCall, tyOf, calleeAt}
 use Rattle.rules.specs.Expr as rules
-use Rattle.rules.specs.State.{State as Status}
-use Rattle.rules.specs.Stack.{Static, shape, Stack as Scope}
+use Rattle.rules.specs.State.{State as Status, isAlive}
+use Rattle.rules.specs.Stack.{Static, local, shape, lookup, Stack as Scope}
 use Rattle.rules.specs.Effects.{takeOver, assignTakes}
-use Rattle.rules.specs.Rules.{atJump, states, applyAll, gather, collect, dropNamed, assignDrops, returnDrops}
+use Rattle.rules.specs.Rules.{Drop, dropOf, Switches, off, atAssign, atBareReturn, atJump, inLoop, concerns, states, applyAll, gather, collect, dropNewest, dropNamed, assignDrops, returnDrops, bareReturnDrops, jumpDrops}
 use Rattle.rules.specs.Report.{Report, warning, errors, warnings, lefts, deleteNode, unused, leftBehind, leftAt}
 use Rattle.rules.specs.Verdict.{entriesOf}
 use Rattle.image_body.proofs.Walking.{within}
@@ -69,9 +69,9 @@ pub stored-from : {xs ys zs u : List ℕ} {i j : ℕ} → xs ≡ ys → Stored x
 stored-from {xs} {ys} {zs} {u} {i} {j} e s = subst (λ x. Stored x i u zs j) e s
 
 -- the locals that a return deletes, as the code asks
-sparing-is : (T : Tables) (σ : Scope Status) (which : Which) (n : rules.Named) → which ≡ sparing n → collect states T (admitted which) 0 σ ≡ returnDrops states T n σ
-sparing-is T σ which rules.nobody e = ap (λ w. collect states T (admitted w) 0 σ) e
-sparing-is T σ which (rules.called n p) e = ap (λ w. collect states T (admitted w) 0 σ) e
+sparing-is : (sw : Switches) (T : Tables) (σ : Scope Status) (which : Which) (n : rules.Named) → which ≡ sparing n → collect (states off) T (admitted which) 0 σ ≡ returnDrops (states sw) T (concerns sw) n σ
+sparing-is sw T σ which rules.nobody e = ap (λ x. collect (states off) T (admitted x) 0 σ) e
+sparing-is sw T σ which (rules.called n p) e = ap (λ x. collect (states off) T (admitted x) 0 σ) e
 
 -- what is stored stays small
 pub room-of : {s : List ℕ} {p : Place} → Within s p
@@ -111,14 +111,14 @@ long-of u v w n =
     let b = length-append v w in
     omega arith
 
-module _ (T : Tables) (σ : Scope Status) (p : Place) where
+module _ (sw : Switches) (T : Tables) (σ : Scope Status) (p : Place) where
   -- what was copied behind deletes, if nothing is reported
-  pub acts-of : (c : Tree) (put : Put) {to : ℕ} {s before′ out out′ warns left : List ℕ} (q : Place) (change : Change) (taken : Named) → Copied s p put to out q out′
-      → Stored before′ (p .written) (deleteBytes (frontDrops T c σ)) out (put .at) → put .count ≡ length (frontDrops T c σ)
-      → Front T s (p .at) to c → (loop : Option ℕ) → frontReports T c loop (p .at) σ ≡ []
+  pub acts-of : (c : Tree) (loop : Option ℕ) (put : Put) {to : ℕ} {s before′ out out′ warns left : List ℕ} (q : Place) (change : Change) (taken : Named) → Copied s p put to out q out′
+      → Stored before′ (p .written) (deleteBytes (frontDrops sw T c loop σ)) out (put .at) → put .count ≡ length (frontDrops sw T c loop σ)
+      → Front T s (p .at) to c → frontReports sw T c loop (p .at) σ ≡ []
       → ((d : ℕ) → takenIn taken (changeIn d change σ) ≡ settle T c d σ)
-      → Acts T c loop σ p before′ warns left (record { place = q; change = change; taken = taken }) out′ warns left
-  acts-of c put {to} {s} {before′} {out} {out′} {warns} {left} q change taken w st n f loop e settled =
+      → Acts sw T c loop σ p before′ warns left (record { place = q; change = change; taken = taken }) out′ warns left
+  acts-of c loop put {to} {s} {before′} {out} {out′} {warns} {left} q change taken w st n f e settled =
       let b = both-stored st (subst (λ v. Stored out (put .at) v out′ (q .written)) (written-slice (f .written)) (w .bytes)) in
       record {
         bytes = λ n. b;
@@ -152,13 +152,13 @@ module _ (s : List ℕ) (small : Bytes s) (p : Place) (to : ℕ) (g : FrontThere
         let e = none-put-is p ep in
         grows-of w (r .0) (r .1) (omega arith) (omega arith)
 
-    pub plain-acts : (T : Tables) (σ : Scope Status) (warns left : List ℕ) (loop : Option ℕ) → ActsThere T s loop σ p out warns left (record { place = q; change = Nothing; taken = Nobody }) out′ warns left
-    plain-acts T σ warns left loop = record {
+    pub plain-acts : (sw : Switches) (T : Tables) (σ : Scope Status) (warns left : List ℕ) (loop : Option ℕ) → ActsThere sw T s loop σ p out warns left (record { place = q; change = Nothing; taken = Nobody }) out′ warns left
+    plain-acts sw T σ warns left loop = record {
       acts = λ f t x next r deep read.
           let v = front-plain T s small (p .at) to g f t x next read u r in
-          acts-of T σ p (before x r) (noPut p) q Nothing Nobody (subst (λ z. Copied s p z to out q out′) ep w)
-          (subst (λ d. Stored out (p .written) (deleteBytes d) out (p .written)) (sym (v .1 .drops σ)) (none-stored out (p .written)))
-          (sym (ap length (v .1 .drops σ))) (v .0) loop (v .1 .reports loop (p .at) σ) (λ d. sym (v .1 .settles d σ));
+          acts-of sw T σ p (before x r) loop (noPut p) q Nothing Nobody (subst (λ z. Copied s p z to out q out′) ep w)
+          (subst (λ d. Stored out (p .written) (deleteBytes d) out (p .written)) (sym (v .1 .drops sw loop σ)) (none-stored out (p .written)))
+          (sym (ap length (v .1 .drops sw loop σ))) (v .0) (v .1 .reports sw loop (p .at) σ) (λ d. sym (v .1 .settles d σ));
     }
 
 -- a Let or Const
@@ -177,36 +177,52 @@ module _ (s : List ℕ) (small : Bytes s) (p : Place) (to : ℕ) (g : FrontThere
       let e = none-put-is p ep in
       grows-of w (omega arith) (r .1) (omega arith) (omega arith)
 
-  pub variable-acts : (put : Put) → put ≡ noPut p → {out out′ : List ℕ} (q : Place) → Copied s p put to out q out′ → (T : Tables) (σ : Scope Status) (n ty born : ℕ) (taken : Named)
+  pub variable-acts : (put : Put) → put ≡ noPut p → {out out′ : List ℕ} (q : Place) → Copied s p put to out q out′ → (sw : Switches) (T : Tables) (σ : Scope Status) (n ty born : ℕ) (taken : Named)
       → n ≡ two s (p .at + 5) → ty ≡ two s (p .at + 7) → born ≡ four s (p .at + 1)
-      → ((e : Expr) (next : ℕ) → Stands e s (p .at + 9) next → (τ : Scope Status) → takenIn taken τ ≡ applyAll states (takeOver T (shape σ) n ty e) τ)
-      → (warns left : List ℕ) (loop : Option ℕ) → ActsThere T s loop σ p out warns left (record { place = q; change = Register n ty born; taken = taken }) out′ warns left
-  variable-acts put ep {out} {out′} q w T σ n ty born taken en et eb tk warns left loop = record {
+      → ((e : Expr) (next : ℕ) → Stands e s (p .at + 9) next → (τ : Scope Status) → takenIn taken τ ≡ applyAll (states off) (takeOver T (shape σ) n ty e) τ)
+      → (warns left : List ℕ) (loop : Option ℕ) → ActsThere sw T s loop σ p out warns left (record { place = q; change = Register n ty born; taken = taken }) out′ warns left
+  variable-acts put ep {out} {out′} q w sw T σ n ty born taken en et eb tk warns left loop = record {
     acts = λ f t x next r deep read.
         let v = front-variable T s small (p .at) to g f t x next read low high r in
-        subst (λ c. Acts T c loop σ p out warns left (record { place = q; change = Register n ty born; taken = taken }) out′ warns left) (sym (v .is))
-        (acts-of T σ p _ (noPut p) q (Register n ty born) taken (subst (λ z. Copied s p z to out q out′) ep w) (none-stored out (p .written)) refl (v .front) loop refl
+        subst (λ c. Acts sw T c loop σ p out warns left (record { place = q; change = Register n ty born; taken = taken }) out′ warns left) (sym (v .is))
+        (acts-of sw T σ p _ loop (noPut p) q (Register n ty born) taken (subst (λ z. Copied s p z to out q out′) ep w) (none-stored out (p .written)) refl (v .front) refl
         (λ d. settled d (v .e) (tk (v .e) (v .q) (v .stands))));
   }
     where
-      settled : (d : ℕ) (e : Expr) → ((τ : Scope Status) → takenIn taken τ ≡ applyAll states (takeOver T (shape σ) n ty e) τ)
+      settled : (d : ℕ) (e : Expr) → ((τ : Scope Status) → takenIn taken τ ≡ applyAll (states off) (takeOver T (shape σ) n ty e) τ)
           → takenIn taken (changeIn d (Register n ty born) σ)
-          ≡ applyAll states (takeOver T (shape σ) (two s (p .at + 5)) (two s (p .at + 7)) e) (changeIn d (Register (two s (p .at + 5)) (two s (p .at + 7)) (four s (p .at + 1))) σ)
-      settled d e h = h (changeIn d (Register n ty born) σ) ∙ ap (λ m. applyAll states (takeOver T (shape σ) m ty e) (changeIn d (Register m ty born) σ)) en
-          ∙ ap (λ m. applyAll states (takeOver T (shape σ) (two s (p .at + 5)) m e) (changeIn d (Register (two s (p .at + 5)) m born) σ)) et
-          ∙ ap (λ m. applyAll states (takeOver T (shape σ) (two s (p .at + 5)) (two s (p .at + 7)) e) (changeIn d (Register (two s (p .at + 5)) (two s (p .at + 7)) m) σ)) eb
+          ≡ applyAll (states off) (takeOver T (shape σ) (two s (p .at + 5)) (two s (p .at + 7)) e) (changeIn d (Register (two s (p .at + 5)) (two s (p .at + 7)) (four s (p .at + 1))) σ)
+      settled d e h = h (changeIn d (Register n ty born) σ) ∙ ap (λ m. applyAll (states off) (takeOver T (shape σ) m ty e) (changeIn d (Register m ty born) σ)) en
+          ∙ ap (λ m. applyAll (states off) (takeOver T (shape σ) (two s (p .at + 5)) m e) (changeIn d (Register (two s (p .at + 5)) m born) σ)) et
+          ∙ ap (λ m. applyAll (states off) (takeOver T (shape σ) (two s (p .at + 5)) (two s (p .at + 7)) e) (changeIn d (Register (two s (p .at + 5)) (two s (p .at + 7)) m) σ)) eb
 
--- the delete before an assignment
-module _ (T : Tables) (σ : Scope Status) (span : ℕ) (e : Expr) where
-  pub drop-none : identIn (viewed e) ≡ rules.nobody → assignDrops states T span e σ ≡ []
-  drop-none z = ap (λ n. dropNamed states T span n σ) z
+-- the delete before an assignment: its place concerns the newest local of the name
+module _ (sw : Switches) (T : Tables) (span : ℕ) where
+  named-same : (m k : ℕ) (σ : Scope Status) → dropNamed (states sw) T (λ l. concerns sw (atAssign (rules.called m k)) l) span (rules.called m k) σ ≡ dropNamed (states off) T (λ l. true) span (rules.called m k) σ
+  named-same m k [] = refl
+  named-same m k (local l a ∷ σ) = go (eqb (l .name) m) refl (named-same m k σ)
+    where
+      go : (b : Bool) → eqb (l .name) m ≡ b
+          → dropNamed (states sw) T (λ x. concerns sw (atAssign (rules.called m k)) x) span (rules.called m k) σ ≡ dropNamed (states off) T (λ x. true) span (rules.called m k) σ
+          → dropNewest (states sw) T (λ x. concerns sw (atAssign (rules.called m k)) x) span m (cond b (some (local l a)) (lookup m σ))
+          ≡ dropNewest (states off) T (λ x. true) span m (cond b (some (local l a)) (lookup m σ))
+      go true e h = ap (λ (c : Bool). cond (c && isAlive a && auto T (l .ty)) (dropOf span m (l .ty) ∷ []) []) e
+      go false e h = h
+
+  drops-same : (n : rules.Named) (σ : Scope Status) → dropNamed (states sw) T (λ l. concerns sw (atAssign n) l) span n σ ≡ dropNamed (states off) T (λ l. true) span n σ
+  drops-same rules.nobody σ = refl
+  drops-same (rules.called m k) σ = named-same m k σ
+
+module _ (sw : Switches) (T : Tables) (σ : Scope Status) (span : ℕ) (e : Expr) where
+  pub drop-none : identIn (viewed e) ≡ rules.nobody → assignDrops (states sw) T (concerns sw) span e σ ≡ []
+  drop-none z = drops-same sw T span (identIn (viewed e)) σ ∙ ap (λ n. dropNamed (states off) T (λ l. true) span n σ) z
 
   pub drop-ident : {m n k : ℕ} → identIn (viewed e) ≡ rules.called m k → n ≡ m → {old new : List ℕ} {at next count : ℕ}
-      → Stored old at (deleteBytes (dropNamed states T span (rules.called n 0) σ)) new next × (count ≡ length (dropNamed states T span (rules.called n 0) σ))
-      → Stored old at (deleteBytes (assignDrops states T span e σ)) new next × (count ≡ length (assignDrops states T span e σ))
+      → Stored old at (deleteBytes (dropNamed (states off) T (λ l. true) span (rules.called n 0) σ)) new next × (count ≡ length (dropNamed (states off) T (λ l. true) span (rules.called n 0) σ))
+      → Stored old at (deleteBytes (assignDrops (states sw) T (concerns sw) span e σ)) new next × (count ≡ length (assignDrops (states sw) T (concerns sw) span e σ))
   drop-ident {m} {n} {k} z en {old} {new} {at} {next} {count} =
       subst (λ d. Stored old at (deleteBytes d) new next × (count ≡ length d))
-      (ap (λ x. dropNamed states T span (rules.called x k) σ) en ∙ sym (ap (λ x. dropNamed states T span x σ) z))
+      (ap (λ x. dropNamed (states off) T (λ l. true) span (rules.called x k) σ) en ∙ sym (drops-same sw T span (identIn (viewed e)) σ ∙ ap (λ x. dropNamed (states off) T (λ l. true) span x σ) z))
 
 -- an Assign
 module _ (s : List ℕ) (small : Bytes s) (p : Place) (end : ℕ) (g : FrontThere s (p .at) end) (k : getD s (p .at) 0 ≡ 6) where
@@ -224,20 +240,20 @@ module _ (s : List ℕ) (small : Bytes s) (p : Place) (end : ℕ) (g : FrontTher
       let a = r .0 in
       grows-of w (omega arith) (r .1) (omega arith) (omega arith)
 
-  pub assign-acts : {before′ out out′ : List ℕ} (put : Put) (q : Place) (change : Change) (taken : Named) → Copied s p put (end + 2) out q out′ → (T : Tables) (σ : Scope Status)
+  pub assign-acts : {before′ out out′ : List ℕ} (put : Put) (q : Place) (change : Change) (taken : Named) → Copied s p put (end + 2) out q out′ → (sw : Switches) (T : Tables) (σ : Scope Status)
       → (span : ℕ) → span ≡ four s (p .at + 1) → ((e : Expr) (next : ℕ) → Stands e s (p .at + 5) next
-      → Stored before′ (p .written) (deleteBytes (assignDrops states T span e σ)) out (put .at) × (put .count ≡ length (assignDrops states T span e σ)))
+      → Stored before′ (p .written) (deleteBytes (assignDrops (states sw) T (concerns sw) span e σ)) out (put .at) × (put .count ≡ length (assignDrops (states sw) T (concerns sw) span e σ)))
       → ((e : Expr) (next : ℕ) → Stands e s (p .at + 5) next → change ≡ reviveOf (nameIn (viewed e)))
-      → ((e v : Expr) (i j : ℕ) → Stands e s (p .at + 5) i → Stands v s i j → (τ : Scope Status) → takenIn taken τ ≡ applyAll states (assignTakes T (shape σ) e v) τ)
-      → (warns left : List ℕ) (loop : Option ℕ) → ActsThere T s loop σ p before′ warns left (record { place = q; change = change; taken = taken }) out′ warns left
-  assign-acts {before′} {out} {out′} put q change taken w T σ span es dr rv tk warns left loop = record {
+      → ((e v : Expr) (i j : ℕ) → Stands e s (p .at + 5) i → Stands v s i j → (τ : Scope Status) → takenIn taken τ ≡ applyAll (states off) (assignTakes T (shape σ) e v) τ)
+      → (warns left : List ℕ) (loop : Option ℕ) → ActsThere sw T s loop σ p before′ warns left (record { place = q; change = change; taken = taken }) out′ warns left
+  assign-acts {before′} {out} {out′} put q change taken w sw T σ span es dr rv tk warns left loop = record {
     acts = λ f t x next r deep read.
         let v = front-assign T s small (p .at) end g f t x next read k r in
-        let d = subst (λ m. Stored before′ (p .written) (deleteBytes (assignDrops states T m (v .e) σ)) out (put .at) × (put .count ≡ length (assignDrops states T m (v .e) σ))) es (dr (v .e) (v .p) (v .stands)) in
-        subst (λ c. Acts T c loop σ p before′ warns left (record { place = q; change = change; taken = taken }) out′ warns left) (sym (v .is))
-        (acts-of T σ p _ put q change taken w (d .0) (d .1) (v .front) loop refl
+        let d = subst (λ m. Stored before′ (p .written) (deleteBytes (assignDrops (states sw) T (concerns sw) m (v .e) σ)) out (put .at) × (put .count ≡ length (assignDrops (states sw) T (concerns sw) m (v .e) σ))) es (dr (v .e) (v .p) (v .stands)) in
+        subst (λ c. Acts sw T c loop σ p before′ warns left (record { place = q; change = change; taken = taken }) out′ warns left) (sym (v .is))
+        (acts-of sw T σ p _ loop put q change taken w (d .0) (d .1) (v .front) refl
         (λ i. tk (v .e) (v .v) (v .p) end (v .stands) (v .other) (changeIn i change σ)
-        ∙ ap (λ τ. applyAll states (assignTakes T (shape σ) (v .e) (v .v)) τ)
+        ∙ ap (λ τ. applyAll (states off) (assignTakes T (shape σ) (v .e) (v .v)) τ)
         (ap (λ z. changeIn i z σ) (rv (v .e) (v .p) (v .stands)) ∙ revive-is i (nameIn (viewed (v .e))) σ)));
   }
 
@@ -256,22 +272,22 @@ module _ (s : List ℕ) (small : Bytes s) (p : Place) (end : ℕ) (g : FrontTher
       let a = r .0 in
       grows-of w (omega arith) (r .1) (omega arith) (omega arith)
 
-  pub return-acts : {before′ out out′ : List ℕ} (put : Put) (q : Place) → Copied s p put (end + 2) out q out′ → (T : Tables) (σ : Scope Status) (which : Which)
+  pub return-acts : {before′ out out′ : List ℕ} (put : Put) (q : Place) → Copied s p put (end + 2) out q out′ → (sw : Switches) (T : Tables) (σ : Scope Status) (which : Which)
       → ((e : Expr) (next : ℕ) → Stands e s (p .at + 6) next → which ≡ sparing (nameIn (viewed e)))
-      → Stored before′ (p .written) (deleteBytes (collect states T (admitted which) 0 σ)) out (put .at) × (put .count ≡ length (collect states T (admitted which) 0 σ))
-      → (warns left : List ℕ) (loop : Option ℕ) → ActsThere T s loop σ p before′ warns left (record { place = q; change = Nothing; taken = Nobody }) out′ warns left
-  return-acts {before′} {out} {out′} put q w T σ which ew dr warns left loop = record {
+      → Stored before′ (p .written) (deleteBytes (collect (states off) T (admitted which) 0 σ)) out (put .at) × (put .count ≡ length (collect (states off) T (admitted which) 0 σ))
+      → (warns left : List ℕ) (loop : Option ℕ) → ActsThere sw T s loop σ p before′ warns left (record { place = q; change = Nothing; taken = Nobody }) out′ warns left
+  return-acts {before′} {out} {out′} put q w sw T σ which ew dr warns left loop = record {
     acts = λ f t x next r deep read.
         let v = front-return T s small (p .at) end g f t x next read k o r in
-        let d = sparing-is T σ which (nameIn (viewed (v .e))) (ew (v .e) end (v .stands)) in
-        subst (λ c. Acts T c loop σ p before′ warns left (record { place = q; change = Nothing; taken = Nobody }) out′ warns left) (sym (v .is))
-        (acts-of T σ p _ put q Nothing Nobody w (subst (λ x. Stored before′ (p .written) (deleteBytes x) out (put .at)) d (dr .0)) (dr .1 ∙ ap length d) (v .front) loop refl (λ i. refl));
+        let d = sparing-is sw T σ which (nameIn (viewed (v .e))) (ew (v .e) end (v .stands)) in
+        subst (λ c. Acts sw T c loop σ p before′ warns left (record { place = q; change = Nothing; taken = Nobody }) out′ warns left) (sym (v .is))
+        (acts-of sw T σ p _ loop put q Nothing Nobody w (subst (λ x. Stored before′ (p .written) (deleteBytes x) out (put .at)) d (dr .0)) (dr .1 ∙ ap length d) (v .front) refl (λ i. refl));
   }
 
 -- a statement of so many bytes that puts nothing in, changes nothing and leaves locals behind
-pub record Lists (T : Tables) (c : Tree) (loop : Option ℕ) (at : ℕ) (σ : Scope Status) (rs : List Report) : Type 0 where
-  pub drops : frontDrops T c σ ≡ []
-  pub reports : frontReports T c loop at σ ≡ rs
+pub record Lists (sw : Switches) (T : Tables) (c : Tree) (loop : Option ℕ) (at : ℕ) (σ : Scope Status) (rs : List Report) : Type 0 where
+  pub drops : frontDrops sw T c loop σ ≡ []
+  pub reports : frontReports sw T c loop at σ ≡ rs
   pub settles : (d : ℕ) → settle T c d σ ≡ σ
 
 module _ (s : List ℕ) (small : Bytes s) (p : Place) (size : ℕ) (few : 5 ≤ size) (reach : p .at + size ≤ length s) where
@@ -291,16 +307,16 @@ module _ (s : List ℕ) (small : Bytes s) (p : Place) (size : ℕ) (few : 5 ≤ 
         let z = c .lefts in
         record { on = omega arith; inside = subst (λ m. m ≤ length s) (sym a) reach; written = omega arith; errors = omega arith; warnings = omega arith; lefts = omega arith; inserted = omega arith }
 
-    pub lists-acts : (T : Tables) (σ : Scope Status) (c : Tree) (loop : Option ℕ) (q′ : Static → Bool) (τ : Scope Status) → Front T s (p .at) (p .at + size) c
-        → Lists T c loop (p .at) σ (gather states T q′ (leftAt (four s (p .at + 1))) τ) → (span : ℕ) → span ≡ four s (p .at + 1) → {left left′ : List ℕ} → {out₀ : List ℕ} → Listed (p .paged) (gather states T q′ (leftAt span) τ) left out₀ (p .lefts) left′ out n
-        → (warns : List ℕ) → Acts T c loop σ p out₀ warns left (record { place = q; change = Nothing; taken = Nobody }) out′ warns left′
-    lists-acts T σ c loop q′ τ front is span es {left} {left′} {out₀} st warns =
+    pub lists-acts : (sw : Switches) (T : Tables) (σ : Scope Status) (c : Tree) (loop : Option ℕ) (q′ : Static → Bool) (τ : Scope Status) → Front T s (p .at) (p .at + size) c
+        → Lists sw T c loop (p .at) σ (gather (states off) T q′ (leftAt (four s (p .at + 1))) τ) → (span : ℕ) → span ≡ four s (p .at + 1) → {left left′ : List ℕ} → {out₀ : List ℕ} → Listed (p .paged) (gather (states off) T q′ (leftAt span) τ) left out₀ (p .lefts) left′ out n
+        → (warns : List ℕ) → Acts sw T c loop σ p out₀ warns left (record { place = q; change = Nothing; taken = Nobody }) out′ warns left′
+    lists-acts sw T σ c loop q′ τ front is span es {left} {left′} {out₀} st warns =
         let k = copied in
         let b = subst (λ x. Stored out (p .written) x out′ (q .written)) (written-slice (front .written)) (k .bytes) in
-        let none : frontBytes T c σ ≡ ownBytes T c = ap (λ x. deleteBytes x ++ ownBytes T c) (is .drops) in
+        let none : frontBytes sw T c loop σ ≡ ownBytes T c = ap (λ x. deleteBytes x ++ ownBytes T c) (is .drops) in
         let here = four s (p .at + 1) in
         let only = only-left T q′ here τ in
-        let l : Listed (p .paged) (gather states T q′ (leftAt here) τ) left out₀ (p .lefts) left′ out n = subst (λ m. Listed (p .paged) (gather states T q′ (leftAt m) τ) left out₀ (p .lefts) left′ out n) es st in
+        let l : Listed (p .paged) (gather (states off) T q′ (leftAt here) τ) left out₀ (p .lefts) left′ out n = subst (λ m. Listed (p .paged) (gather (states off) T q′ (leftAt m) τ) left out₀ (p .lefts) left′ out n) es st in
         record {
           bytes = λ e. subst (λ x. Stored out₀ (p .written) x out′ (q .written)) (sym none) (stored-from (l .numbers e .0) b);
           warned = λ e. subst (λ z. Stored warns (p .warnings) (entriesOf version1 z) warns (q .warnings)) (sym (ap warnings (is .reports) ∙ only .1)) (none-at warns (k .warnings));
@@ -310,8 +326,8 @@ module _ (s : List ℕ) (small : Bytes s) (p : Place) (size : ℕ) (few : 5 ≤ 
               let x = l .lines e in
               let y : out′ ≡ out = past b (let z = stored-length x in omega arith) .0 in
               subst (λ z. Lined (cursorsAt p) z out₀ (cursorsAt q) out′) (sym (is .reports))
-              (subst (λ z. Lined (cursorsAt p) (gather states T q′ (leftAt here) τ) out₀ z out′) (rw (k .errors, k .warnings, k .lefts))
-              (subst (λ z. Lined (cursorsAt p) (gather states T q′ (leftAt here) τ) out₀ (cursors (p .errors) (p .warnings) n) z) (sym y)
+              (subst (λ z. Lined (cursorsAt p) (gather (states off) T q′ (leftAt here) τ) out₀ z out′) (rw (k .errors, k .warnings, k .lefts))
+              (subst (λ z. Lined (cursorsAt p) (gather (states off) T q′ (leftAt here) τ) out₀ (cursors (p .errors) (p .warnings) n) z) (sym y)
               (lined-lefts (p .errors) (p .warnings) (p .lefts) (only .0) (only .1) (only .2) x)));
           long = b .place ∙ ap (λ x. p .written + length x) (sym none);
           paged = k .paged;
@@ -322,6 +338,35 @@ module _ (s : List ℕ) (small : Bytes s) (p : Place) (size : ℕ) (few : 5 ≤ 
           at = k .at ∙ front .size;
           settles = λ d. sym (is .settles d);
         }
+
+-- a statement of so many bytes that leaves locals behind, and before which these are deleted
+pub record Clears (sw : Switches) (T : Tables) (c : Tree) (loop : Option ℕ) (at : ℕ) (σ : Scope Status) (ds : List Drop) : Type 0 where
+  pub drops : frontDrops sw T c loop σ ≡ ds
+  pub reports : frontReports sw T c loop at σ ≡ []
+  pub settles : (d : ℕ) → settle T c d σ ≡ σ
+
+module _ (s : List ℕ) (small : Bytes s) (p : Place) (size : ℕ) (few : 5 ≤ size) (reach : p .at + size ≤ length s) {out out′ : List ℕ} (put : Put) (q : Place) (w : Copied s p put (p .at + size) out q out′) where
+  pub clears-grows : put .at ≤ p .written + 1344 → put .count ≤ 64 → Grows s p q
+  clears-grows l n = grows-of w (omega arith) reach (omega arith) (omega arith)
+
+  pub clears-acts : {before′ : List ℕ} (sw : Switches) (T : Tables) (σ : Scope Status) (c : Tree) (loop : Option ℕ) (ds : List Drop) → Front T s (p .at) (p .at + size) c → Clears sw T c loop (p .at) σ ds
+      → Stored before′ (p .written) (deleteBytes ds) out (put .at) × (put .count ≡ length ds)
+      → (warns left : List ℕ) → Acts sw T c loop σ p before′ warns left (record { place = q; change = Nothing; taken = Nobody }) out′ warns left
+  clears-acts {before′} sw T σ c loop ds front is dr warns left =
+      acts-of sw T σ p c loop put q Nothing Nobody w (subst (λ x. Stored before′ (p .written) (deleteBytes x) out (put .at)) (sym (is .drops)) (dr .0)) (dr .1 ∙ ap length (sym (is .drops))) front (is .reports)
+      (λ d. sym (is .settles d))
+
+-- with its switch off a bare return deletes nothing
+none-admitted : (T : Tables) (σ : Scope Status) → collect (states off) T (λ l. false) 0 σ ≡ []
+none-admitted T [] = refl
+none-admitted T (local l a ∷ σ) = none-admitted T σ
+
+bare-none : (sw : Switches) (T : Tables) → sw .bareReturns ≡ false → (σ : Scope Status) → bareReturnDrops (states sw) T (concerns sw) σ ≡ []
+bare-none sw T e σ = ap (λ (b : Bool). collect (states off) T (λ l. b) 0 σ) e ∙ none-admitted T σ
+
+-- nor does a Break or Continue
+jump-none : (sw : Switches) (T : Tables) → sw .jumps ≡ false → (loop : Option ℕ) (σ : Scope Status) → jumpDrops (states sw) T (concerns sw) loop σ ≡ []
+jump-none sw T e loop σ = ap (λ (b : Bool). collect (states off) T (λ l. b && inLoop loop l) 0 σ) e ∙ none-admitted T σ
 
 -- a Return without a value
 module _ (s : List ℕ) (small : Bytes s) (p : Place) {end : ℕ} (g : FrontThere s (p .at) end) (k : getD s (p .at) 0 ≡ 2) (o : getD s (p .at + 5) 0 ≡ 0) where
@@ -334,16 +379,27 @@ module _ (s : List ℕ) (small : Bytes s) (p : Place) {end : ℕ} (g : FrontTher
     pub bare-grows : n ≤ p .lefts + 4672 → Grows s p q
     bare-grows = lists-grows s small p 8 (omega arith) bare-reach n p′ e′ put ep q w
 
-    pub bare-acts : (T : Tables) (σ : Scope Status) (span : ℕ) → span ≡ four s (p .at + 1) → {left left′ : List ℕ}
-        → {out₀ : List ℕ} → Listed (p .paged) (gather states T (admitted All) (leftAt span) σ) left out₀ (p .lefts) left′ out n
-        → (warns : List ℕ) (loop : Option ℕ) → ActsThere T s loop σ p out₀ warns left (record { place = q; change = Nothing; taken = Nobody }) out′ warns left′
-    bare-acts T σ span es {left} {left′} {out₀} st warns loop = record {
+    pub bare-acts : (sw : Switches) → sw .bareReturns ≡ false → (T : Tables) (σ : Scope Status) (span : ℕ) → span ≡ four s (p .at + 1) → {left left′ : List ℕ}
+        → {out₀ : List ℕ} → Listed (p .paged) (gather (states off) T (admitted All) (leftAt span) σ) left out₀ (p .lefts) left′ out n
+        → (warns : List ℕ) (loop : Option ℕ) → ActsThere sw T s loop σ p out₀ warns left (record { place = q; change = Nothing; taken = Nobody }) out′ warns left′
+    bare-acts sw off′ T σ span es {left} {left′} {out₀} st warns loop = record {
       acts = λ f t x next r deep read.
           let v = front-bare T s small (p .at) f t x next read k o r in
-          subst (λ c. Acts T c loop σ p out₀ warns left (record { place = q; change = Nothing; taken = Nobody }) out′ warns left′) (sym (v .0))
-          (lists-acts s small p 8 (omega arith) bare-reach n p′ e′ put ep q w T σ _ loop (admitted All) σ (v .1)
-          (record { drops = refl; reports = refl; settles = λ d. refl }) span es st warns);
+          subst (λ c. Acts sw T c loop σ p out₀ warns left (record { place = q; change = Nothing; taken = Nobody }) out′ warns left′) (sym (v .0))
+          (lists-acts s small p 8 (omega arith) bare-reach n p′ e′ put ep q w sw T σ _ loop (admitted All) σ (v .1)
+          (record { drops = bare-none sw T off′ σ; reports = ap (λ (b : Bool). leftBehind T b (four s (p .at + 1)) atBareReturn σ) off′; settles = λ d. refl }) span es st warns);
     }
+
+  pub bare-cleared : {before′ out out′ : List ℕ} (put : Put) (q : Place) → Copied s p put (p .at + 8) out q out′ → (sw : Switches) → sw .bareReturns ≡ true → (T : Tables) (σ : Scope Status)
+      → Stored before′ (p .written) (deleteBytes (collect (states off) T (admitted All) 0 σ)) out (put .at) × (put .count ≡ length (collect (states off) T (admitted All) 0 σ))
+      → (warns left : List ℕ) (loop : Option ℕ) → ActsThere sw T s loop σ p before′ warns left (record { place = q; change = Nothing; taken = Nobody }) out′ warns left
+  bare-cleared {before′} {out} {out′} put q w sw on′ T σ dr warns left loop = record {
+    acts = λ f t x next r deep read.
+        let v = front-bare T s small (p .at) f t x next read k o r in
+        subst (λ c. Acts sw T c loop σ p before′ warns left (record { place = q; change = Nothing; taken = Nobody }) out′ warns left) (sym (v .0))
+        (clears-acts s small p 8 (omega arith) bare-reach put q w sw T σ _ loop (collect (states off) T (admitted All) 0 σ) (v .1)
+        (record { drops = ap (λ (b : Bool). collect (states off) T (λ l. b) 0 σ) on′; reports = ap (λ (b : Bool). leftBehind T b (four s (p .at + 1)) atBareReturn σ) on′; settles = λ d. refl }) dr warns left);
+  }
 
 -- a Break or Continue
 module _ (s : List ℕ) (small : Bytes s) (p : Place) {end : ℕ} (g : FrontThere s (p .at) end) (k : 8 < getD s (p .at) 0) where
@@ -356,16 +412,28 @@ module _ (s : List ℕ) (small : Bytes s) (p : Place) {end : ℕ} (g : FrontTher
     pub jump-grows : n ≤ p .lefts + 4672 → Grows s p q
     jump-grows = lists-grows s small p 5 (omega arith) jump-reach n p′ e′ put ep q w
 
-    pub jump-acts : (T : Tables) (σ : Scope Status) (loop : Option ℕ) (τ : Scope Status) → ((m : ℕ) → gather states T (admitted All) (leftAt m) τ ≡ leftBehind T m (atJump loop) σ) → (span : ℕ) → span ≡ four s (p .at + 1) → {left left′ : List ℕ}
-        → {out₀ : List ℕ} → Listed (p .paged) (gather states T (admitted All) (leftAt span) τ) left out₀ (p .lefts) left′ out n
-        → (warns : List ℕ) → ActsThere T s loop σ p out₀ warns left (record { place = q; change = Nothing; taken = Nobody }) out′ warns left′
-    jump-acts T σ loop τ ed span es {left} {left′} {out₀} st warns = record {
+    pub jump-acts : (sw : Switches) → sw .jumps ≡ false → (T : Tables) (σ : Scope Status) (loop : Option ℕ) (τ : Scope Status) → ((m : ℕ) → gather (states off) T (admitted All) (leftAt m) τ ≡ leftBehind T false m (atJump loop) σ) → (span : ℕ) → span ≡ four s (p .at + 1) → {left left′ : List ℕ}
+        → {out₀ : List ℕ} → Listed (p .paged) (gather (states off) T (admitted All) (leftAt span) τ) left out₀ (p .lefts) left′ out n
+        → (warns : List ℕ) → ActsThere sw T s loop σ p out₀ warns left (record { place = q; change = Nothing; taken = Nobody }) out′ warns left′
+    jump-acts sw off′ T σ loop τ ed span es {left} {left′} {out₀} st warns = record {
       acts = λ f t x next r deep read.
           let v = front-jump T s small (p .at) f t x next read k r in
-          subst (λ c. Acts T c loop σ p out₀ warns left (record { place = q; change = Nothing; taken = Nobody }) out′ warns left′) (sym (v .1))
-          (lists-acts s small p 5 (omega arith) jump-reach n p′ e′ put ep q w T σ _ loop (admitted All) τ (v .2)
-          (record { drops = refl; reports = sym (ed (four s (p .at + 1))); settles = λ d. refl }) span es st warns);
+          subst (λ c. Acts sw T c loop σ p out₀ warns left (record { place = q; change = Nothing; taken = Nobody }) out′ warns left′) (sym (v .1))
+          (lists-acts s small p 5 (omega arith) jump-reach n p′ e′ put ep q w sw T σ _ loop (admitted All) τ (v .2)
+          (record { drops = jump-none sw T off′ loop σ; reports = ap (λ (b : Bool). leftBehind T b (four s (p .at + 1)) (atJump loop) σ) off′ ∙ sym (ed (four s (p .at + 1))); settles = λ d. refl }) span es st warns);
     }
+
+  pub jump-cleared : {before′ out out′ : List ℕ} (put : Put) (q : Place) → Copied s p put (p .at + 5) out q out′ → (sw : Switches) → sw .jumps ≡ true → (T : Tables) (σ : Scope Status) (loop : Option ℕ) (τ : Scope Status)
+      → collect (states off) T (admitted All) 0 τ ≡ collect (states off) T (λ l. inLoop loop l) 0 σ
+      → Stored before′ (p .written) (deleteBytes (collect (states off) T (admitted All) 0 τ)) out (put .at) × (put .count ≡ length (collect (states off) T (admitted All) 0 τ))
+      → (warns left : List ℕ) → ActsThere sw T s loop σ p before′ warns left (record { place = q; change = Nothing; taken = Nobody }) out′ warns left
+  jump-cleared {before′} {out} {out′} put q w sw on′ T σ loop τ ed dr warns left = record {
+    acts = λ f t x next r deep read.
+        let v = front-jump T s small (p .at) f t x next read k r in
+        subst (λ c. Acts sw T c loop σ p before′ warns left (record { place = q; change = Nothing; taken = Nobody }) out′ warns left) (sym (v .1))
+        (clears-acts s small p 5 (omega arith) jump-reach put q w sw T σ _ loop (collect (states off) T (admitted All) 0 τ) (v .2)
+        (record { drops = ap (λ (b : Bool). collect (states off) T (λ l. b && inLoop loop l) 0 σ) on′ ∙ sym ed; reports = ap (λ (b : Bool). leftBehind T b (four s (p .at + 1)) (atJump loop) σ) on′; settles = λ d. refl }) dr warns left);
+  }
 
 -- an expression statement
 delete-bytes : (p : ℕ) (e : Expr) → (10 ∷ (fourBytes p ++ twoBytes 0)) ++ encodeExpr e ≡ encodeExpr (deleteNode p e)
@@ -462,12 +530,12 @@ module _ (s : List ℕ) (small : Bytes s) (p : Place) (end : ℕ) (g : FrontTher
         let u = mid .few in
         record { on = omega arith; inside = b; written = omega arith; errors = omega arith; warnings = omega arith; lefts = omega arith; inserted = omega arith }
 
-    pub expr-acts : (change : Change) (T : Tables) (σ : Scope Status)
+    pub expr-acts : (change : Change) (sw : Switches) (T : Tables) (σ : Scope Status)
         → ((e : Expr) (next : ℕ) → Stands e s (p .at + 5) next → callee ≡ cond (auto T (tyOf e) && isCall (viewed e)) (calleeAt e (p .at + 5)) 0)
         → ((e : Expr) (next : ℕ) → Stands e s (p .at + 5) next → change ≡ deleteOf (deletedName (viewed e)))
-        → (left : List ℕ) (loop : Option ℕ) → ActsThere T s loop σ p out warns left (record { place = place; change = change; taken = Nobody }) out′ warns′ left
+        → (left : List ℕ) (loop : Option ℕ) → ActsThere sw T s loop σ p out warns left (record { place = place; change = change; taken = Nobody }) out′ warns′ left
     unfolding headBytes valueFlag valueCount
-    expr-acts change T σ ec ed left loop = record {
+    expr-acts change sw T σ ec ed left loop = record {
       acts = λ f t x next rest deep read.
           let v = stmt-expr f t s (p .at) x next read k in
           let l : p .at + 5 ≤ length s = v .1 in
@@ -485,7 +553,7 @@ module _ (s : List ℕ) (small : Bytes s) (p : Place) (end : ℕ) (g : FrontTher
           let whole : slice (p .at) (p .at + 5) s ++ (wrapping callee span ++ slice (p .at + 5) end s) ≡ (3 ∷ fourBytes span) ++ encodeExpr (cond wrap (deleteNode span (v .0)) (v .0)) =
           ap (λ y. y ++ (wrapping callee span ++ slice (p .at + 5) end s)) h ∙ ap (λ y. (3 ∷ fourBytes span) ++ (wrapping callee span ++ y)) m
           ∙ ap (λ y. (3 ∷ fourBytes span) ++ y) (own-bytes wrap callee (p .at + 5) span (v .0) c pos) in
-          subst (λ y. Acts T y loop σ p out warns left (record { place = place; change = change; taken = Nobody }) out′ warns′ left) (sym (v .3 rest)) (record {
+          subst (λ y. Acts sw T y loop σ p out warns left (record { place = place; change = change; taken = Nobody }) out′ warns′ left) (sym (v .3 rest)) (record {
             bytes = λ n. subst (λ y. Stored out (p .written) y out′ j) whole (both-stored head (both-stored (mid .bytes n) tail));
             warned = λ n. subst (λ y. Stored warns (p .warnings) (entriesOf version1 y) warns′ (r .warnings)) (told ∙ sym (own-warnings wrap span (v .0) (p .at))) (mid .warned n);
             listed = λ n. subst (λ y. Stored left (p .lefts) (entriesOf version1 y) left (p .lefts)) (sym (own-lefts wrap span (v .0) (p .at))) (none-stored left (p .lefts));

@@ -16,7 +16,7 @@ use Rattle.rules.specs.Report.{Report, left, leftAt}
 use Rattle.rules.specs.Verdict.{entriesOf}
 use Rattle.rules.specs.Stack.{Static}
 use Rattle.rules.specs.State.{State as Status, isAlive}
-use Rattle.rules.specs.Rules.{states, dropOf, gather, dropNewest, dropNamed}
+use Rattle.rules.specs.Rules.{states, dropOf, gather, dropNewest, dropNamed, off}
 use Rattle.image_writing.specs.Stored.{Stored}
 use Rattle.image_lines.specs.Lined.{shownAll}
 use Rattle.image_lines.specs.Told.{Listed}
@@ -81,14 +81,14 @@ clear-drop false d ds = refl
 -- the newest set bit, then those below it
 module _ {B : Type 0} (T : Tables) (names types depths births : List ℕ) (g : ℕ → Status) (q : Static → Bool) (says : Static → B) where
   abbrev pub some′ : ℕ → List B
-  some′ n = gather states T q says (lent names types depths births g n)
+  some′ n = gather (states off) T q says (lent names types depths births g n)
 
   abbrev drop′ : ℕ → B
   drop′ i = says (staticIn names types depths births i)
 
   drop-more : (n : ℕ) → some′ (n + 1) ≡ cond (q (staticIn names types depths births n) && dropIn T types g n) (drop′ n ∷ some′ n) (some′ n)
   drop-more n =
-      ap (gather states T q says) (stacked-more (staticIn names types depths births) g n)
+      ap (gather (states off) T q says) (stacked-more (staticIn names types depths births) g n)
       ∙ ap (λ (b : Bool). cond b (drop′ n ∷ some′ n) (some′ n)) (and-assoc (q (staticIn names types depths births n)) (isAlive (g n)) (auto T (getD types n 0)))
 
   drop-clear : (n k : ℕ) → ((i : ℕ) → n ≤ i → i < n + k → dropIn T types g i ≡ false) → some′ (n + k) ≡ some′ n
@@ -110,7 +110,7 @@ module _ {B : Type 0} (T : Tables) (names types depths births : List ℕ) (g : �
   drops-none n z =
       let all : 0 + n ≡ n = omega arith in
       ap some′ (sym all) ∙ drop-clear 0 n (λ i a b. word-zero n (dropIn T types g) z i (omega arith))
-      ∙ ap (gather states T q says) (stacked-none (staticIn names types depths births) g 0 (omega arith))
+      ∙ ap (gather (states off) T q says) (stacked-none (staticIn names types depths births) g 0 (omega arith))
 
   -- what is left to put for the rest m of the mark, as f writes it, and how many
   pub record Left (f : List B → List ℕ) (old : List ℕ) (at k m : ℕ) (out : List ℕ) (place put : ℕ) : Type 0 where
@@ -219,14 +219,14 @@ module _ (T : Tables) (names types depths births : List ℕ) (g : ℕ → Status
 
 -- no local of the name, or its newest local
 module _ (T : Tables) (names types depths births : List ℕ) (g : ℕ → Status) (k p n s : ℕ) (r : Found) (f : Finds names k n r) where
-  drop-is : (x : Found) → r ≡ x → dropNamed states T p (called n s) (lent names types depths births g k) ≡ dropNewest states T p n (foundIn names types depths births g x)
-  drop-is x e = ap (dropNewest states T p n) (found-as f types depths births g e)
+  drop-is : (x : Found) → r ≡ x → dropNamed (states off) T (λ l. true) p (called n s) (lent names types depths births g k) ≡ dropNewest (states off) T (λ l. true) p n (foundIn names types depths births g x)
+  drop-is x e = ap (dropNewest (states off) T (λ l. true) p n) (found-as f types depths births g e)
 
-  pub assign-none : r ≡ Nothing → dropNamed states T p (called n s) (lent names types depths births g k) ≡ []
+  pub assign-none : r ≡ Nothing → dropNamed (states off) T (λ l. true) p (called n s) (lent names types depths births g k) ≡ []
   assign-none e = drop-is Nothing e
 
-  pub assign-kept : (i : ℕ) → r ≡ At i → dropIn T types g i ≡ false → dropNamed states T p (called n s) (lent names types depths births g k) ≡ []
+  pub assign-kept : (i : ℕ) → r ≡ At i → dropIn T types g i ≡ false → dropNamed (states off) T (λ l. true) p (called n s) (lent names types depths births g k) ≡ []
   assign-kept i e off = drop-is (At i) e ∙ ap (λ (b : Bool). cond b (dropOf p n (getD types i 0) ∷ []) []) off
 
-  pub assign-drop : (i : ℕ) → r ≡ At i → dropIn T types g i ≡ true → dropNamed states T p (called n s) (lent names types depths births g k) ≡ dropOf p n (getD types i 0) ∷ []
+  pub assign-drop : (i : ℕ) → r ≡ At i → dropIn T types g i ≡ true → dropNamed (states off) T (λ l. true) p (called n s) (lent names types depths births g k) ≡ dropOf p n (getD types i 0) ∷ []
   assign-drop i e on = drop-is (At i) e ∙ ap (λ (b : Bool). cond b (dropOf p n (getD types i 0) ∷ []) []) on

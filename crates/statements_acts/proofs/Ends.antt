@@ -9,6 +9,7 @@ use Rattle.image_fields.specs.Bytes.{Bytes}
 use Rattle.tables.specs.Tables.{Tables}
 use Rattle.image_body.specs.Stmt.{Tree}
 use Rattle.rules.specs.State.{State as Status}
+use Rattle.rules.specs.Rules.{Switches}
 use Rattle.rules.specs.Stack.{Stack as Scope}
 use Rattle.statements_acts.specs.declared.Place.{Place}
 use Rattle.statements_acts.specs.declared.Act.{Act}
@@ -20,8 +21,8 @@ use Rattle.statements_acts.specs.Marks.{EndsThere}
 abbrev bare : Tables
 bare = record { names = []; types = []; structs = []; globals = [] }
 
-pub acts-ends : {T : Tables} {s : List ℕ} {loop : Option ℕ} {σ : Scope Status} {p : Place} {out warns left : List ℕ} {a : Act} {out′ warns′ left′ : List ℕ}
-    → ActsThere T s loop σ p out warns left a out′ warns′ left′ → EndsThere s (p .at) (a .place .at)
+pub acts-ends : {w : Switches} {T : Tables} {s : List ℕ} {loop : Option ℕ} {σ : Scope Status} {p : Place} {out warns left : List ℕ} {a : Act} {out′ warns′ left′ : List ℕ}
+    → ActsThere w T s loop σ p out warns left a out′ warns′ left′ → EndsThere s (p .at) (a .place .at)
 acts-ends h = record { is = λ f t x next r deep read. h .acts f t x next r deep read .at }
 
 module _ (s : List ℕ) (small : Bytes s) (p : Place) (end : ℕ) (g : FrontThere s (p .at) end) where

@@ -23,6 +23,7 @@ use Rattle.image_encoding.specs.Written.{Written}
 use Rattle.image_encoding.proofs.Parts.{byte-at, then, upto, being, two-at, four-at}
 use Rattle.image_encoding.proofs.ExprWritten.{expr-written}
 use Rattle.rules.specs.State.{State as Status}
+use Rattle.rules.specs.Rules.{Switches}
 use Rattle.rules.specs.Stack.{Stack as Scope}
 use Rattle.statements_returns.specs.Front.{frontOf}
 use Rattle.statements_steps.specs.Statement.{frontSize, frontDrops, ownBytes, frontReports, settle}
@@ -38,8 +39,8 @@ pub record Front (T : Tables) (s : List ℕ) (at to : ℕ) (c : Tree) : Type 0 w
 
 -- nothing is put before it, nothing reported and no local changed
 pub record Plainly (T : Tables) (c : Tree) : Type 0 where
-  pub drops : (σ : Scope Status) → frontDrops T c σ ≡ []
-  pub reports : (loop : Option ℕ) (at : ℕ) (σ : Scope Status) → frontReports T c loop at σ ≡ []
+  pub drops : (w : Switches) (loop : Option ℕ) (σ : Scope Status) → frontDrops w T c loop σ ≡ []
+  pub reports : (w : Switches) (loop : Option ℕ) (at : ℕ) (σ : Scope Status) → frontReports w T c loop at σ ≡ []
   pub settles : (d : ℕ) (σ : Scope Status) → settle T c d σ ≡ σ
 
 -- tag and span
@@ -64,7 +65,7 @@ module _ (T : Tables) (s : List ℕ) (small : Bytes s) (at end : ℕ) (g : Front
       let e : end ≡ at + 1 = no-value s at end g 1 k (omega arith) refl in
       subst (λ c. Front T s at end c × Plainly T c) (sym (v .3 r)) (
         record { written = upto (sym e) (being (ap (λ x. x ∷ []) k) (byte-at s at (omega arith))); size = e; inside = omega arith },
-        record { drops = λ σ. refl; reports = λ l i σ. refl; settles = λ d σ. refl },
+        record { drops = λ w l σ. refl; reports = λ w l i σ. refl; settles = λ d σ. refl },
       )
 
   -- a statement with one value behind its span
@@ -87,12 +88,12 @@ module _ (T : Tables) (s : List ℕ) (small : Bytes s) (at end : ℕ) (g : Front
       ⊎-elim {C = Front T s at end (before x r) × Plainly T (before x r)}
       (λ z. subst (λ c. Front T s at end c × Plainly T c) (sym (v .with z .2 r)) (
         record { written = w .0; size = w .1; inside = w .2 },
-        record { drops = λ σ. refl; reports = λ l i σ. refl; settles = λ d σ. refl },
+        record { drops = λ w l σ. refl; reports = λ w l i σ. refl; settles = λ d σ. refl },
       ))
       (λ z. let e : getD s (v .q) 0 ≡ 0 = omega arith in
       subst (λ c. Front T s at end c × Plainly T c) (sym (v .without e .1 r)) (
         record { written = w .0; size = w .1; inside = w .2 },
-        record { drops = λ σ. refl; reports = λ l i σ. refl; settles = λ d σ. refl },
+        record { drops = λ w l σ. refl; reports = λ w l i σ. refl; settles = λ d σ. refl },
       )) (less 0 (getD s (v .q) 0))
 
   front-while : getD s at 0 ≡ 8 → (r : Tree) → Front T s at end (before x r) × Plainly T (before x r)
@@ -102,7 +103,7 @@ module _ (T : Tables) (s : List ℕ) (small : Bytes s) (at end : ℕ) (g : Front
       let w = spanned 8 k (v .3) (v .0) (v .1) (v .4) (omega arith) refl in
       subst (λ c. Front T s at end c × Plainly T c) (sym (v .6 r)) (
         record { written = w .0; size = w .1; inside = w .2 },
-        record { drops = λ σ. refl; reports = λ l i σ. refl; settles = λ d σ. refl },
+        record { drops = λ w l σ. refl; reports = λ w l i σ. refl; settles = λ d σ. refl },
       )
 
   pub front-plain : Untouched (getD s at 0) → (r : Tree) → Front T s at end (before x r) × Plainly T (before x r)
@@ -231,23 +232,23 @@ module _ (T : Tables) (s : List ℕ) (small : Bytes s) (at end : ℕ) (g : Front
 -- a Return without a value
 module _ (T : Tables) (s : List ℕ) (small : Bytes s) (at : ℕ) (f : ℕ → Parsed Block) (t : Reading) (x : Stmt) (next : ℕ) (read : stmtAt f t s at ≡ ok x next) where
   jump-written : (b : Bool) (k : ℕ) → getD s at 0 ≡ k → k ≡ cond b 10 9
-      → (next ≡ at + 5) × (next ≤ length s) × ((c : Tree) → before x c ≡ jump b (four s (at + 1)) c) → (r : Tree)
-      → (before x r ≡ jump b (four s (at + 1)) r) × Front T s at (at + 5) (jump b (four s (at + 1)) r)
+      → (next ≡ at + 5) × (next ≤ length s) × ((c : Tree) → before x c ≡ jump b (four s (at + 1)) tt c) → (r : Tree)
+      → (before x r ≡ jump b (four s (at + 1)) tt r) × Front T s at (at + 5) (jump b (four s (at + 1)) tt r)
   jump-written b k ek kb v r =
       let l : at + 5 ≤ length s = subst (λ y. y ≤ length s) (v .0) (v .1) in
       (v .2 r, record { written = head-bytes s small at (cond b 10 9) (ek ∙ kb) l; size = refl; inside = l })
 
   -- a Break or Continue
-  pub front-jump : 8 < getD s at 0 → (r : Tree) → (b : Bool) × (before x r ≡ jump b (four s (at + 1)) r) × Front T s at (at + 5) (jump b (four s (at + 1)) r)
+  pub front-jump : 8 < getD s at 0 → (r : Tree) → (b : Bool) × (before x r ≡ jump b (four s (at + 1)) tt r) × Front T s at (at + 5) (jump b (four s (at + 1)) tt r)
   front-jump low r =
       let high = stmt-tag f t s at x next read .1 in
-      ⊎-elim {C = (b : Bool) × (before x r ≡ jump b (four s (at + 1)) r) × Front T s at (at + 5) (jump b (four s (at + 1)) r)}
+      ⊎-elim {C = (b : Bool) × (before x r ≡ jump b (four s (at + 1)) tt r) × Front T s at (at + 5) (jump b (four s (at + 1)) tt r)}
       (λ c. let k : getD s at 0 ≡ 9 = omega arith in let w = jump-written false 9 k refl (stmt-break f t s at x next read k) r in (false, w .0, w .1))
       (λ c. let k : getD s at 0 ≡ 10 = omega arith in let w = jump-written true 10 k refl (stmt-continue f t s at x next read k) r in (true, w .0, w .1))
       (less (getD s at 0) 10)
 
   pub front-bare : getD s at 0 ≡ 2 → getD s (at + 5) 0 ≡ 0 → (r : Tree)
-      → (before x r ≡ bareReturn (four s (at + 1)) (two s (at + 6)) r) × Front T s at (at + 8) (bareReturn (four s (at + 1)) (two s (at + 6)) r)
+      → (before x r ≡ bareReturn (four s (at + 1)) (two s (at + 6)) tt r) × Front T s at (at + 8) (bareReturn (four s (at + 1)) (two s (at + 6)) tt r)
   front-bare k o r =
       let u = stmt-return f t s at x next read k in
       let v = u .bare o in

@@ -11,7 +11,7 @@ use Rattle.tables.specs.Tables.{Tables}
 use Rattle.rules.specs.Questions.{auto}
 use Rattle.rules.specs.State.{State as Status, gone, deleted, isAlive}
 use Rattle.rules.specs.Stack.{Static}
-use Rattle.rules.specs.Rules.{states, gather}
+use Rattle.rules.specs.Rules.{states, gather, off}
 use Rattle.scope_stack.specs.Word.{wordAt}
 use Rattle.scope_stack.proofs.Words.{word-same}
 use Rattle.scope_state.specs.Locals.{stacked}
@@ -40,7 +40,7 @@ module _ (T : Tables) (types : List ℕ) (g : ℕ → Status) (base : ℕ) where
   -- and by it those locals are deleted, and no others, whatever tells them apart
   module _ {B : Type 0} (names depths births : List ℕ) (q : Static → Bool) (says : Static → B) where
     pub since-drops : (n : ℕ) → ((i : ℕ) → i < n → q (staticIn names types depths births i) ≡ leb base i)
-        → gather states T (admitted All) says (lent names types depths births (stateSince base g) n) ≡ gather states T q says (lent names types depths births g n)
+        → gather (states off) T (admitted All) says (lent names types depths births (stateSince base g) n) ≡ gather (states off) T q says (lent names types depths births g n)
     unfolding stacked
     since-drops zero h = refl
     since-drops (suc n) h =

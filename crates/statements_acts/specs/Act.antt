@@ -13,7 +13,7 @@ use Rattle.image_body.specs.Stmt.{Tree, Block, Stmt, before, stmtAt}
 use Rattle.rules.specs.Expr as rules
 use Rattle.rules.specs.State.{State as Status, alive, deleted}
 use Rattle.rules.specs.Stack.{mark, Stack as Scope}
-use Rattle.rules.specs.Rules.{declared, states, register}
+use Rattle.rules.specs.Rules.{declared, states, register, off, Switches}
 use Rattle.rules.specs.Report.{warnings, lefts}
 use Rattle.rules.specs.Verdict.{entriesOf}
 use Rattle.statements_returns.specs.Front.{frontAt}
@@ -35,13 +35,13 @@ namedOf (Called n p) = rules.called n p
 
 abbrev pub changeIn : ℕ → Change → Scope Status → Scope Status
 changeIn d Nothing σ = σ
-changeIn d (Delete n p) σ = mark n (states .killed deleted p) σ
-changeIn d (Register n t p) σ = register states (declared d p n t) σ
+changeIn d (Delete n p) σ = mark n (states off .killed deleted p) σ
+changeIn d (Register n t p) σ = register (states off) (declared d p n t) σ
 changeIn d (Revive n) σ = mark n (λ a. alive) σ
 
 abbrev pub takenIn : Named → Scope Status → Scope Status
 takenIn Nobody σ = σ
-takenIn (Called n p) σ = mark n (states .killed deleted p) σ
+takenIn (Called n p) σ = mark n (states off .killed deleted p) σ
 
 -- some statement was read at a position, and its values end there
 pub record FrontThere (s : List ℕ) (at end : ℕ) : Type 0 where
@@ -80,21 +80,21 @@ cursorsAt p = cursors (p .errors) (p .warnings) (p .lefts)
 
 -- The statement c up to its blocks, in a loop whose body has that depth, if any, walked from a place: what is stored, where the walk stands
 -- then, and how the locals change. Where a page is made, the output ends no later than the place, and no byte is stored but its lines
-pub record Acts (T : Tables) (c : Tree) (loop : Option ℕ) (σ : Scope Status) (p : Place) (out warns left : List ℕ) (a : Act) (out′ warns′ left′ : List ℕ) : Type 0 where
-  pub bytes : p .paged ≡ false → Stored out (p .written) (frontBytes T c σ) out′ (a .place .written)
-  pub warned : p .paged ≡ false → Stored warns (p .warnings) (entriesOf version1 (warnings (frontReports T c loop (p .at) σ))) warns′ (a .place .warnings)
-  pub listed : p .paged ≡ false → Stored left (p .lefts) (entriesOf version1 (lefts (frontReports T c loop (p .at) σ))) left′ (a .place .lefts)
-  pub lines : p .paged ≡ true → length out ≤ p .written → Lined (cursorsAt p) (frontReports T c loop (p .at) σ) out (cursorsAt (a .place)) out′
-  pub long : a .place .written ≡ p .written + length (frontBytes T c σ)
+pub record Acts (w : Switches) (T : Tables) (c : Tree) (loop : Option ℕ) (σ : Scope Status) (p : Place) (out warns left : List ℕ) (a : Act) (out′ warns′ left′ : List ℕ) : Type 0 where
+  pub bytes : p .paged ≡ false → Stored out (p .written) (frontBytes w T c loop σ) out′ (a .place .written)
+  pub warned : p .paged ≡ false → Stored warns (p .warnings) (entriesOf version1 (warnings (frontReports w T c loop (p .at) σ))) warns′ (a .place .warnings)
+  pub listed : p .paged ≡ false → Stored left (p .lefts) (entriesOf version1 (lefts (frontReports w T c loop (p .at) σ))) left′ (a .place .lefts)
+  pub lines : p .paged ≡ true → length out ≤ p .written → Lined (cursorsAt p) (frontReports w T c loop (p .at) σ) out (cursorsAt (a .place)) out′
+  pub long : a .place .written ≡ p .written + length (frontBytes w T c loop σ)
   pub paged : a .place .paged ≡ p .paged
   pub errors : a .place .errors ≡ p .errors
-  pub inserted : a .place .inserted ≡ p .inserted + length (frontDrops T c σ)
+  pub inserted : a .place .inserted ≡ p .inserted + length (frontDrops w T c loop σ)
   pub last : a .place .last ≡ p .at
   pub fits : a .place .fits ≡ p .fits
   pub at : a .place .at ≡ p .at + frontSize c
   pub settles : (d : ℕ) → takenIn (a .taken) (changeIn d (a .change) σ) ≡ settle T c d σ
 
 -- of whatever statement was read at the place, before whatever follows it
-pub record ActsThere (T : Tables) (s : List ℕ) (loop : Option ℕ) (σ : Scope Status) (p : Place) (out warns left : List ℕ) (a : Act) (out′ warns′ left′ : List ℕ) : Type 0 where
+pub record ActsThere (w : Switches) (T : Tables) (s : List ℕ) (loop : Option ℕ) (σ : Scope Status) (p : Place) (out warns left : List ℕ) (a : Act) (out′ warns′ left′ : List ℕ) : Type 0 where
   pub acts : (f : ℕ → Parsed Block) (t : Reading) (x : Stmt) (next : ℕ) (r : Tree) → t .exprDepth ≡ 24 → stmtAt f t s (p .at) ≡ ok x next
-      → Acts T (before x r) loop σ p out warns left a out′ warns′ left′
+      → Acts w T (before x r) loop σ p out warns left a out′ warns′ left′

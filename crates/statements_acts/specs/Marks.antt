@@ -7,7 +7,7 @@ use lib.Dec.{leb}
 use Rattle.image_fields.specs.Parsed.{Parsed, ok}
 use Rattle.image_body.specs.Expr.{Scope as Reading}
 use Rattle.image_body.specs.Stmt.{Tree, Block, Stmt, before, stmtAt}
-use Rattle.rules.specs.Rules.{atJump, concerns}
+use Rattle.rules.specs.Rules.{inLoop}
 use Rattle.statements_steps.specs.Statement.{frontSize}
 pub use Rattle.scope_stack.specs.View.{dropIn, Marked}
 pub use Rattle.scope_state.specs.Locals.{staticIn, lent}
@@ -19,4 +19,4 @@ pub record EndsThere (s : List ℕ) (at to : ℕ) : Type 0 where
 -- of n locals, at most 64, those from base on, and no others, are of the frames that a Break or Continue leaves in this loop; outside any, none is
 pub record Looped (depths : List ℕ) (loop : Option ℕ) (base n : ℕ) : Type 0 where
   pub few : n ≤ 64
-  pub own : (names types births : List ℕ) (i : ℕ) → i < n → concerns (atJump loop) (staticIn names types depths births i) ≡ leb base i
+  pub own : (names types births : List ℕ) (i : ℕ) → i < n → inLoop loop (staticIn names types depths births i) ≡ leb base i

@@ -4,7 +4,7 @@ ghost use mathlib.Core.Path.{_≡_};
 ghost use mathlib.Core.Bool.{true, cond, _&&_, _||_};
 ghost use mathlib.Core.List.{List, [], _∷_, map};
 ghost use mathlib.Core.Option.{Option};
-ghost use Prim.Native.Nat.{ℕ, _+_, _≤_, _<_};
+ghost use Prim.Native.Nat.{ℕ, _+_, _/_, _%_, _≤_, _<_};
 ghost use lib.Dec.{eqb};
 ghost use lib.ListN.{length, getD};
 ghost use Rattle.image_fields.specs.Number.{four};
@@ -20,7 +20,7 @@ ghost use Rattle.rules.specs.Expr.{view as viewed, nameIn, called, isCall, tyOf
 ghost use Rattle.rules.specs.State.{State as Status};
 ghost use Rattle.rules.specs.Stack.{Static, shape, staticOf, Stack as Scope};
 ghost use Rattle.rules.specs.Effects.{takeOver, takeFrom, assignTakes};
-ghost use Rattle.rules.specs.Rules.{states, applyAll, gather, collect, dropNamed, assignDrops};
+ghost use Rattle.rules.specs.Rules.{states, applyAll, gather, collect, dropNamed, assignDrops, off, Switches, switchesOf, concerns};
 ghost use Rattle.rules.specs.Report.{warning, left, leftAt};
 ghost use Rattle.image_writing.specs.Stored.{Stored};
 ghost use Rattle.rules_page.specs.Page.{blanks};
@@ -28,6 +28,8 @@ ghost use Rattle.image_lines.specs.Told.{Listed, leftBegin};
 ghost use Rattle.statements_steps.specs.Drops.{deleteBytes};
 ghost use Rattle.statements_acts.specs.Drops.{admitted};
 ghost use Rattle.statements_acts.specs.declared.Which.the-variants.{All};
+ghost use Rattle.statements_acts.specs.declared.Change.the-variants.{Nothing};
+ghost use Rattle.statements_acts.specs.declared.Named.the-variants.{Nobody};
 ghost use Rattle.statements_acts.specs.Act.{namedOf, takenIn, FrontThere, Within, Grows, ActsThere};
 ghost use Rattle.statements_acts.specs.Parts.{deletedName, deleteOf, reviveOf, takesOver, noPut, sparing, relisted, Copied, WarnsAt, Untouched};
 ghost use Rattle.statements_acts.specs.Marks.{lent, Marked, Looped, EndsThere};
@@ -179,7 +181,7 @@ fn consumed_compiler_temp_from_value<'a>(
     requires { ⌜ AllWithin (now s) (now ns) × (n ≤ 64) ⌝ }
     ensures { λ r. ⌜ ((T : Tables) → map (nameOf (now (s .entry))) (now (ns .entry)) ≡ T .names
         → (ld births : List ℕ) (g : ℕ → Status) → (e : Expr) (next : ℕ) → Stands e (now (s .entry)) value next
-        → (σ : Scope Status) → takenIn r σ ≡ applyAll states (takeOver T (shape (lent (now (ln .entry)) (now (lt .entry)) ld births g n)) name ty e) σ) ⌝ }
+        → (σ : Scope Status) → takenIn r σ ≡ applyAll (states off) (takeOver T (shape (lent (now (ln .entry)) (now (lt .entry)) ld births g n)) name ty e) σ) ⌝ }
 {
     let named = name_in(s, value);
     let Named::Called(temp, _) = named else {
@@ -204,7 +206,7 @@ fn consumed_compiler_temp_from_assign<'a>(
     requires { ⌜ AllWithin (now s) (now ns) × (n ≤ 64) ⌝ }
     ensures { λ r. ⌜ ((T : Tables) → map (nameOf (now (s .entry))) (now (ns .entry)) ≡ T .names
         → (ld births : List ℕ) (g : ℕ → Status) → (e : Expr) (next : ℕ) → Stands e (now (s .entry)) value next
-        → (σ : Scope Status) → takenIn r σ ≡ applyAll states (takeFrom T (shape (lent (now (ln .entry)) (now (lt .entry)) ld births g n)) name (staticOf name (shape (lent (now (ln .entry)) (now (lt .entry)) ld births g n))) e) σ) ⌝ }
+        → (σ : Scope Status) → takenIn r σ ≡ applyAll (states off) (takeFrom T (shape (lent (now (ln .entry)) (now (lt .entry)) ld births g n)) name (staticOf name (shape (lent (now (ln .entry)) (now (lt .entry)) ld births g n))) e) σ) ⌝ }
 {
     let found = scope_state::find_local(ln, n, name);
     let Found::At(i) = found else {
@@ -245,8 +247,8 @@ fn nothing_put(p: Place) -> Put
 // A statement that changes nothing and puts nothing in, up to a position.
 fn plain_statement(s: &[u8], p: Place, to: usize, out: &mut [u8]) -> Act
     requires { ⌜ Within (now s) p × FrontThere (now s) (p .at) to × Untouched (getD (now s) (p .at) 0) ⌝ }
-    ensures { λ a. ⌜ ((T : Tables) (σ : Scope Status) (warns left : List ℕ) (loop : Option ℕ)
-        → ActsThere T (now (s .entry)) loop σ p (now (out .entry)) warns left a (now (out .exit)) warns left) ⌝ }
+    ensures { λ a. ⌜ ((w : Switches) (T : Tables) (σ : Scope Status) (warns left : List ℕ) (loop : Option ℕ)
+        → ActsThere w T (now (s .entry)) loop σ p (now (out .entry)) warns left a (now (out .exit)) warns left) ⌝ }
     ensures { λ a. ⌜ Grows (now (s .entry)) p (a .place) ⌝ }
 {
     let place = behind(s, p, nothing_put(p), to, out);
@@ -267,8 +269,8 @@ fn expr_statement(
     warns: &mut [u32],
 ) -> Act
     requires { ⌜ Lent (now s) (now tb) × Within (now s) p × FrontThere (now s) (p .at) end × (getD (now s) (p .at) 0 ≡ 3) ⌝ }
-    ensures { λ a. ⌜ ((T : Tables) → Says (now (s .entry)) (now (tb .entry)) T → (σ : Scope Status) (left : List ℕ) (loop : Option ℕ)
-        → ActsThere T (now (s .entry)) loop σ p (now (out .entry)) (now (warns .entry)) left a (now (out .exit)) (now (warns .exit)) left) ⌝ }
+    ensures { λ a. ⌜ ((w : Switches) (T : Tables) → Says (now (s .entry)) (now (tb .entry)) T → (σ : Scope Status) (left : List ℕ) (loop : Option ℕ)
+        → ActsThere w T (now (s .entry)) loop σ p (now (out .entry)) (now (warns .entry)) left a (now (out .exit)) (now (warns .exit)) left) ⌝ }
     ensures { λ a. ⌜ Grows (now (s .entry)) p (a .place) ⌝ }
 {
     let value = p.at + 5;
@@ -361,9 +363,9 @@ fn variable_statement<'a>(
 ) -> Act
     requires { ⌜ AllWithin (now s) (now ns) × (n ≤ 64) × Within (now s) p × FrontThere (now s) (p .at) end
         × (3 < getD (now s) (p .at) 0) × (getD (now s) (p .at) 0 < 6) ⌝ }
-    ensures { λ a. ⌜ ((T : Tables) → map (nameOf (now (s .entry))) (now (ns .entry)) ≡ T .names
+    ensures { λ a. ⌜ ((w : Switches) (T : Tables) → map (nameOf (now (s .entry))) (now (ns .entry)) ≡ T .names
         → (ld births : List ℕ) (g : ℕ → Status) → (warns left : List ℕ) (loop : Option ℕ)
-        → ActsThere T (now (s .entry)) loop (lent (now (ln .entry)) (now (lt .entry)) ld births g n) p (now (out .entry)) warns left a (now (out .exit)) warns left) ⌝ }
+        → ActsThere w T (now (s .entry)) loop (lent (now (ln .entry)) (now (lt .entry)) ld births g n) p (now (out .entry)) warns left a (now (out .exit)) warns left) ⌝ }
     ensures { λ a. ⌜ Grows (now (s .entry)) p (a .place) ⌝ }
 {
     let born = span_at(s, p.at + 1);
@@ -401,7 +403,7 @@ fn taken_by<'a>(
     requires { ⌜ AllWithin (now s) (now ns) × (n ≤ 64) × Walkable (now s) 24 destination ⌝ }
     ensures { λ r. ⌜ ((T : Tables) → map (nameOf (now (s .entry))) (now (ns .entry)) ≡ T .names
         → (ld births : List ℕ) (g : ℕ → Status) → (e v : Expr) (p q : ℕ) → Stands e (now (s .entry)) destination p → Stands v (now (s .entry)) p q
-        → (σ : Scope Status) → takenIn r σ ≡ applyAll states (assignTakes T (shape (lent (now (ln .entry)) (now (lt .entry)) ld births g n)) e v) σ) ⌝ }
+        → (σ : Scope Status) → takenIn r σ ≡ applyAll (states off) (assignTakes T (shape (lent (now (ln .entry)) (now (lt .entry)) ld births g n)) e v) σ) ⌝ }
 {
     let named = name_in(s, destination);
     let Named::Called(name, _) = named else {
@@ -438,8 +440,8 @@ pub fn put_drops<'a>(
 ) -> Put
     requires { ⌜ at < 4294900000 ⌝ }
     ensures { λ r. ⌜ (r .at ≤ at + 1344) × (r .count ≤ 64) × ((T : Tables) (depths births : List ℕ) (g : ℕ → Status) (n : ℕ) → Marked T (now (tys .entry)) g n mark
-        → Stored (now (out .entry)) at (deleteBytes (collect states T (admitted which) span (lent (now (names .entry)) (now (tys .entry)) depths births g n))) (now (out .exit)) (r .at)
-        × (r .count ≡ length (collect states T (admitted which) span (lent (now (names .entry)) (now (tys .entry)) depths births g n)))) ⌝ }
+        → Stored (now (out .entry)) at (deleteBytes (collect (states off) T (admitted which) span (lent (now (names .entry)) (now (tys .entry)) depths births g n))) (now (out .exit)) (r .at)
+        × (r .count ≡ length (collect (states off) T (admitted which) span (lent (now (names .entry)) (now (tys .entry)) depths births g n)))) ⌝ }
 {
     let mut m = mark;
     let mut place = at;
@@ -502,7 +504,7 @@ pub fn list_left<'a>(
 ) -> usize
     requires { ⌜ n < 4294800000 ⌝ }
     ensures { λ r. ⌜ (r ≤ n + 4672) × ((T : Tables) (tys depths : List ℕ) (g : ℕ → Status) (k : ℕ) → Marked T tys g k mark
-        → Listed «paged» (gather states T (admitted All) (leftAt span) (lent (now (names .entry)) tys depths (now (births .entry)) g k)) (now (lefts .entry)) (now (out .entry)) n (now (lefts .exit)) (now (out .exit)) r) ⌝ }
+        → Listed «paged» (gather (states off) T (admitted All) (leftAt span) (lent (now (names .entry)) tys depths (now (births .entry)) g k)) (now (lefts .entry)) (now (out .entry)) n (now (lefts .exit)) (now (out .exit)) r) ⌝ }
 {
     let mut text = [32u8; 73];
     begin_lefts(paged, span, &mut text);
@@ -538,8 +540,8 @@ pub fn put_assign_drop<'a>(
 ) -> Put
     requires { ⌜ (count ≤ 64) × (at < 4294900000) ⌝ }
     ensures { λ r. ⌜ (r .at ≤ at + 21) × (r .count ≤ 1) × ((T : Tables) (depths births : List ℕ) (g : ℕ → Status) → Marked T (now (tys .entry)) g count mark
-        → Stored (now (out .entry)) at (deleteBytes (dropNamed states T span (called name 0) (lent (now (names .entry)) (now (tys .entry)) depths births g count))) (now (out .exit)) (r .at)
-        × (r .count ≡ length (dropNamed states T span (called name 0) (lent (now (names .entry)) (now (tys .entry)) depths births g count)))) ⌝ }
+        → Stored (now (out .entry)) at (deleteBytes (dropNamed (states off) T (λ l. true) span (called name 0) (lent (now (names .entry)) (now (tys .entry)) depths births g count))) (now (out .exit)) (r .at)
+        × (r .count ≡ length (dropNamed (states off) T (λ l. true) span (called name 0) (lent (now (names .entry)) (now (tys .entry)) depths births g count)))) ⌝ }
 {
     let Found::At(i) = scope_state::find_local(names, count, name) else {
         return Put { at: at, count: 0 };
@@ -572,8 +574,8 @@ fn return_statement<'a>(
     out: &mut [u8],
 ) -> Act
     requires { ⌜ Within (now s) p × FrontThere (now s) (p .at) end × (getD (now s) (p .at) 0 ≡ 2) × (getD (now s) (p .at + 5) 0 ≡ 1) ⌝ }
-    ensures { λ a. ⌜ ((T : Tables) (ld births : List ℕ) (g : ℕ → Status) (n : ℕ) → Marked T (now (lt .entry)) g n mark → (warns left : List ℕ) (loop : Option ℕ)
-        → ActsThere T (now (s .entry)) loop (lent (now (ln .entry)) (now (lt .entry)) ld births g n) p (now (out .entry)) warns left a (now (out .exit)) warns left) ⌝ }
+    ensures { λ a. ⌜ ((w : Switches) (T : Tables) (ld births : List ℕ) (g : ℕ → Status) (n : ℕ) → Marked T (now (lt .entry)) g n mark → (warns left : List ℕ) (loop : Option ℕ)
+        → ActsThere w T (now (s .entry)) loop (lent (now (ln .entry)) (now (lt .entry)) ld births g n) p (now (out .entry)) warns left a (now (out .exit)) warns left) ⌝ }
     ensures { λ a. ⌜ Grows (now (s .entry)) p (a .place) × EndsThere (now (s .entry)) (p .at) (a .place .at) ⌝ }
 {
     let which = returned_identifier_name(s, p.at + 6);
@@ -603,24 +605,18 @@ fn listed(p: Place, lefts: usize) -> Place
     }
 }
 
-// A Return without a value: what is left behind is listed.
-fn bare_return<'a>(
-    s: &[u8],
-    ln: &'a Names,
-    lb: &'a Births,
-    mark: u64,
-    p: Place,
-    out: &mut [u8],
-    lefts: &mut [u32],
-) -> Act
-    requires { ⌜ Within (now s) p × FrontThere (now s) (p .at) (p .at + 6) × (getD (now s) (p .at) 0 ≡ 2) × (getD (now s) (p .at + 5) 0 ≡ 0) ⌝ }
-    ensures { λ a. ⌜ ((T : Tables) (lt ld : List ℕ) (g : ℕ → Status) (n : ℕ) → Marked T lt g n mark → (warns : List ℕ) (loop : Option ℕ)
-        → ActsThere T (now (s .entry)) loop (lent (now (ln .entry)) lt ld (now (lb .entry)) g n) p (now (out .entry)) warns (now (lefts .entry)) a (now (out .exit)) warns (now (lefts .exit))) ⌝ }
-    ensures { λ a. ⌜ Grows (now (s .entry)) p (a .place) × EndsThere (now (s .entry)) (p .at) (a .place .at) ⌝ }
+// Whether a switch value has a switch on, by its bit: 1, 2, 4 or 8.
+pub fn has_switch(switches: u32, bit: u32) -> bool
+    requires { ⌜ 0 < bit ⌝ }
+    ensures { λ r. ⌜ r ≡ eqb (switches / bit % 2) 1 ⌝ }
 {
-    let span = span_at(s, p.at + 1);
-    let left = list_left(ln, lb, mark, span, p.paged, out, lefts, p.lefts);
-    let place = behind(s, listed(p, left), nothing_put(p), p.at + 8, out);
+    switches / bit % 2 == 1
+}
+
+// What a statement leaves where it changes nothing.
+fn unchanged(place: Place) -> Act
+    ensures { λ a. ⌜ a ≡ record { place = place; change = Nothing; taken = Nobody } ⌝ }
+{
     Act {
         place: place,
         change: Change::Nothing,
@@ -628,31 +624,60 @@ fn bare_return<'a>(
     }
 }
 
-// A Break or Continue: what the frames out to the nearest loop's body leave behind is listed, that is the locals from base on.
+// A Return without a value: what it would leave behind is deleted before it, with span 0, or else listed.
+fn bare_return<'a>(
+    s: &[u8],
+    ln: &'a Names,
+    lt: &'a Types,
+    lb: &'a Births,
+    mark: u64,
+    switches: u32,
+    p: Place,
+    out: &mut [u8],
+    lefts: &mut [u32],
+) -> Act
+    requires { ⌜ Within (now s) p × FrontThere (now s) (p .at) (p .at + 6) × (getD (now s) (p .at) 0 ≡ 2) × (getD (now s) (p .at + 5) 0 ≡ 0) ⌝ }
+    ensures { λ a. ⌜ ((T : Tables) (ld : List ℕ) (g : ℕ → Status) (n : ℕ) → Marked T (now (lt .entry)) g n mark → (warns : List ℕ) (loop : Option ℕ)
+        → ActsThere (switchesOf switches) T (now (s .entry)) loop (lent (now (ln .entry)) (now (lt .entry)) ld (now (lb .entry)) g n) p (now (out .entry)) warns (now (lefts .entry)) a (now (out .exit)) warns (now (lefts .exit))) ⌝ }
+    ensures { λ a. ⌜ Grows (now (s .entry)) p (a .place) × EndsThere (now (s .entry)) (p .at) (a .place .at) ⌝ }
+{
+    if has_switch(switches, 1) {
+        let all = Which::All;
+        let put = put_drops(ln, lt, mark, all, 0, out, p.written);
+        return unchanged(behind(s, p, put, p.at + 8, out));
+    }
+    let span = span_at(s, p.at + 1);
+    let left = list_left(ln, lb, mark, span, p.paged, out, lefts, p.lefts);
+    unchanged(behind(s, listed(p, left), nothing_put(p), p.at + 8, out))
+}
+
+// A Break or Continue, likewise, of the frames out to the nearest loop's body, that is of the locals from base on.
 fn jump_statement<'a>(
     s: &[u8],
     ln: &'a Names,
+    lt: &'a Types,
     lb: &'a Births,
     mark: u64,
     base: usize,
+    switches: u32,
     p: Place,
     out: &mut [u8],
     lefts: &mut [u32],
 ) -> Act
     requires { ⌜ Within (now s) p × FrontThere (now s) (p .at) (p .at + 5) × (8 < getD (now s) (p .at) 0) × (base ≤ 64) ⌝ }
-    ensures { λ a. ⌜ ((T : Tables) (lt ld : List ℕ) (g : ℕ → Status) (n : ℕ) → Marked T lt g n mark → (loop : Option ℕ) → Looped ld loop base n → (warns : List ℕ)
-        → ActsThere T (now (s .entry)) loop (lent (now (ln .entry)) lt ld (now (lb .entry)) g n) p (now (out .entry)) warns (now (lefts .entry)) a (now (out .exit)) warns (now (lefts .exit))) ⌝ }
+    ensures { λ a. ⌜ ((T : Tables) (ld : List ℕ) (g : ℕ → Status) (n : ℕ) → Marked T (now (lt .entry)) g n mark → (loop : Option ℕ) → Looped ld loop base n → (warns : List ℕ)
+        → ActsThere (switchesOf switches) T (now (s .entry)) loop (lent (now (ln .entry)) (now (lt .entry)) ld (now (lb .entry)) g n) p (now (out .entry)) warns (now (lefts .entry)) a (now (out .exit)) warns (now (lefts .exit))) ⌝ }
     ensures { λ a. ⌜ Grows (now (s .entry)) p (a .place) × EndsThere (now (s .entry)) (p .at) (a .place .at) ⌝ }
 {
-    let span = span_at(s, p.at + 1);
     let own = scope_stack::since(mark, base);
-    let left = list_left(ln, lb, own, span, p.paged, out, lefts, p.lefts);
-    let place = behind(s, listed(p, left), nothing_put(p), p.at + 5, out);
-    Act {
-        place: place,
-        change: Change::Nothing,
-        taken: Named::Nobody,
+    if has_switch(switches, 2) {
+        let all = Which::All;
+        let put = put_drops(ln, lt, own, all, 0, out, p.written);
+        return unchanged(behind(s, p, put, p.at + 5, out));
     }
+    let span = span_at(s, p.at + 1);
+    let left = list_left(ln, lb, own, span, p.paged, out, lefts, p.lefts);
+    unchanged(behind(s, listed(p, left), nothing_put(p), p.at + 5, out))
 }
 
 // A Return, by its flag.
@@ -662,6 +687,7 @@ fn either_return<'a>(
     lt: &'a Types,
     lb: &'a Births,
     mark: u64,
+    switches: u32,
     p: Place,
     end: usize,
     out: &mut [u8],
@@ -669,13 +695,13 @@ fn either_return<'a>(
 ) -> Act
     requires { ⌜ Within (now s) p × FrontThere (now s) (p .at) end × (getD (now s) (p .at) 0 ≡ 2) ⌝ }
     ensures { λ a. ⌜ ((T : Tables) (ld : List ℕ) (g : ℕ → Status) (n : ℕ) → Marked T (now (lt .entry)) g n mark → (warns : List ℕ) (loop : Option ℕ)
-        → ActsThere T (now (s .entry)) loop (lent (now (ln .entry)) (now (lt .entry)) ld (now (lb .entry)) g n) p (now (out .entry)) warns (now (lefts .entry)) a (now (out .exit)) warns (now (lefts .exit))) ⌝ }
+        → ActsThere (switchesOf switches) T (now (s .entry)) loop (lent (now (ln .entry)) (now (lt .entry)) ld (now (lb .entry)) g n) p (now (out .entry)) warns (now (lefts .entry)) a (now (out .exit)) warns (now (lefts .exit))) ⌝ }
     ensures { λ a. ⌜ Grows (now (s .entry)) p (a .place) × EndsThere (now (s .entry)) (p .at) (a .place .at) ⌝ }
 {
     if peek(s, p.at + 5) == 1 {
         return return_statement(s, ln, lt, mark, p, end, out);
     }
-    bare_return(s, ln, lb, mark, p, out, lefts)
+    bare_return(s, ln, lt, lb, mark, switches, p, out, lefts)
 }
 
 // pre_delete_before_assign: the destination at a position is an Ident, not a ThisLiteral.
@@ -691,10 +717,10 @@ fn pre_delete_before_assign<'a>(
     at: usize,
 ) -> Put
     requires { ⌜ (n ≤ 64) × (at < 4294900000) ⌝ }
-    ensures { λ r. ⌜ (r .at ≤ at + 21) × (r .count ≤ 1) × ((T : Tables) (ld births : List ℕ) (g : ℕ → Status) → Marked T (now (lt .entry)) g n mark
+    ensures { λ r. ⌜ (r .at ≤ at + 21) × (r .count ≤ 1) × ((w : Switches) (T : Tables) (ld births : List ℕ) (g : ℕ → Status) → Marked T (now (lt .entry)) g n mark
         → (e : Expr) (next : ℕ) → Stands e (now (s .entry)) destination next
-        → Stored (now (out .entry)) at (deleteBytes (assignDrops states T span e (lent (now (ln .entry)) (now (lt .entry)) ld births g n))) (now (out .exit)) (r .at)
-        × (r .count ≡ length (assignDrops states T span e (lent (now (ln .entry)) (now (lt .entry)) ld births g n)))) ⌝ }
+        → Stored (now (out .entry)) at (deleteBytes (assignDrops (states w) T (concerns w) span e (lent (now (ln .entry)) (now (lt .entry)) ld births g n))) (now (out .exit)) (r .at)
+        × (r .count ≡ length (assignDrops (states w) T (concerns w) span e (lent (now (ln .entry)) (now (lt .entry)) ld births g n)))) ⌝ }
 {
     let p = image_body::strip_noop_unary(s, destination);
     let Node::Ident(_) = image_body::node_at(s, p) else {
@@ -717,9 +743,9 @@ fn assign_statement<'a>(
     out: &mut [u8],
 ) -> Act
     requires { ⌜ AllWithin (now s) (now ns) × (n ≤ 64) × Within (now s) p × FrontThere (now s) (p .at) end × (getD (now s) (p .at) 0 ≡ 6) ⌝ }
-    ensures { λ a. ⌜ ((T : Tables) → map (nameOf (now (s .entry))) (now (ns .entry)) ≡ T .names
+    ensures { λ a. ⌜ ((w : Switches) (T : Tables) → map (nameOf (now (s .entry))) (now (ns .entry)) ≡ T .names
         → (ld births : List ℕ) (g : ℕ → Status) → Marked T (now (lt .entry)) g n mark → (warns left : List ℕ) (loop : Option ℕ)
-        → ActsThere T (now (s .entry)) loop (lent (now (ln .entry)) (now (lt .entry)) ld births g n) p (now (out .entry)) warns left a (now (out .exit)) warns left) ⌝ }
+        → ActsThere w T (now (s .entry)) loop (lent (now (ln .entry)) (now (lt .entry)) ld births g n) p (now (out .entry)) warns left a (now (out .exit)) warns left) ⌝ }
     ensures { λ a. ⌜ Grows (now (s .entry)) p (a .place) × EndsThere (now (s .entry)) (p .at) (a .place .at) ⌝ }
 {
     let span = span_at(s, p.at + 1);
@@ -754,6 +780,7 @@ pub fn statement<'a>(
     n: usize,
     mark: u64,
     base: usize,
+    switches: u32,
     p: Place,
     end: usize,
     out: &mut [u8],
@@ -763,19 +790,19 @@ pub fn statement<'a>(
     requires { ⌜ Lent (now s) (now tb) × (n ≤ 64) × (base ≤ 64) × Within (now s) p × FrontThere (now s) (p .at) end ⌝ }
     ensures { λ a. ⌜ ((T : Tables) → Says (now (s .entry)) (now (tb .entry)) T
         → (ld : List ℕ) (g : ℕ → Status) → Marked T (now (lt .entry)) g n mark → (loop : Option ℕ) → Looped ld loop base n
-        → ActsThere T (now (s .entry)) loop (lent (now (ln .entry)) (now (lt .entry)) ld (now (lb .entry)) g n) p (now (out .entry)) (now (warns .entry)) (now (lefts .entry)) a (now (out .exit)) (now (warns .exit)) (now (lefts .exit))) ⌝ }
+        → ActsThere (switchesOf switches) T (now (s .entry)) loop (lent (now (ln .entry)) (now (lt .entry)) ld (now (lb .entry)) g n) p (now (out .entry)) (now (warns .entry)) (now (lefts .entry)) a (now (out .exit)) (now (warns .exit)) (now (lefts .exit))) ⌝ }
     ensures { λ a. ⌜ Grows (now (s .entry)) p (a .place) × EndsThere (now (s .entry)) (p .at) (a .place .at) ⌝ }
 {
     let at = p.at;
     let tag = s[at];
     if tag == 2 {
-        return either_return(s, ln, lt, lb, mark, p, end, out, lefts);
+        return either_return(s, ln, lt, lb, mark, switches, p, end, out, lefts);
     }
     if tag == 3 {
         return expr_statement(s, tb, p, end, out, warns);
     }
     if 8 < tag {
-        return jump_statement(s, ln, lb, mark, base, p, out, lefts);
+        return jump_statement(s, ln, lt, lb, mark, base, switches, p, out, lefts);
     }
     let names = 8 + tb[0] as usize;
     let ns = &tb[8..names];

@@ -7,6 +7,7 @@ use mathlib.Core.Path.{_≡_, refl, sym, ap, _∙_, subst}
 use mathlib.Core.Bool.{Bool, true, false, cond}
 use mathlib.Core.List.{List, []}
 use lib.ListN.{length, getD}
+use Rattle.rules.specs.Rules.{Switches}
 use Rattle.image_fields.proofs.Tests.{false-true}
 use Rattle.image_fields.specs.Parsed.{ok}
 use Rattle.image_fields.specs.Bytes.{Bytes}
@@ -170,13 +171,13 @@ within-told {s} e w = subst (Within s) (sym e) w
 pub front-told : (s : List ℕ) (p q : Place) (end : ℕ) → q ≡ p → FrontThere s (p .at) end → FrontThere s (q .at) end
 front-told s p q end e f = subst (λ (x : Place). FrontThere s (x .at) end) (sym e) f
 
-pub acts-told : {T : Tables} {s : List ℕ} {loop : Option ℕ} {σ : Scope Status} {p q : Place} {out warns lefts out₁ warns₁ lefts₁ : List ℕ} {a : Act} → q ≡ p
-    → ActsThere T s loop σ q out warns lefts a out₁ warns₁ lefts₁ → ActsThere T s loop σ p out warns lefts a out₁ warns₁ lefts₁
-acts-told {T} {s} {loop} {σ} {p} {q} {out} {warns} {lefts} {out₁} {warns₁} {lefts₁} {a} e h = subst (λ (x : Place). ActsThere T s loop σ x out warns lefts a out₁ warns₁ lefts₁) e h
+pub acts-told : {sw : Switches} {T : Tables} {s : List ℕ} {loop : Option ℕ} {σ : Scope Status} {p q : Place} {out warns lefts out₁ warns₁ lefts₁ : List ℕ} {a : Act} → q ≡ p
+    → ActsThere sw T s loop σ q out warns lefts a out₁ warns₁ lefts₁ → ActsThere sw T s loop σ p out warns lefts a out₁ warns₁ lefts₁
+acts-told {sw} {T} {s} {loop} {σ} {p} {q} {out} {warns} {lefts} {out₁} {warns₁} {lefts₁} {a} e h = subst (λ (x : Place). ActsThere sw T s loop σ x out warns lefts a out₁ warns₁ lefts₁) e h
 
-pub acts-of : {T : Tables} {s : List ℕ} {loop : Option ℕ} {σ τ : Scope Status} {p : Place} {out warns lefts out₁ warns₁ lefts₁ : List ℕ} {a : Act} → σ ≡ τ
-    → ActsThere T s loop τ p out warns lefts a out₁ warns₁ lefts₁ → ActsThere T s loop σ p out warns lefts a out₁ warns₁ lefts₁
-acts-of {T} {s} {loop} {σ} {τ} {p} {out} {warns} {lefts} {out₁} {warns₁} {lefts₁} {a} e h = subst (λ (x : Scope Status). ActsThere T s loop x p out warns lefts a out₁ warns₁ lefts₁) (sym e) h
+pub acts-of : {sw : Switches} {T : Tables} {s : List ℕ} {loop : Option ℕ} {σ τ : Scope Status} {p : Place} {out warns lefts out₁ warns₁ lefts₁ : List ℕ} {a : Act} → σ ≡ τ
+    → ActsThere sw T s loop τ p out warns lefts a out₁ warns₁ lefts₁ → ActsThere sw T s loop σ p out warns lefts a out₁ warns₁ lefts₁
+acts-of {sw} {T} {s} {loop} {σ} {τ} {p} {out} {warns} {lefts} {out₁} {warns₁} {lefts₁} {a} e h = subst (λ (x : Scope Status). ActsThere sw T s loop x p out warns lefts a out₁ warns₁ lefts₁) (sym e) h
 
 pub grows-told : {s : List ℕ} {p q z : Place} → q ≡ p → Grows s q z → Grows s p z
 grows-told {s} {p} {q} {z} e h = subst (λ (x : Place). Grows s x z) e h

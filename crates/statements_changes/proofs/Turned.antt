@@ -7,6 +7,7 @@ use mathlib.Core.Path.{_≡_, refl, sym, ap, _∙_, subst}
 use mathlib.Core.Bool.{Bool, true, false}
 use mathlib.Core.List.{List, [], _∷_}
 use lib.ListN.{length}
+use Rattle.rules.specs.Rules.{Switches, off}
 use Rattle.image_fields.proofs.Tests.{false-true}
 use Rattle.tables.specs.Tables.{Tables}
 use Rattle.rules.specs.State.{State as Status}
@@ -42,8 +43,8 @@ use Rattle.statements_changes.proofs.Steady.{next-there}
 -- what the start of a scan leaves
 abbrev pub Began : List ℕ → ℕ → List ℕ → Cursor → List ℕ → Cursor → Type 0
 Began s left ns c ns′ r =
-    ((T : Tables) (loop : Option ℕ) (all : ℕ) (σ₀ : Scope Status) (p₀ : Place) (m₀ : Memory) (σ : Scope Status) (out errs warns lefts : List ℕ)
-    → Stood T s left (12 - left) loop all σ₀ p₀ m₀ ns c σ (memory out errs warns lefts) → Stood T s left (12 - left) loop all σ₀ p₀ m₀ ns′ r σ (memory out errs warns lefts))
+    ((sw : Switches) (T : Tables) (loop : Option ℕ) (all : ℕ) (σ₀ : Scope Status) (p₀ : Place) (m₀ : Memory) (σ : Scope Status) (out errs warns lefts : List ℕ)
+    → Stood sw T s left (12 - left) loop all σ₀ p₀ m₀ ns c σ (memory out errs warns lefts) → Stood sw T s left (12 - left) loop all σ₀ p₀ m₀ ns′ r σ (memory out errs warns lefts))
     × Steady s left ns′ r × (r .begun ≡ true) × (r .left ≡ c .left) × (length ns′ ≡ 26) × (ahead s r ≤ ahead s c) × (r .place ≡ c .place)
 
 module _ (s : List ℕ) (left : ℕ) (ns : List ℕ) (c : Cursor) (st : Steady s left ns c) where
@@ -54,7 +55,7 @@ module _ (s : List ℕ) (left : ℕ) (ns : List ℕ) (c : Cursor) (st : Steady s
         let there = next-there s left (c .left) (c .place .at) (st .there) some in
         let f = frontAt s (c .place .at) in
         let le : f .first ≤ length s = front-inside s left (c .place .at) there f refl in (
-          λ T loop all σ₀ p₀ m₀ σ out errs warns lefts g. stood-begin T s left (12 - left) loop all σ₀ p₀ m₀ ns c σ out errs warns lefts g some off free ns′ eo,
+          λ sw T loop all σ₀ p₀ m₀ σ out errs warns lefts g. stood-begin sw T s left (12 - left) loop all σ₀ p₀ m₀ ns c σ out errs warns lefts g some off free ns′ eo,
           record {
             inside = st .inside;
             there = st .there;
@@ -115,12 +116,12 @@ module _ (s : List ℕ) (left : ℕ) (ns : List ℕ) (c : Cursor) (st : Steady s
       go true h = let q = st .within h .free in let z : _≡_ {A = ℕ} 0 1 = cc in absurd (omega arith)
       go false h = h
 
-  pub owed-after : (n p : ℕ) → c .taken ≡ Called n p → (T : Tables) (loop : Option ℕ) (all : ℕ) (σ₀ : Scope Status) (p₀ : Place) (m₀ : Memory) (σ : Scope Status) (m : Memory)
-      → Stood T s left (12 - left) loop all σ₀ p₀ m₀ ns c σ m → (r : Came) → r ≡ record { cursor = betweenOf (c .left) (c .place) Nobody; turn = Mark n 1 p false }
-      → After T s left (12 - left) loop all σ₀ p₀ m₀ ns (r .cursor) σ m (r .turn)
-  owed-after n p e T loop all σ₀ p₀ m₀ σ m g r er =
+  pub owed-after : (n p : ℕ) → c .taken ≡ Called n p → (sw : Switches) (T : Tables) (loop : Option ℕ) (all : ℕ) (σ₀ : Scope Status) (p₀ : Place) (m₀ : Memory) (σ : Scope Status) (m : Memory)
+      → Stood sw T s left (12 - left) loop all σ₀ p₀ m₀ ns c σ m → (r : Came) → r ≡ record { cursor = betweenOf (c .left) (c .place) Nobody; turn = Mark n 1 p false }
+      → After sw T s left (12 - left) loop all σ₀ p₀ m₀ ns (r .cursor) σ m (r .turn)
+  owed-after n p e sw T loop all σ₀ p₀ m₀ σ m g r er =
       let l = g .between (called-between e) in
-      let k = subst (λ (x : Named). LeadsAll T s left (12 - left) loop all σ₀ p₀ m₀ (c .left) (takenIn x σ) (c .place) m) e l in
+      let k = subst (λ (x : Named). LeadsAll sw T s left (12 - left) loop all σ₀ p₀ m₀ (c .left) (takenIn x σ) (c .place) m) e l in
       rw er (record { between = λ h. k; within = λ h. false-true h })
 
   pub owed-fit : (n p : ℕ) → c .taken ≡ Called n p → (r : Came) → r ≡ record { cursor = betweenOf (c .left) (c .place) Nobody; turn = Mark n 1 p false } → Fit s left ns (r .cursor) (r .turn)
@@ -136,11 +137,11 @@ module _ (s : List ℕ) (left : ℕ) (ns : List ℕ) (c : Cursor) (st : Steady s
       go true h = let q = st .within h .some in absurd (omega arith)
       go false h = h
 
-  pub over-after : c .taken ≡ Nobody → c .left ≡ 0 → (T : Tables) (loop : Option ℕ) (all : ℕ) (σ₀ : Scope Status) (p₀ : Place) (m₀ : Memory) (σ : Scope Status) (m : Memory)
-      → Stood T s left (12 - left) loop all σ₀ p₀ m₀ ns c σ m → LeadsAll T s left (12 - left) loop all σ₀ p₀ m₀ 0 σ (c .place) m
-  over-after free e T loop all σ₀ p₀ m₀ σ m g =
-      subst (λ (k : ℕ). LeadsAll T s left (12 - left) loop all σ₀ p₀ m₀ k σ (c .place) m) e
-      (subst (λ (x : Named). LeadsAll T s left (12 - left) loop all σ₀ p₀ m₀ (c .left) (takenIn x σ) (c .place) m) free (g .between (none-between e)))
+  pub over-after : c .taken ≡ Nobody → c .left ≡ 0 → (sw : Switches) (T : Tables) (loop : Option ℕ) (all : ℕ) (σ₀ : Scope Status) (p₀ : Place) (m₀ : Memory) (σ : Scope Status) (m : Memory)
+      → Stood sw T s left (12 - left) loop all σ₀ p₀ m₀ ns c σ m → LeadsAll sw T s left (12 - left) loop all σ₀ p₀ m₀ 0 σ (c .place) m
+  over-after free e sw T loop all σ₀ p₀ m₀ σ m g =
+      subst (λ (k : ℕ). LeadsAll sw T s left (12 - left) loop all σ₀ p₀ m₀ k σ (c .place) m) e
+      (subst (λ (x : Named). LeadsAll sw T s left (12 - left) loop all σ₀ p₀ m₀ (c .left) (takenIn x σ) (c .place) m) free (g .between (none-between e)))
 
   -- its errors are within bounds there
   pub over-fit : c .left ≡ 0 → Fit s left ns c Over
@@ -162,10 +163,10 @@ within-as l n a e f = e ∙ ap (withinOf l n a) f
 pub steady-as : {s : List ℕ} {left : ℕ} {ns : List ℕ} {w y : Cursor} → w ≡ y → Steady s left ns y → Steady s left ns w
 steady-as {s} {left} {ns} e st = subst (Steady s left ns) (sym e) st
 
-pub stood-as : {T : Tables} {s : List ℕ} {left d : ℕ} {loop : Option ℕ} {all : ℕ} {σ₀ : Scope Status} {p₀ : Place} {m₀ : Memory} {ns : List ℕ} {w y : Cursor} (σ : Scope Status) {m : Memory} (ch ch′ : Change)
-    → Stood T s left d loop all σ₀ p₀ m₀ ns y (applied ch σ) m → w ≡ y → ch ≡ ch′ → Stood T s left d loop all σ₀ p₀ m₀ ns w (applied ch′ σ) m
-stood-as {T} {s} {left} {d} {loop} {all} {σ₀} {p₀} {m₀} {ns} {w} {y} σ {m} ch ch′ g e f =
-    subst (λ (x : Change). Stood T s left d loop all σ₀ p₀ m₀ ns w (applied x σ) m) f (subst (λ (x : Cursor). Stood T s left d loop all σ₀ p₀ m₀ ns x (applied ch σ) m) (sym e) g)
+pub stood-as : {sw : Switches} {T : Tables} {s : List ℕ} {left d : ℕ} {loop : Option ℕ} {all : ℕ} {σ₀ : Scope Status} {p₀ : Place} {m₀ : Memory} {ns : List ℕ} {w y : Cursor} (σ : Scope Status) {m : Memory} (ch ch′ : Change)
+    → Stood sw T s left d loop all σ₀ p₀ m₀ ns y (applied ch σ) m → w ≡ y → ch ≡ ch′ → Stood sw T s left d loop all σ₀ p₀ m₀ ns w (applied ch′ σ) m
+stood-as {sw} {T} {s} {left} {d} {loop} {all} {σ₀} {p₀} {m₀} {ns} {w} {y} σ {m} ch ch′ g e f =
+    subst (λ (x : Change). Stood sw T s left d loop all σ₀ p₀ m₀ ns w (applied x σ) m) f (subst (λ (x : Cursor). Stood sw T s left d loop all σ₀ p₀ m₀ ns x (applied ch σ) m) (sym e) g)
 
 -- turns that are something
 pub no-mark : (n k p : ℕ) (o : Bool) → Mark n k p o ≡ Nothing → ⊥
@@ -178,7 +179,7 @@ pub marks-something : (c : Cursor) (n k p : ℕ) (o : Bool) (r : Came) → r ≡
 marks-something c n k p o r er e = no-mark n k p o (sym (ap (λ (x : Came). x .turn) er) ∙ e)
 
 -- what the loop over statements keeps
-module _ (s tb : List ℕ) (left : ℕ) (ln lt lb : List ℕ) (at : ℕ → Status) (n mark base : ℕ) (ns₀ : List ℕ) (c₀ : Cursor) (out₀ errs₀ warns₀ lefts₀ : List ℕ) where
+module _ (sw : Switches) (s tb : List ℕ) (left : ℕ) (ln lt lb : List ℕ) (at : ℕ → Status) (n mark base : ℕ) (ns₀ : List ℕ) (c₀ : Cursor) (out₀ errs₀ warns₀ lefts₀ : List ℕ) where
   pub record Turning (ns : List ℕ) (c : Cursor) (out errs warns lefts : List ℕ) : Type 0 where
     pub steady : Steady s left ns c
     pub room : length ns ≡ 26
@@ -186,15 +187,15 @@ module _ (s tb : List ℕ) (left : ℕ) (ln lt lb : List ℕ) (at : ℕ → Stat
     pub grown : Grows s (retold (c₀ .place) 0) (retold (c .place) 0)
     pub lent : (length out ≡ length out₀) × (length errs ≡ length errs₀) × (length warns ≡ length warns₀) × (length lefts ≡ length lefts₀)
     pub stood : (T : Tables) → Says s tb T → (ld : List ℕ) (σ : Scope Status) (loop : Option ℕ) → Lends T mark loop base ln lt ld lb at n σ → (all : ℕ) (σ₀ : Scope Status) (p₀ : Place) (m₀ : Memory)
-        → Stood T s left (12 - left) loop all σ₀ p₀ m₀ ns₀ c₀ σ (memory out₀ errs₀ warns₀ lefts₀) → Stood T s left (12 - left) loop all σ₀ p₀ m₀ ns c σ (memory out errs warns lefts)
+        → Stood sw T s left (12 - left) loop all σ₀ p₀ m₀ ns₀ c₀ σ (memory out₀ errs₀ warns₀ lefts₀) → Stood sw T s left (12 - left) loop all σ₀ p₀ m₀ ns c σ (memory out errs warns lefts)
 
   pub turning-start : Steady s left ns₀ c₀ → length ns₀ ≡ 26 → Turning ns₀ c₀ out₀ errs₀ warns₀ lefts₀
   turning-start st room = record { steady = st; room = room; less = omega arith; grown = grows-none (st .inside .inside); lent = (refl, refl, refl, refl); stood = λ T sy ld σ loop h all σ₀ p₀ m₀ g. g }
 
 -- nothing was to be done
-pub nothing-stood : (T : Tables) (s : List ℕ) (left d : ℕ) (loop : Option ℕ) (all : ℕ) (σ₀ : Scope Status) (p₀ : Place) (m₀ : Memory) (ns : List ℕ) (c : Cursor) (σ : Scope Status) (m : Memory) (t : Turn) → t ≡ Nothing
-    → After T s left d loop all σ₀ p₀ m₀ ns c σ m t → Stood T s left d loop all σ₀ p₀ m₀ ns c σ m
-nothing-stood T s left d loop all σ₀ p₀ m₀ ns c σ m t e a = subst (After T s left d loop all σ₀ p₀ m₀ ns c σ m) e a
+pub nothing-stood : (sw : Switches) (T : Tables) (s : List ℕ) (left d : ℕ) (loop : Option ℕ) (all : ℕ) (σ₀ : Scope Status) (p₀ : Place) (m₀ : Memory) (ns : List ℕ) (c : Cursor) (σ : Scope Status) (m : Memory) (t : Turn) → t ≡ Nothing
+    → After sw T s left d loop all σ₀ p₀ m₀ ns c σ m t → Stood sw T s left d loop all σ₀ p₀ m₀ ns c σ m
+nothing-stood sw T s left d loop all σ₀ p₀ m₀ ns c σ m t e a = subst (After sw T s left d loop all σ₀ p₀ m₀ ns c σ m) e a
 
 pub nothing-steady : (s : List ℕ) (left : ℕ) (ns : List ℕ) (c : Cursor) (t : Turn) → t ≡ Nothing → Fit s left ns c t → Steady s left ns c
 nothing-steady s left ns c t e f = subst (Fit s left ns c) e f

@@ -11,7 +11,7 @@ use Rattle.image_body.specs.Expr.{Scope as Reading, Exprs}
 use Rattle.image_body.specs.Stmt.{Tree, stmtsAt}
 use Rattle.rules.specs.State.{State as Status}
 use Rattle.rules.specs.Stack.{mark, Stack as Scope}
-use Rattle.rules.specs.Rules.{declared, states, register}
+use Rattle.rules.specs.Rules.{declared, states, register, Switches, off}
 use Rattle.rules.specs.Walk.{tooMany, walkFault}
 use Rattle.expressions_steps.specs.Scan.{Stage, Stacked, Ready, fuel, rootOf, topOf}
 use Rattle.expressions_steps.specs.declared.Open.{Open}
@@ -62,7 +62,7 @@ abbrev pub cameOf : ℕ → ℕ → Place → Change → Named → Came
 cameOf tag left p ch taken =
     cond (blocked tag) (record { cursor = betweenOf left p Nobody; turn = Blocks tag }) (record { cursor = betweenOf left p taken; turn = turnOf ch })
 
-module _ (T : Tables) (s : List ℕ) (left d : ℕ) (loop : Option ℕ) (all : ℕ) (σ₀ : Scope Status) (p₀ : Place) (m₀ : Memory) where
+module _ (sw : Switches) (T : Tables) (s : List ℕ) (left d : ℕ) (loop : Option ℕ) (all : ℕ) (σ₀ : Scope Status) (p₀ : Place) (m₀ : Memory) where
   -- the values of the statement at the place are scanned: the locals, the errors and the output when that began, and how it went on from there
   pub record Midst (ns : List ℕ) (c : Cursor) (σ : Scope Status) (m : Memory) : Type 0 where
     pub old : Scope Status
@@ -71,30 +71,30 @@ module _ (T : Tables) (s : List ℕ) (left d : ℕ) (loop : Option ℕ) (all : �
     pub out : List ℕ
     pub os : List Open
     pub some : 0 < c .left
-    pub leads : LeadsAll T s left d loop all σ₀ p₀ m₀ (c .left) old (retold (c .place) told) (memory out errs (m .warns) (m .lefts))
+    pub leads : LeadsAll sw T s left d loop all σ₀ p₀ m₀ (c .left) old (retold (c .place) told) (memory out errs (m .warns) (m .lefts))
     pub root : topOf os 1 ≡ rootOf (frontAt s (c .place .at) .values)
     pub onward : Onward T s os 1 (frontAt s (c .place .at) .first) old (c .place .paged) errs out told (opens ns) (c .nodes) (c .at) σ (m .errs) (m .out) (c .place .errors)
 
   -- the walk of all statements has led to the cursor, with the locals σ
   pub record Stood (ns : List ℕ) (c : Cursor) (σ : Scope Status) (m : Memory) : Type 0 where
-    pub between : c .begun ≡ false → LeadsAll T s left d loop all σ₀ p₀ m₀ (c .left) (takenIn (c .taken) σ) (c .place) m
+    pub between : c .begun ≡ false → LeadsAll sw T s left d loop all σ₀ p₀ m₀ (c .left) (takenIn (c .taken) σ) (c .place) m
     pub within : c .begun ≡ true → Midst ns c σ m
 
   -- all statements have that fault
   abbrev pub Faulty : ℕ → Type 0
-  Faulty k = (t : Reading) → t .exprDepth ≡ 24 → (c : Tree) (end : ℕ) → stmtsAt t s left all (p₀ .at) ≡ ok c end → k ≡ numberOf (walkFault version1 T c d σ₀)
+  Faulty k = (t : Reading) → t .exprDepth ≡ 24 → (c : Tree) (end : ℕ) → stmtsAt t s left all (p₀ .at) ≡ ok c end → k ≡ numberOf (walkFault version1 sw T c d σ₀)
 
   -- what holds once the stack has done what it must
   abbrev pub After : List ℕ → Cursor → Scope Status → Memory → Turn → Type 0
   After ns c σ m Nothing = Stood ns c σ m
-  After ns c σ m Over = LeadsAll T s left d loop all σ₀ p₀ m₀ 0 σ (c .place) m
+  After ns c σ m Over = LeadsAll sw T s left d loop all σ₀ p₀ m₀ 0 σ (c .place) m
   After ns c σ m (Mark n k p o) = Stood ns c (mark n (put o (said k (p ∷ []))) σ) m
   After ns c σ m (Register n t p) =
-      (tooMany version1 (register states (declared d p n t) σ) ≡ none → Stood ns c (register states (declared d p n t) σ) m)
-      × (0 < numberOf (tooMany version1 (register states (declared d p n t) σ)) → Faulty (numberOf (tooMany version1 (register states (declared d p n t) σ))))
+      (tooMany version1 (register (states off) (declared d p n t) σ) ≡ none → Stood ns c (register (states off) (declared d p n t) σ) m)
+      × (0 < numberOf (tooMany version1 (register (states off) (declared d p n t) σ)) → Faulty (numberOf (tooMany version1 (register (states off) (declared d p n t) σ))))
   After ns c σ m (Blocks tag) =
-      (w : Walked) (m′ : Memory) → TagWalks T s left d loop tag σ (c .place) m w m′
-      → (0 < w .fault → StmtsWalk T s left d loop all σ₀ p₀ m₀ w m′) × (w .fault ≤ 0 → LeadsAll T s left d loop all σ₀ p₀ m₀ (c .left) (w .locals) (w .place) m′)
+      (w : Walked) (m′ : Memory) → TagWalks sw T s left d loop tag σ (c .place) m w m′
+      → (0 < w .fault → StmtsWalk sw T s left d loop all σ₀ p₀ m₀ w m′) × (w .fault ≤ 0 → LeadsAll sw T s left d loop all σ₀ p₀ m₀ (c .left) (w .locals) (w .place) m′)
 
 -- what the code is given of the values that are scanned: statements were read at the place; the scan can go on to their end
 pub record Begun (s ns : List ℕ) (c : Cursor) : Type 0 where

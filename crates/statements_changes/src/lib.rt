@@ -8,6 +8,7 @@ ghost use Prim.Native.Nat.{ℕ, _+_, _-_, _≤_, _<_};
 ghost use lib.ListN.{length};
 ghost use Rattle.tables.specs.Tables.{Tables};
 ghost use Rattle.tables_lookup.specs.Lent.{Lent, Says};
+ghost use Rattle.rules.specs.Rules.{Switches, switchesOf};
 ghost use Rattle.rules.specs.State.{State as Status};
 ghost use Rattle.rules.specs.Stack.{Stack as Scope};
 ghost use Rattle.statements_acts.specs.Act.{Grows};
@@ -161,8 +162,8 @@ fn acted<'a>(
     ensures { λ r. ⌜ ((T : Tables) → Says (now (s .entry)) (now (tb .entry)) T
         → (ld : List ℕ) (at : ℕ → Status) (σ : Scope Status) (loop : Option ℕ) → Lends T (env .mark) loop (env .base) (now (ln .entry)) (now (lt .entry)) ld (now (lb .entry)) at (env .locals) σ
         → (all : ℕ) (σ₀ : Scope Status) (p₀ : Place) (m₀ : Memory) (nodes errs : List ℕ)
-        → Stood T (now (s .entry)) (env .left) (12 - env .left) loop all σ₀ p₀ m₀ nodes c σ (memory (now (out .entry)) errs (now (warns .entry)) (now (lefts .entry)))
-        → After T (now (s .entry)) (env .left) (12 - env .left) loop all σ₀ p₀ m₀ nodes (r .cursor) σ (memory (now (out .exit)) errs (now (warns .exit)) (now (lefts .exit))) (r .turn)) ⌝ }
+        → Stood (switchesOf (env .switches)) T (now (s .entry)) (env .left) (12 - env .left) loop all σ₀ p₀ m₀ nodes c σ (memory (now (out .entry)) errs (now (warns .entry)) (now (lefts .entry)))
+        → After (switchesOf (env .switches)) T (now (s .entry)) (env .left) (12 - env .left) loop all σ₀ p₀ m₀ nodes (r .cursor) σ (memory (now (out .exit)) errs (now (warns .exit)) (now (lefts .exit))) (r .turn)) ⌝ }
     ensures { λ r. ⌜ ((nodes : List ℕ) → Fit (now (s .entry)) (env .left) nodes (r .cursor) (r .turn)) × (r .cursor .left + 1 ≡ c .left) × (r .cursor .begun ≡ false)
         × Grows (now (s .entry)) (retold (c .place) 0) (retold (r .cursor .place) 0) ⌝ }
 {
@@ -173,8 +174,9 @@ fn acted<'a>(
     let n = env.locals;
     let m = env.mark;
     let base = env.base;
+    let w = env.switches;
     let q = told(p, 0);
-    let a = statements_acts::statement(s, tb, ln, lt, lb, n, m, base, q, end, out, warns, lefts);
+    let a = statements_acts::statement(s, tb, ln, lt, lb, n, m, base, w, q, end, out, warns, lefts);
     let y = a.place;
     let z = told(y, p.errors);
     let change = a.change;
@@ -198,8 +200,8 @@ fn owed(c: Cursor, name: u16, span: u32) -> Came
 fn due(c: Cursor) -> Came
     ensures { λ r. ⌜ ((s : List ℕ) (left : ℕ) (nodes : List ℕ) → Steady s left nodes c → Fit s left nodes (r .cursor) (r .turn)
         × (r .turn ≡ Nothing → (c .taken ≡ Nobody) × (0 < c .left)) × ((r .turn ≡ Nothing → ⊥) → (r .turn ≡ Over → ⊥) → ahead s (r .cursor) < ahead s c)
-        × ((T : Tables) (loop : Option ℕ) (all : ℕ) (σ₀ : Scope Status) (p₀ : Place) (m₀ : Memory) (σ : Scope Status) (m : Memory)
-        → Stood T s left (12 - left) loop all σ₀ p₀ m₀ nodes c σ m → After T s left (12 - left) loop all σ₀ p₀ m₀ nodes (r .cursor) σ m (r .turn))) ⌝ }
+        × ((sw : Switches) (T : Tables) (loop : Option ℕ) (all : ℕ) (σ₀ : Scope Status) (p₀ : Place) (m₀ : Memory) (σ : Scope Status) (m : Memory)
+        → Stood sw T s left (12 - left) loop all σ₀ p₀ m₀ nodes c σ m → After sw T s left (12 - left) loop all σ₀ p₀ m₀ nodes (r .cursor) σ m (r .turn))) ⌝ }
     ensures { λ r. ⌜ r .cursor .place ≡ c .place ⌝ }
 {
     let taken = c.taken;
@@ -221,9 +223,9 @@ fn due(c: Cursor) -> Came
 // The scan of the values of the next statement begins, if it has not.
 fn begun(s: &[u8], left: usize, nodes: &mut [u64; 26], c: Cursor) -> Cursor
     requires { ⌜ Steady (now s) left (now nodes) c × (c .taken ≡ Nobody) × (0 < c .left) × (length (now nodes) ≡ 26) ⌝ }
-    ensures { λ r. ⌜ ((T : Tables) (loop : Option ℕ) (all : ℕ) (σ₀ : Scope Status) (p₀ : Place) (m₀ : Memory) (σ : Scope Status) (out errs warns lefts : List ℕ)
-        → Stood T (now (s .entry)) left (12 - left) loop all σ₀ p₀ m₀ (now (nodes .entry)) c σ (memory out errs warns lefts)
-        → Stood T (now (s .entry)) left (12 - left) loop all σ₀ p₀ m₀ (now (nodes .exit)) r σ (memory out errs warns lefts))
+    ensures { λ r. ⌜ ((sw : Switches) (T : Tables) (loop : Option ℕ) (all : ℕ) (σ₀ : Scope Status) (p₀ : Place) (m₀ : Memory) (σ : Scope Status) (out errs warns lefts : List ℕ)
+        → Stood sw T (now (s .entry)) left (12 - left) loop all σ₀ p₀ m₀ (now (nodes .entry)) c σ (memory out errs warns lefts)
+        → Stood sw T (now (s .entry)) left (12 - left) loop all σ₀ p₀ m₀ (now (nodes .exit)) r σ (memory out errs warns lefts))
         × Steady (now (s .entry)) left (now (nodes .exit)) r × (r .begun ≡ true) × (r .left ≡ c .left) × (length (now (nodes .exit)) ≡ 26)
         × (ahead (now (s .entry)) r ≤ ahead (now (s .entry)) c) × (r .place ≡ c .place) ⌝ }
 {
@@ -252,12 +254,12 @@ fn scanned<'a>(
 ) -> Came
     requires { ⌜ Lent (now s) (now tb) × AllKept (now lk) (now lf) (now rows) (env .cur) (env .width) (env .locals)
         × Steady (now s) (env .left) (now nodes) c × (c .begun ≡ true) ⌝ }
-    ensures { λ r. ⌜ ((T : Tables) → Says (now (s .entry)) (now (tb .entry)) T
+    ensures { λ r. ⌜ ((sw : Switches) (T : Tables) → Says (now (s .entry)) (now (tb .entry)) T
         → (types depths births : List ℕ) (σ : Scope Status)
         → σ ≡ lent (now (ln .entry)) types depths births (stateIn (now (lk .entry)) (now (lf .entry)) (now (rows .entry)) (env .cur) (env .width)) (env .locals)
         → (loop : Option ℕ) (all : ℕ) (σ₀ : Scope Status) (p₀ : Place) (m₀ : Memory) (warns lefts : List ℕ)
-        → Stood T (now (s .entry)) (env .left) (12 - env .left) loop all σ₀ p₀ m₀ (now (nodes .entry)) c σ (memory (now (out .entry)) (now (errs .entry)) warns lefts)
-        → After T (now (s .entry)) (env .left) (12 - env .left) loop all σ₀ p₀ m₀ (now (nodes .exit)) (r .cursor) σ (memory (now (out .exit)) (now (errs .exit)) warns lefts) (r .turn)) ⌝ }
+        → Stood sw T (now (s .entry)) (env .left) (12 - env .left) loop all σ₀ p₀ m₀ (now (nodes .entry)) c σ (memory (now (out .entry)) (now (errs .entry)) warns lefts)
+        → After sw T (now (s .entry)) (env .left) (12 - env .left) loop all σ₀ p₀ m₀ (now (nodes .exit)) (r .cursor) σ (memory (now (out .exit)) (now (errs .exit)) warns lefts) (r .turn)) ⌝ }
     ensures { λ r. ⌜ Fit (now (s .entry)) (env .left) (now (nodes .exit)) (r .cursor) (r .turn) × (length (now (nodes .exit)) ≡ 26)
         × (r .turn ≡ Nothing → (r .cursor .begun ≡ true) × (r .cursor .nodes ≡ 0) × (r .cursor .left ≡ c .left))
         × ((r .turn ≡ Nothing → ⊥) → ahead (now (s .entry)) (r .cursor) < ahead (now (s .entry)) c)
@@ -322,8 +324,8 @@ pub fn next_change<'a>(
         → (ld : List ℕ) (σ : Scope Status) (loop : Option ℕ)
         → Lends T (env .mark) loop (env .base) (now (ln .entry)) (now (lt .entry)) ld (now (lb .entry)) (stateIn (now (lk .entry)) (now (lf .entry)) (now (rows .entry)) (env .cur) (env .width)) (env .locals) σ
         → (all : ℕ) (σ₀ : Scope Status) (p₀ : Place) (m₀ : Memory)
-        → Stood T (now (s .entry)) (env .left) (12 - env .left) loop all σ₀ p₀ m₀ (now (nodes .entry)) cursor σ (memory (now (out .entry)) (now (errs .entry)) (now (warns .entry)) (now (lefts .entry)))
-        → After T (now (s .entry)) (env .left) (12 - env .left) loop all σ₀ p₀ m₀ (now (nodes .exit)) (r .cursor) σ (memory (now (out .exit)) (now (errs .exit)) (now (warns .exit)) (now (lefts .exit))) (r .turn)) ⌝ }
+        → Stood (switchesOf (env .switches)) T (now (s .entry)) (env .left) (12 - env .left) loop all σ₀ p₀ m₀ (now (nodes .entry)) cursor σ (memory (now (out .entry)) (now (errs .entry)) (now (warns .entry)) (now (lefts .entry)))
+        → After (switchesOf (env .switches)) T (now (s .entry)) (env .left) (12 - env .left) loop all σ₀ p₀ m₀ (now (nodes .exit)) (r .cursor) σ (memory (now (out .exit)) (now (errs .exit)) (now (warns .exit)) (now (lefts .exit))) (r .turn)) ⌝ }
     ensures { λ r. ⌜ Fit (now (s .entry)) (env .left) (now (nodes .exit)) (r .cursor) (r .turn) × (length (now (nodes .exit)) ≡ 26) × (r .turn ≡ Nothing → ⊥)
         × ((r .turn ≡ Over → ⊥) → ahead (now (s .entry)) (r .cursor) < ahead (now (s .entry)) cursor)
         × Grows (now (s .entry)) (retold (cursor .place) 0) (retold (r .cursor .place) 0) ⌝ }

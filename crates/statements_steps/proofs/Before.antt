@@ -25,10 +25,10 @@ use Rattle.statements_steps.proofs.Steps.{sure-step}
 -- what holds of every kind of statement holds of a statement of any tag
 module _ (P : Tree → Type 0) (c : Tree) (expr : (s : ℕ) (e : Expr) → P (exprStmt s e tt c)) (bound : (k : Bool) (s n t : ℕ) (e : Expr) → P (variable k s n t e c))
     (assigned : (s : ℕ) (e v : Expr) (t : ℕ) → P (assign s e v t tt c)) (returned : (s : ℕ) (e : Expr) (t : ℕ) → P (return s e t tt c))
-    (bare : (s t : ℕ) → P (bareReturn s t c)) (inner : (s : ℕ) (b : Tree) → P (block s b c))
+    (bare : (s t : ℕ) → P (bareReturn s t tt c)) (inner : (s : ℕ) (b : Tree) → P (block s b c))
     (both : (s : ℕ) (e : Expr) (ts : ℕ) (t : Tree) (us : ℕ) (u : Tree) → P (ifElse s e ts t us u c))
     (one : (s : ℕ) (e : Expr) (ts : ℕ) (t : Tree) → P (ifThen s e ts t c)) (loop : (s : ℕ) (e : Expr) (ts : ℕ) (t : Tree) → P (while s e ts t c))
-    (jumps : (k : Bool) (s : ℕ) → P (jump k s c)) where
+    (jumps : (k : Bool) (s : ℕ) → P (jump k s tt c)) where
   pick : (b : Bool) (u v : Tree) → P u → P v → P (cond b u v)
   pick true u v p q = p
   pick false u v p q = q
@@ -77,12 +77,12 @@ code-size (exprStmt s e y r) = let h = exprStmt-bytes s e y r in omega arith
 code-size (variable k s n t e r) = let h = variable-bytes k s n t e r in omega arith
 code-size (assign s e v t x r) = let h = assign-bytes s e v t x r in omega arith
 code-size (return s e t x r) = let h = return-bytes s e t x r in omega arith
-code-size (bareReturn s t r) = let h = bareReturn-bytes s t r in omega arith
+code-size (bareReturn s t x r) = let h = bareReturn-bytes s t x r in omega arith
 code-size (block s c r) = let h = block-bytes s c r in omega arith
 code-size (ifElse s e ts t us u r) = let h = ifElse-bytes s e ts t us u r in omega arith
 code-size (ifThen s e ts t r) = let h = ifThen-bytes s e ts t r in omega arith
 code-size (while s e ts t r) = let h = while-bytes s e ts t r in omega arith
-code-size (jump k s r) = let h = jump-bytes k s r in omega arith
+code-size (jump k s x r) = let h = jump-bytes k s x r in omega arith
 
 -- where a statement ends: behind its front and its blocks
 pub stmt-end : (s : List ℕ) → Bytes s → (t : Scope) (d at : ℕ) (x : Stmt) (next : ℕ) → stmtIn t s d at ≡ ok x next → (c : Tree)

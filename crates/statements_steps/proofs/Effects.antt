@@ -8,7 +8,7 @@ use Rattle.image_body.specs.Expr.{Expr, none, more}
 use Rattle.rules.specs.State.{State as Status}
 use Rattle.rules.specs.Stack.{Shape, shape, Stack as Scope}
 use Rattle.rules.specs.Effects.{raws, group, resolveAll, effects, assignEffects}
-use Rattle.rules.specs.Rules.{states, applyAll, evaluate, beforeAssign}
+use Rattle.rules.specs.Rules.{off, states, applyAll, evaluate, beforeAssign}
 use Rattle.rules.specs.Report.{reportAll}
 use Rattle.rules.proofs.ByTag.{resolve-append}
 use Rattle.expressions_scan.proofs.Values.{afterAll, toldAll}
@@ -23,14 +23,14 @@ module _ (T : Tables) where
   group-two Γ d v = resolve-append Γ (raws T d) (raws T v ++ []) ∙ ap (λ l. effects T Γ d ++ resolveAll Γ l) (append-nil (raws T v))
 
   module _ (σ : Scope Status) where
-    pub after-one : (e : Expr) → afterAll T (more e none) σ ≡ evaluate states T e σ
-    after-one e = ap (λ l. applyAll states l σ) (group-one (shape σ) e)
+    pub after-one : (e : Expr) → afterAll T (more e none) σ ≡ evaluate (states off) T e σ
+    after-one e = ap (λ l. applyAll (states off) l σ) (group-one (shape σ) e)
 
     pub told-one : (e : Expr) → toldAll T (more e none) σ ≡ reportAll (effects T (shape σ) e) σ
     told-one e = ap (λ l. reportAll l σ) (group-one (shape σ) e)
 
-    pub after-two : (d v : Expr) → afterAll T (more d (more v none)) σ ≡ beforeAssign states T d v σ
-    after-two d v = ap (λ l. applyAll states l σ) (group-two (shape σ) d v)
+    pub after-two : (d v : Expr) → afterAll T (more d (more v none)) σ ≡ beforeAssign (states off) T d v σ
+    after-two d v = ap (λ l. applyAll (states off) l σ) (group-two (shape σ) d v)
 
     pub told-two : (d v : Expr) → toldAll T (more d (more v none)) σ ≡ reportAll (assignEffects T (shape σ) d v) σ
     told-two d v = ap (λ l. reportAll l σ) (group-two (shape σ) d v)

@@ -7,13 +7,12 @@ use mathlib.Core.List.{List, [], _∷_, _++_}
 use mathlib.Core.Option.{Option, some}
 use Rattle.tables.specs.Tables.{Tables}
 use Rattle.image_body.specs.Stmt.{Tree, done, exprStmt, variable, assign, return, bareReturn, block, ifElse, ifThen, while, jump}
-use Rattle.rules.specs.Expr.{nobody}
 use Rattle.rules.specs.Questions.{auto}
 use Rattle.rules.specs.State.{State as Status, isAlive, alive, gone, deleted, moved, consumed}
 use Rattle.rules.specs.Stack.{Static, Local, local, lookup, Stack as Scope}
 use Rattle.rules.specs.Effects.{Effect, use′, kill, hand, badMove, globalMove}
-use Rattle.rules.specs.Rules.{atReturn, atJump, concerns, gather, states, apply}
-use Rattle.rules.specs.Report.{Report, error, warning, left, badUse, useOf, reportOf, reportAll, unused, leftAt, errors, warnings, lefts}
+use Rattle.rules.specs.Rules.{Switches, off, on, Place, atBareReturn, atJump, concerns, gather, states, apply}
+use Rattle.rules.specs.Report.{Report, error, warning, left, badUse, useOf, reportOf, reportAll, unused, leftAt, leftBehind, errors, warnings, lefts}
 use Rattle.statements_steps.specs.Statement.{wrapped, frontReports}
 
 pub errors-append : (xs ys : List Report) → errors (xs ++ ys) ≡ errors xs ++ errors ys
@@ -68,34 +67,38 @@ of-errors (globalMove s g) σ = (refl, refl, refl)
 -- effects report only errors
 pub all-errors : (es : List Effect) (σ : Scope Status) → Errors (reportAll es σ)
 all-errors [] σ = (refl, refl, refl)
-all-errors (e ∷ es) σ = errors-both (reportOf e σ) (reportAll es (apply states e σ)) (of-errors e σ) (all-errors es (apply states e σ))
+all-errors (e ∷ es) σ = errors-both (reportOf e σ) (reportAll es (apply (states off) e σ)) (of-errors e σ) (all-errors es (apply (states off) e σ))
 
 -- only entries of what is left behind
 abbrev pub Lefts : List Report → Type 0
 Lefts xs = (errors xs ≡ []) × (warnings xs ≡ []) × (lefts xs ≡ xs)
 
-pub only-left : (T : Tables) (q : Static → Bool) (s : ℕ) (σ : Scope Status) → Lefts (gather states T q (leftAt s) σ)
+pub only-left : (T : Tables) (q : Static → Bool) (s : ℕ) (σ : Scope Status) → Lefts (gather (states off) T q (leftAt s) σ)
 only-left T q s [] = (refl, refl, refl)
 only-left T q s (local x a ∷ σ) = go (q x && isAlive a && auto T (x .ty)) (only-left T q s σ)
   where
-    go : (b : Bool) → Lefts (gather states T q (leftAt s) σ) → Lefts (cond b (leftAt s x ∷ gather states T q (leftAt s) σ) (gather states T q (leftAt s) σ))
+    go : (b : Bool) → Lefts (gather (states off) T q (leftAt s) σ) → Lefts (cond b (leftAt s x ∷ gather (states off) T q (leftAt s) σ) (gather (states off) T q (leftAt s) σ))
     go true o = (o .0, o .1, ap (λ (z : List Report). leftAt s x ∷ z) (o .2))
     go false o = o
 
+pub left-only : (T : Tables) (made : Bool) (s : ℕ) (pl : Place) (σ : Scope Status) → Lefts (leftBehind T made s pl σ)
+left-only T true s pl σ = (refl, refl, refl)
+left-only T false s pl σ = only-left T (λ x. concerns on pl x) s σ
+
 -- a front reports none
-pub front-errors : (T : Tables) (c : Tree) (l : Option ℕ) (at : ℕ) (σ : Scope Status) → errors (frontReports T c l at σ) ≡ []
-front-errors T (done x) l at σ = refl
-front-errors T (exprStmt s e y r) l at σ = go (wrapped T (exprStmt s e y r))
+pub front-errors : (w : Switches) (T : Tables) (c : Tree) (l : Option ℕ) (at : ℕ) (σ : Scope Status) → errors (frontReports w T c l at σ) ≡ []
+front-errors w T (done x) l at σ = refl
+front-errors w T (exprStmt s e y r) l at σ = go (wrapped T (exprStmt s e y r))
   where
     go : (b : Bool) → errors (unused b s e at) ≡ []
     go true = refl
     go false = refl
-front-errors T (variable k s n t e r) l at σ = refl
-front-errors T (assign s e v t x r) l at σ = refl
-front-errors T (return s e t x r) l at σ = refl
-front-errors T (bareReturn s t r) l at σ = only-left T (λ x. concerns (atReturn nobody) x) s σ .0
-front-errors T (block s c r) l at σ = refl
-front-errors T (ifElse s e ts t us u r) l at σ = refl
-front-errors T (ifThen s e ts t r) l at σ = refl
-front-errors T (while s e ts t r) l at σ = refl
-front-errors T (jump k s r) l at σ = only-left T (λ x. concerns (atJump l) x) s σ .0
+front-errors w T (variable k s n t e r) l at σ = refl
+front-errors w T (assign s e v t x r) l at σ = refl
+front-errors w T (return s e t x r) l at σ = refl
+front-errors w T (bareReturn s t x r) l at σ = left-only T (w .bareReturns) s atBareReturn σ .0
+front-errors w T (block s c r) l at σ = refl
+front-errors w T (ifElse s e ts t us u r) l at σ = refl
+front-errors w T (ifThen s e ts t r) l at σ = refl
+front-errors w T (while s e ts t r) l at σ = refl
+front-errors w T (jump k s x r) l at σ = left-only T (w .jumps) s (atJump l) σ .0

@@ -20,7 +20,7 @@ use Rattle.rules.specs.Expr.{view}
 use Rattle.rules.specs.State.{State as Status}
 use Rattle.rules.specs.Stack.{local, shape, Stack as Scope}
 use Rattle.rules.specs.Effects.{deletedIn}
-use Rattle.rules.specs.Rules.{states}
+use Rattle.rules.specs.Rules.{Switches, off, states}
 use Rattle.rules.specs.Walk.{tooMany}
 use Rattle.rules.proofs.Shapes.{shape-all, shape-assign}
 use Rattle.statements_steps.specs.Statement.{settle}
@@ -38,48 +38,48 @@ few-locals σ h = ap (λ (b : Bool). cond b (Option.some 12) Option.none) (le-lt
 same-length : (σ τ : Scope Status) → shape τ ≡ shape σ → length σ ≤ 64 → length τ ≤ 64
 same-length σ τ e h = let a = length-shape σ in let b = length-shape τ in let c = ap length e in omega arith
 
-module _ (T : Tables) where
-  pub blockless-own : (c : Tree) (d : ℕ) (l : Option ℕ) (at : ℕ) (σ : Scope Status) → blockless c ≡ true → blocksOwn T c d l at σ ≡ nothing
+module _ (w : Switches) (T : Tables) where
+  pub blockless-own : (c : Tree) (d : ℕ) (l : Option ℕ) (at : ℕ) (σ : Scope Status) → blockless c ≡ true → blocksOwn w T c d l at σ ≡ nothing
   blockless-own (done x) d l at σ h = refl
   blockless-own (exprStmt s e y r) d l at σ h = refl
   blockless-own (variable k s n t e r) d l at σ h = refl
   blockless-own (assign s e v t x r) d l at σ h = refl
   blockless-own (return s e t x r) d l at σ h = refl
-  blockless-own (bareReturn s t r) d l at σ h = refl
+  blockless-own (bareReturn s t x r) d l at σ h = refl
   blockless-own (block s c r) d l at σ h = false-true h
   blockless-own (ifElse s e ts t us u r) d l at σ h = false-true h
   blockless-own (ifThen s e ts t r) d l at σ h = false-true h
   blockless-own (while s e ts t r) d l at σ h = false-true h
-  blockless-own (jump k s r) d l at σ h = refl
+  blockless-own (jump k s x r) d l at σ h = refl
 
-  pub blockless-after : (c : Tree) (d : ℕ) (σ : Scope Status) → blockless c ≡ true → blocksAfter T c d σ ≡ settle T c d σ
+  pub blockless-after : (c : Tree) (d : ℕ) (σ : Scope Status) → blockless c ≡ true → blocksAfter w T c d σ ≡ settle T c d σ
   blockless-after (done x) d σ h = refl
   blockless-after (exprStmt s e y r) d σ h = refl
   blockless-after (variable k s n t e r) d σ h = refl
   blockless-after (assign s e v t x r) d σ h = refl
   blockless-after (return s e t x r) d σ h = refl
-  blockless-after (bareReturn s t r) d σ h = refl
+  blockless-after (bareReturn s t x r) d σ h = refl
   blockless-after (block s c r) d σ h = false-true h
   blockless-after (ifElse s e ts t us u r) d σ h = false-true h
   blockless-after (ifThen s e ts t r) d σ h = false-true h
   blockless-after (while s e ts t r) d σ h = false-true h
-  blockless-after (jump k s r) d σ h = refl
+  blockless-after (jump k s x r) d σ h = refl
 
   -- only a registration can be one too many
-  pub blockless-fault : (c : Tree) (d : ℕ) (σ : Scope Status) → blockless c ≡ true → length σ ≤ 64 → blocksFault T c d σ ≡ tooMany version1 (settle T c d σ)
+  pub blockless-fault : (c : Tree) (d : ℕ) (σ : Scope Status) → blockless c ≡ true → length σ ≤ 64 → blocksFault w T c d σ ≡ tooMany version1 (settle T c d σ)
   blockless-fault (done x) d σ h l = sym (few-locals σ l)
   blockless-fault (exprStmt s e y r) d σ h l =
-      sym (few-locals (settle T (exprStmt s e y r) d σ) (same-length σ (settle T (exprStmt s e y r) d σ) (shape-all states (deletedIn T (shape σ) (view e)) σ) l))
+      sym (few-locals (settle T (exprStmt s e y r) d σ) (same-length σ (settle T (exprStmt s e y r) d σ) (shape-all (states off) (deletedIn T (shape σ) (view e)) σ) l))
   blockless-fault (variable k s n t e r) d σ h l = refl
   blockless-fault (assign s e v t x r) d σ h l =
-      sym (few-locals (settle T (assign s e v t x r) d σ) (same-length σ (settle T (assign s e v t x r) d σ) (shape-assign states T e v σ) l))
+      sym (few-locals (settle T (assign s e v t x r) d σ) (same-length σ (settle T (assign s e v t x r) d σ) (shape-assign (states off) T e v σ) l))
   blockless-fault (return s e t x r) d σ h l = sym (few-locals σ l)
-  blockless-fault (bareReturn s t r) d σ h l = sym (few-locals σ l)
+  blockless-fault (bareReturn s t x r) d σ h l = sym (few-locals σ l)
   blockless-fault (block s c r) d σ h l = false-true h
   blockless-fault (ifElse s e ts t us u r) d σ h l = false-true h
   blockless-fault (ifThen s e ts t r) d σ h l = false-true h
   blockless-fault (while s e ts t r) d σ h l = false-true h
-  blockless-fault (jump k s r) d σ h l = sym (few-locals σ l)
+  blockless-fault (jump k s x r) d σ h l = sym (few-locals σ l)
 
 pub blockless-size : (c : Tree) → blockless c ≡ true → blocksSize c ≡ 0
 blockless-size (done x) h = refl
@@ -87,12 +87,12 @@ blockless-size (exprStmt s e y r) h = refl
 blockless-size (variable k s n t e r) h = refl
 blockless-size (assign s e v t x r) h = refl
 blockless-size (return s e t x r) h = refl
-blockless-size (bareReturn s t r) h = refl
+blockless-size (bareReturn s t x r) h = refl
 blockless-size (block s c r) h = false-true h
 blockless-size (ifElse s e ts t us u r) h = false-true h
 blockless-size (ifThen s e ts t r) h = false-true h
 blockless-size (while s e ts t r) h = false-true h
-blockless-size (jump k s r) h = refl
+blockless-size (jump k s x r) h = refl
 
 -- a statement of a tag that has no blocks
 less-cond : (b : Bool) (u v : Tree) → (b ≡ true → blockless u ≡ true) → blockless v ≡ true → blockless (cond b u v) ≡ true

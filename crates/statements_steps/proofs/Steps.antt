@@ -19,7 +19,7 @@ use Rattle.rules.specs.Expr.{Named, nobody, called, View, anIdent, aThis, aFiel
 use Rattle.rules.specs.State.{State as Status}
 use Rattle.rules.specs.Stack.{Shape, shape, pop, Stack as Scope}
 use Rattle.rules.specs.Effects.{Effect, group, resolveAll, effects, deletedIn, deletedBy, exprStmtEffects, takeOver, assignEffects}
-use Rattle.rules.specs.Rules.{Drop, dropOf, isDone, states, atReturn, atJump, declared, apply, applyAll, sureFrom, register, evaluate, afterExpr, afterVariable, beforeAssign, afterAssign, assignDrops, returnDrops, joins, merge, exit, decide}
+use Rattle.rules.specs.Rules.{Drop, dropOf, isDone, Switches, off, states, concerns, atBareReturn, atJump, declared, applyAll, sureFrom, register, evaluate, afterExpr, afterVariable, beforeAssign, afterAssign, assignDrops, returnDrops, bareReturnDrops, jumpDrops, joins, merge, exit, decide}
 use Rattle.rules.specs.Report.{Report, reportOf, reportAll, deleteNode, identNode, inserts, flatten, report, exprBytes, codeBytes, unused, leftBehind}
 use Rattle.rules.specs.Walk.{walkFault, tooMany, tooWide}
 use Rattle.rules.specs.Verdict.{countsFit}
@@ -84,12 +84,12 @@ sure-step (exprStmt s e y r) f h = refl
 sure-step (variable k s n t e r) f h = refl
 sure-step (assign s e v t x r) f h = refl
 sure-step (return s e t x r) f h = refl
-sure-step (bareReturn s t r) f h = refl
+sure-step (bareReturn s t x r) f h = refl
 sure-step (block s c r) f h = refl
 sure-step (ifElse s e ts t us u r) f h = refl
 sure-step (ifThen s e ts t r) f h = refl
 sure-step (while s e ts t r) f h = refl
-sure-step (jump k s r) f h = refl
+sure-step (jump k s x r) f h = refl
 
 two : (f g : ℕ → List Report) (x : List Report) {i i′ j j′ : ℕ} → i ≡ i′ → j ≡ j′ → x ++ (f i ++ g j) ≡ x ++ (f i′ ++ g j′)
 two f g x {i} {i′} {j} {j′} e h = ap (λ (k : ℕ). x ++ (f k ++ g j)) e ∙ ap (λ (k : ℕ). x ++ (f i′ ++ g k)) h
@@ -104,7 +104,7 @@ module _ (T : Tables) where
   no-values Γ = refl
 
   after-none : (σ : Scope Status) → afterAll T none σ ≡ σ
-  after-none σ = ap (λ (x : List Effect). applyAll states x σ) (no-values (shape σ))
+  after-none σ = ap (λ (x : List Effect). applyAll (states off) x σ) (no-values (shape σ))
 
   told-none : (σ : Scope Status) → toldAll T none σ ≡ []
   told-none σ = ap (λ (x : List Effect). reportAll x σ) (no-values (shape σ))
@@ -130,264 +130,277 @@ module _ (T : Tables) where
   deleted-silent Γ (aCall f) σ = refl
   deleted-silent Γ other σ = refl
 
-  pub expr-after : (e : Expr) (σ : Scope Status) → afterExpr states T e σ ≡ applyAll states (deletedIn T (shape (afterAll T (more e none) σ)) (view e)) (afterAll T (more e none) σ)
+  pub expr-after : (e : Expr) (σ : Scope Status) → afterExpr (states off) T e σ ≡ applyAll (states off) (deletedIn T (shape (afterAll T (more e none) σ)) (view e)) (afterAll T (more e none) σ)
   unfolding exprStmtEffects
   expr-after e σ =
       apply-append (effects T (shape σ) e) (deletedIn T (shape σ) (view e)) σ
-      ∙ ap (λ (x : List Effect). applyAll states x (evaluate states T e σ)) (deleted-same (shape σ) (shape (afterAll T (more e none) σ)) (view e))
-      ∙ ap (λ (τ : Scope Status). applyAll states (deletedIn T (shape (afterAll T (more e none) σ)) (view e)) τ) (sym (after-one T σ e))
+      ∙ ap (λ (x : List Effect). applyAll (states off) x (evaluate (states off) T e σ)) (deleted-same (shape σ) (shape (afterAll T (more e none) σ)) (view e))
+      ∙ ap (λ (τ : Scope Status). applyAll (states off) (deletedIn T (shape (afterAll T (more e none) σ)) (view e)) τ) (sym (after-one T σ e))
 
   pub variable-after : (d s n t : ℕ) (e : Expr) (σ : Scope Status)
-      → afterVariable states T (declared d s n t) e σ ≡ applyAll states (takeOver T (shape (afterAll T (more e none) σ)) n t e) (register states (declared d s n t) (afterAll T (more e none) σ))
+      → afterVariable (states off) T (declared d s n t) e σ ≡ applyAll (states off) (takeOver T (shape (afterAll T (more e none) σ)) n t e) (register (states off) (declared d s n t) (afterAll T (more e none) σ))
   variable-after d s n t e σ =
-      let g : shape σ ≡ shape (afterAll T (more e none) σ) = sym (shape-all states (resolveAll (shape σ) (group T false (more e none))) σ) in
-      ap (λ (Γ : Shape). applyAll states (takeOver T Γ n t e) (register states (declared d s n t) (evaluate states T e σ))) g
-      ∙ ap (λ (τ : Scope Status). applyAll states (takeOver T (shape (afterAll T (more e none) σ)) n t e) (register states (declared d s n t) τ)) (sym (after-one T σ e))
+      let g : shape σ ≡ shape (afterAll T (more e none) σ) = sym (shape-all (states off) (resolveAll (shape σ) (group T false (more e none))) σ) in
+      ap (λ (Γ : Shape). applyAll (states off) (takeOver T Γ n t e) (register (states off) (declared d s n t) (evaluate (states off) T e σ))) g
+      ∙ ap (λ (τ : Scope Status). applyAll (states off) (takeOver T (shape (afterAll T (more e none) σ)) n t e) (register (states off) (declared d s n t) τ)) (sym (after-one T σ e))
 
+module _ (w : Switches) (T : Tables) where
   -- the locals after a list of statements
-  pub exit-step : (c : Tree) (d : ℕ) (σ : Scope Status) → exit states T c d σ ≡ exit states T (restOf c) d (ownAfter T c d σ)
-  exit-step (done x) d σ = ap (pop d) (sym (after-none σ))
-  exit-step (exprStmt s e y r) d σ = ap (exit states T r d) (expr-after e σ)
-  exit-step (variable k s n t e r) d σ = ap (exit states T r d) (variable-after d s n t e σ)
-  exit-step (assign s e v t x r) d σ = ap (λ (τ : Scope Status). exit states T r d (afterAssign states T e v τ)) (sym (after-two T σ e v))
-  exit-step (return s e t x r) d σ = ap (exit states T r d) (sym (after-one T σ e))
-  exit-step (bareReturn s t r) d σ = ap (exit states T r d) (sym (after-none σ))
-  exit-step (block s c r) d σ = ap (λ (τ : Scope Status). exit states T r d (exit states T c (suc d) τ)) (sym (after-none σ))
+  pub exit-step : (c : Tree) (d : ℕ) (σ : Scope Status) → exit (states w) T c d σ ≡ exit (states w) T (restOf c) d (ownAfter w T c d σ)
+  exit-step (done x) d σ = ap (pop d) (sym (after-none T σ))
+  exit-step (exprStmt s e y r) d σ = ap (exit (states w) T r d) (expr-after T e σ)
+  exit-step (variable k s n t e r) d σ = ap (exit (states w) T r d) (variable-after T d s n t e σ)
+  exit-step (assign s e v t x r) d σ = ap (λ (τ : Scope Status). exit (states w) T r d (afterAssign (states w) T e v τ)) (sym (after-two T σ e v))
+  exit-step (return s e t x r) d σ = ap (exit (states w) T r d) (sym (after-one T σ e))
+  exit-step (bareReturn s t x r) d σ = ap (exit (states w) T r d) (sym (after-none T σ))
+  exit-step (block s c r) d σ = ap (λ (τ : Scope Status). exit (states w) T r d (exit (states w) T c (suc d) τ)) (sym (after-none T σ))
   exit-step (ifElse s e ts t us u r) d σ =
-      ap (λ (τ : Scope Status). exit states T r d (merge states (sureFrom t false) (sureFrom u false) τ (exit states T t (suc d) τ) (exit states T u (suc d) τ))) (sym (after-one T σ e))
-  exit-step (ifThen s e ts t r) d σ = ap (λ (τ : Scope Status). exit states T r d (merge states (sureFrom t false) false τ (exit states T t (suc d) τ) τ)) (sym (after-one T σ e))
-  exit-step (while s e ts t r) d σ = ap (λ (τ : Scope Status). exit states T r d (joins states (exit states T t (suc d) τ) τ)) (sym (after-one T σ e))
-  exit-step (jump k s r) d σ = ap (exit states T r d) (sym (after-none σ))
+      ap (λ (τ : Scope Status). exit (states w) T r d (merge (states w) (sureFrom t false) (sureFrom u false) τ (exit (states w) T t (suc d) τ) (exit (states w) T u (suc d) τ))) (sym (after-one T σ e))
+  exit-step (ifThen s e ts t r) d σ = ap (λ (τ : Scope Status). exit (states w) T r d (merge (states w) (sureFrom t false) false τ (exit (states w) T t (suc d) τ) τ)) (sym (after-one T σ e))
+  exit-step (while s e ts t r) d σ = ap (λ (τ : Scope Status). exit (states w) T r d (joins (states w) (exit (states w) T t (suc d) τ) τ)) (sym (after-one T σ e))
+  exit-step (jump k s x r) d σ = ap (exit (states w) T r d) (sym (after-none T σ))
 
   -- its fault
-  pub fault-step : (c : Tree) (d : ℕ) (σ : Scope Status) → walkFault version1 T c d σ ≡ orElse (ownFault T c d σ) (walkFault version1 T (restOf c) d (ownAfter T c d σ))
+  pub fault-step : (c : Tree) (d : ℕ) (σ : Scope Status) → walkFault version1 w T c d σ ≡ orElse (ownFault w T c d σ) (walkFault version1 w T (restOf c) d (ownAfter w T c d σ))
   unfolding walkFault orElse
   fault-step (done x) d σ = refl
-  fault-step (exprStmt s e y r) d σ = ap (walkFault version1 T r d) (expr-after e σ)
-  fault-step (variable k s n t e r) d σ = ap (λ (τ : Scope Status). orElse (tooMany version1 τ) (walkFault version1 T r d τ)) (variable-after d s n t e σ)
-  fault-step (assign s e v t x r) d σ = ap (λ (τ : Scope Status). walkFault version1 T r d (afterAssign states T e v τ)) (sym (after-two T σ e v))
-  fault-step (return s e t x r) d σ = ap (walkFault version1 T r d) (sym (after-one T σ e))
-  fault-step (bareReturn s t r) d σ = ap (walkFault version1 T r d) (sym (after-none σ))
-  fault-step (block s c r) d σ = ap (λ (τ : Scope Status). orElse (walkFault version1 T c (suc d) τ) (walkFault version1 T r d (exit states T c (suc d) τ))) (sym (after-none σ))
+  fault-step (exprStmt s e y r) d σ = ap (walkFault version1 w T r d) (expr-after T e σ)
+  fault-step (variable k s n t e r) d σ = ap (λ (τ : Scope Status). orElse (tooMany version1 τ) (walkFault version1 w T r d τ)) (variable-after T d s n t e σ)
+  fault-step (assign s e v t x r) d σ = ap (λ (τ : Scope Status). walkFault version1 w T r d (afterAssign (states w) T e v τ)) (sym (after-two T σ e v))
+  fault-step (return s e t x r) d σ = ap (walkFault version1 w T r d) (sym (after-one T σ e))
+  fault-step (bareReturn s t x r) d σ = ap (walkFault version1 w T r d) (sym (after-none T σ))
+  fault-step (block s c r) d σ = ap (λ (τ : Scope Status). orElse (walkFault version1 w T c (suc d) τ) (walkFault version1 w T r d (exit (states w) T c (suc d) τ))) (sym (after-none T σ))
   fault-step (ifElse s e ts t us u r) d σ =
       let τ = afterAll T (more e none) σ in
-      ap (λ (υ : Scope Status). orElse (walkFault version1 T t (suc d) υ) (orElse (walkFault version1 T u (suc d) υ)
-      (orElse (tooWide version1 (not (sureFrom t false) && not (sureFrom u false)) (joins states (exit states T t (suc d) υ) (exit states T u (suc d) υ)))
-      (walkFault version1 T r d (merge states (sureFrom t false) (sureFrom u false) υ (exit states T t (suc d) υ) (exit states T u (suc d) υ)))))) (sym (after-one T σ e))
-      ∙ else-three (walkFault version1 T t (suc d) τ) (walkFault version1 T u (suc d) τ) _ _
+      ap (λ (υ : Scope Status). orElse (walkFault version1 w T t (suc d) υ) (orElse (walkFault version1 w T u (suc d) υ)
+      (orElse (tooWide version1 (not (sureFrom t false) && not (sureFrom u false)) (joins (states w) (exit (states w) T t (suc d) υ) (exit (states w) T u (suc d) υ)))
+      (walkFault version1 w T r d (merge (states w) (sureFrom t false) (sureFrom u false) υ (exit (states w) T t (suc d) υ) (exit (states w) T u (suc d) υ)))))) (sym (after-one T σ e))
+      ∙ else-three (walkFault version1 w T t (suc d) τ) (walkFault version1 w T u (suc d) τ) _ _
   fault-step (ifThen s e ts t r) d σ =
       let τ = afterAll T (more e none) σ in
-      ap (λ (υ : Scope Status). orElse (walkFault version1 T t (suc d) υ)
-      (orElse (tooWide version1 (not (sureFrom t false)) (joins states (exit states T t (suc d) υ) υ))
-      (walkFault version1 T r d (merge states (sureFrom t false) false υ (exit states T t (suc d) υ) υ)))) (sym (after-one T σ e))
-      ∙ else-assoc (walkFault version1 T t (suc d) τ) (tooWide version1 (not (sureFrom t false)) (joins states (exit states T t (suc d) τ) τ))
-      (walkFault version1 T r d (merge states (sureFrom t false) false τ (exit states T t (suc d) τ) τ))
+      ap (λ (υ : Scope Status). orElse (walkFault version1 w T t (suc d) υ)
+      (orElse (tooWide version1 (not (sureFrom t false)) (joins (states w) (exit (states w) T t (suc d) υ) υ))
+      (walkFault version1 w T r d (merge (states w) (sureFrom t false) false υ (exit (states w) T t (suc d) υ) υ)))) (sym (after-one T σ e))
+      ∙ else-assoc (walkFault version1 w T t (suc d) τ) (tooWide version1 (not (sureFrom t false)) (joins (states w) (exit (states w) T t (suc d) τ) τ))
+      (walkFault version1 w T r d (merge (states w) (sureFrom t false) false τ (exit (states w) T t (suc d) τ) τ))
   fault-step (while s e ts t r) d σ =
       let τ = afterAll T (more e none) σ in
-      ap (λ (υ : Scope Status). orElse (walkFault version1 T t (suc d) υ)
-      (orElse (tooWide version1 true (joins states (exit states T t (suc d) υ) υ)) (walkFault version1 T r d (joins states (exit states T t (suc d) υ) υ)))) (sym (after-one T σ e))
-      ∙ else-assoc (walkFault version1 T t (suc d) τ) (tooWide version1 true (joins states (exit states T t (suc d) τ) τ)) (walkFault version1 T r d (joins states (exit states T t (suc d) τ) τ))
-  fault-step (jump k s r) d σ = ap (walkFault version1 T r d) (sym (after-none σ))
+      ap (λ (υ : Scope Status). orElse (walkFault version1 w T t (suc d) υ)
+      (orElse (tooWide version1 true (joins (states w) (exit (states w) T t (suc d) υ) υ)) (walkFault version1 w T r d (joins (states w) (exit (states w) T t (suc d) υ) υ)))) (sym (after-one T σ e))
+      ∙ else-assoc (walkFault version1 w T t (suc d) τ) (tooWide version1 true (joins (states w) (exit (states w) T t (suc d) τ) τ)) (walkFault version1 w T r d (joins (states w) (exit (states w) T t (suc d) τ) τ))
+  fault-step (jump k s x r) d σ = ap (walkFault version1 w T r d) (sym (after-none T σ))
 
   -- the bytes given back
   pub bytes-step : (c : Tree) (p d : ℕ) (f : Bool) (σ : Scope Status) (l : Option ℕ) (at : ℕ) → So (not (isDone c))
-      → encodeCode (returned T c p d f σ) ≡ own T c d l at σ .bytes ++ encodeCode (returned T (restOf c) p d (sureOf c) (ownAfter T c d σ))
+      → encodeCode (returned w T c p d l f σ) ≡ own w T c d l at σ .bytes ++ encodeCode (returned w T (restOf c) p d l (sureOf c) (ownAfter w T c d σ))
   unfolding encodeCode
   bytes-step (done x) p d f σ l at h = absurd h
   bytes-step (exprStmt s e y r) p d f σ l at h =
-      ap (λ (τ : Scope Status). encodeCode (flatten (exprStmt s e (wrapped T (exprStmt s e y r)) (decide states T r p d false τ)))) (expr-after e σ)
+      ap (λ (τ : Scope Status). encodeCode (flatten (exprStmt s e (wrapped T (exprStmt s e y r)) (decide (states w) T (concerns w) r p d l false τ)))) (expr-after T e σ)
       ∙ simp (append-assoc, append-nil)
   bytes-step (variable k s n t e r) p d f σ l at h =
-      ap (λ (τ : Scope Status). encodeCode (flatten (variable k s n t e (decide states T r p d false τ)))) (variable-after d s n t e σ) ∙ simp (append-assoc, append-nil)
+      ap (λ (τ : Scope Status). encodeCode (flatten (variable k s n t e (decide (states w) T (concerns w) r p d l false τ)))) (variable-after T d s n t e σ) ∙ simp (append-assoc, append-nil)
   bytes-step (assign s e v t x r) p d f σ l at h =
-      ap (λ (τ : Scope Status). encodeCode (inserts (assignDrops states T s e τ) (assign s e v t tt (returned T r p d false (afterAssign states T e v τ))))) (sym (after-two T σ e v))
-      ∙ inserts-bytes (assignDrops states T s e (valued T (assign s e v t x r) σ)) (assign s e v t tt (returned T r p d false (afterAssign states T e v (valued T (assign s e v t x r) σ))))
+      ap (λ (τ : Scope Status). encodeCode (inserts (assignDrops (states w) T (concerns w) s e τ) (assign s e v t tt (returned w T r p d l false (afterAssign (states w) T e v τ))))) (sym (after-two T σ e v))
+      ∙ inserts-bytes (assignDrops (states w) T (concerns w) s e (valued T (assign s e v t x r) σ)) (assign s e v t tt (returned w T r p d l false (afterAssign (states w) T e v (valued T (assign s e v t x r) σ))))
       ∙ simp (append-assoc, append-nil)
   bytes-step (return s e t x r) p d f σ l at h =
-      ap (λ (τ : Scope Status). encodeCode (inserts (returnDrops states T (nameIn (view e)) τ) (return s e t tt (returned T r p d true τ)))) (sym (after-one T σ e))
-      ∙ inserts-bytes (returnDrops states T (nameIn (view e)) (valued T (return s e t x r) σ)) (return s e t tt (returned T r p d true (valued T (return s e t x r) σ)))
+      ap (λ (τ : Scope Status). encodeCode (inserts (returnDrops (states w) T (concerns w) (nameIn (view e)) τ) (return s e t tt (returned w T r p d l true τ)))) (sym (after-one T σ e))
+      ∙ inserts-bytes (returnDrops (states w) T (concerns w) (nameIn (view e)) (valued T (return s e t x r) σ)) (return s e t tt (returned w T r p d l true (valued T (return s e t x r) σ)))
       ∙ simp (append-assoc, append-nil)
-  bytes-step (bareReturn s t r) p d f σ l at h =
-      ap (λ (τ : Scope Status). encodeCode (flatten (bareReturn s t (decide states T r p d true τ)))) (sym (after-none σ)) ∙ simp (append-assoc, append-nil)
+  bytes-step (bareReturn s t x r) p d f σ l at h =
+      let c = bareReturn s t x r in
+      ap (λ (τ : Scope Status). encodeCode (inserts (bareReturnDrops (states w) T (concerns w) τ) (bareReturn s t tt (returned w T r p d l true τ)))) (sym (after-none T σ))
+      ∙ inserts-bytes (bareReturnDrops (states w) T (concerns w) (valued T c σ)) (bareReturn s t tt (returned w T r p d l true (valued T c σ)))
+      ∙ simp (append-assoc, append-nil)
   bytes-step (block s c r) p d f σ l at h =
-      ap (λ (τ : Scope Status). encodeCode (flatten (block s (decide states T c s (suc d) false τ) (decide states T r p d (sureFrom c false) (exit states T c (suc d) τ))))) (sym (after-none σ))
+      ap (λ (τ : Scope Status). encodeCode (flatten (block s (decide (states w) T (concerns w) c s (suc d) l false τ) (decide (states w) T (concerns w) r p d l (sureFrom c false) (exit (states w) T c (suc d) τ))))) (sym (after-none T σ))
       ∙ simp (append-assoc, append-nil)
   bytes-step (ifElse s e ts t us u r) p d f σ l at h =
-      ap (λ (τ : Scope Status). encodeCode (flatten (ifElse s e ts (decide states T t ts (suc d) false τ) us (decide states T u us (suc d) false τ)
-      (decide states T r p d (sureFrom t false && sureFrom u false) (merge states (sureFrom t false) (sureFrom u false) τ (exit states T t (suc d) τ) (exit states T u (suc d) τ)))))) (sym (after-one T σ e))
+      ap (λ (τ : Scope Status). encodeCode (flatten (ifElse s e ts (decide (states w) T (concerns w) t ts (suc d) l false τ) us (decide (states w) T (concerns w) u us (suc d) l false τ)
+      (decide (states w) T (concerns w) r p d l (sureFrom t false && sureFrom u false) (merge (states w) (sureFrom t false) (sureFrom u false) τ (exit (states w) T t (suc d) τ) (exit (states w) T u (suc d) τ)))))) (sym (after-one T σ e))
       ∙ simp (append-assoc, append-nil)
   bytes-step (ifThen s e ts t r) p d f σ l at h =
-      ap (λ (τ : Scope Status). encodeCode (flatten (ifThen s e ts (decide states T t ts (suc d) false τ)
-      (decide states T r p d false (merge states (sureFrom t false) false τ (exit states T t (suc d) τ) τ))))) (sym (after-one T σ e))
+      ap (λ (τ : Scope Status). encodeCode (flatten (ifThen s e ts (decide (states w) T (concerns w) t ts (suc d) l false τ)
+      (decide (states w) T (concerns w) r p d l false (merge (states w) (sureFrom t false) false τ (exit (states w) T t (suc d) τ) τ))))) (sym (after-one T σ e))
       ∙ simp (append-assoc, append-nil)
   bytes-step (while s e ts t r) p d f σ l at h =
-      ap (λ (τ : Scope Status). encodeCode (flatten (while s e ts (decide states T t ts (suc d) false τ) (decide states T r p d false (joins states (exit states T t (suc d) τ) τ))))) (sym (after-one T σ e))
+      ap (λ (τ : Scope Status). encodeCode (flatten (while s e ts (decide (states w) T (concerns w) t ts (suc d) (some (suc d)) false τ) (decide (states w) T (concerns w) r p d l false (joins (states w) (exit (states w) T t (suc d) τ) τ))))) (sym (after-one T σ e))
       ∙ simp (append-assoc, append-nil)
-  bytes-step (jump k s r) p d f σ l at h =
-      ap (λ (τ : Scope Status). encodeCode (flatten (jump k s (decide states T r p d false τ)))) (sym (after-none σ)) ∙ simp (append-assoc, append-nil)
+  bytes-step (jump k s x r) p d f σ l at h =
+      let c = jump k s x r in
+      ap (λ (τ : Scope Status). encodeCode (inserts (jumpDrops (states w) T (concerns w) l τ) (jump k s tt (returned w T r p d l false τ)))) (sym (after-none T σ))
+      ∙ inserts-bytes (jumpDrops (states w) T (concerns w) l (valued T c σ)) (jump k s tt (returned w T r p d l false (valued T c σ)))
+      ∙ simp (append-assoc, append-nil)
 
   -- how many statements there are
-  pub size-step : (c : Tree) (p d : ℕ) (f : Bool) (σ : Scope Status) → So (not (isDone c))
-      → size (returned T c p d f σ) ≡ length (frontDrops T c (valued T c σ)) + suc (size (returned T (restOf c) p d (sureOf c) (ownAfter T c d σ)))
+  pub size-step : (c : Tree) (p d : ℕ) (f : Bool) (σ : Scope Status) (l : Option ℕ) → So (not (isDone c))
+      → size (returned w T c p d l f σ) ≡ length (frontDrops w T c l (valued T c σ)) + suc (size (returned w T (restOf c) p d l (sureOf c) (ownAfter w T c d σ)))
   unfolding size
-  size-step (done x) p d f σ h = absurd h
-  size-step (exprStmt s e y r) p d f σ h =
-      let g = ap (λ (τ : Scope Status). size (returned T r p d false τ)) (expr-after e σ) in
+  size-step (done x) p d f σ l h = absurd h
+  size-step (exprStmt s e y r) p d f σ l h =
+      let g = ap (λ (τ : Scope Status). size (returned w T r p d l false τ)) (expr-after T e σ) in
       omega arith
-  size-step (variable k s n t e r) p d f σ h =
-      let g = ap (λ (τ : Scope Status). size (returned T r p d false τ)) (variable-after d s n t e σ) in
+  size-step (variable k s n t e r) p d f σ l h =
+      let g = ap (λ (τ : Scope Status). size (returned w T r p d l false τ)) (variable-after T d s n t e σ) in
       omega arith
-  size-step (assign s e v t x r) p d f σ h =
+  size-step (assign s e v t x r) p d f σ l h =
       let τ = valued T (assign s e v t x r) σ in
-      ap (λ (υ : Scope Status). size (inserts (assignDrops states T s e υ) (assign s e v t tt (returned T r p d false (afterAssign states T e v υ))))) (sym (after-two T σ e v))
-      ∙ inserts-size (assignDrops states T s e τ) (assign s e v t tt (returned T r p d false (afterAssign states T e v τ)))
-  size-step (return s e t x r) p d f σ h =
+      ap (λ (υ : Scope Status). size (inserts (assignDrops (states w) T (concerns w) s e υ) (assign s e v t tt (returned w T r p d l false (afterAssign (states w) T e v υ))))) (sym (after-two T σ e v))
+      ∙ inserts-size (assignDrops (states w) T (concerns w) s e τ) (assign s e v t tt (returned w T r p d l false (afterAssign (states w) T e v τ)))
+  size-step (return s e t x r) p d f σ l h =
       let τ = valued T (return s e t x r) σ in
-      ap (λ (υ : Scope Status). size (inserts (returnDrops states T (nameIn (view e)) υ) (return s e t tt (returned T r p d true υ)))) (sym (after-one T σ e))
-      ∙ inserts-size (returnDrops states T (nameIn (view e)) τ) (return s e t tt (returned T r p d true τ))
-  size-step (bareReturn s t r) p d f σ h =
-      let g = ap (λ (τ : Scope Status). size (returned T r p d true τ)) (sym (after-none σ)) in
+      ap (λ (υ : Scope Status). size (inserts (returnDrops (states w) T (concerns w) (nameIn (view e)) υ) (return s e t tt (returned w T r p d l true υ)))) (sym (after-one T σ e))
+      ∙ inserts-size (returnDrops (states w) T (concerns w) (nameIn (view e)) τ) (return s e t tt (returned w T r p d l true τ))
+  size-step (bareReturn s t x r) p d f σ l h =
+      let τ = valued T (bareReturn s t x r) σ in
+      ap (λ (υ : Scope Status). size (inserts (bareReturnDrops (states w) T (concerns w) υ) (bareReturn s t tt (returned w T r p d l true υ)))) (sym (after-none T σ))
+      ∙ inserts-size (bareReturnDrops (states w) T (concerns w) τ) (bareReturn s t tt (returned w T r p d l true τ))
+  size-step (block s c r) p d f σ l h =
+      let g = ap (λ (τ : Scope Status). size (returned w T r p d l (sureFrom c false) (exit (states w) T c (suc d) τ))) (sym (after-none T σ)) in
       omega arith
-  size-step (block s c r) p d f σ h =
-      let g = ap (λ (τ : Scope Status). size (returned T r p d (sureFrom c false) (exit states T c (suc d) τ))) (sym (after-none σ)) in
+  size-step (ifElse s e ts t us u r) p d f σ l h =
+      let g = ap (λ (τ : Scope Status). size (returned w T r p d l (sureFrom t false && sureFrom u false) (merge (states w) (sureFrom t false) (sureFrom u false) τ (exit (states w) T t (suc d) τ) (exit (states w) T u (suc d) τ)))) (sym (after-one T σ e)) in
       omega arith
-  size-step (ifElse s e ts t us u r) p d f σ h =
-      let g = ap (λ (τ : Scope Status). size (returned T r p d (sureFrom t false && sureFrom u false) (merge states (sureFrom t false) (sureFrom u false) τ (exit states T t (suc d) τ) (exit states T u (suc d) τ)))) (sym (after-one T σ e)) in
+  size-step (ifThen s e ts t r) p d f σ l h =
+      let g = ap (λ (τ : Scope Status). size (returned w T r p d l false (merge (states w) (sureFrom t false) false τ (exit (states w) T t (suc d) τ) τ))) (sym (after-one T σ e)) in
       omega arith
-  size-step (ifThen s e ts t r) p d f σ h =
-      let g = ap (λ (τ : Scope Status). size (returned T r p d false (merge states (sureFrom t false) false τ (exit states T t (suc d) τ) τ))) (sym (after-one T σ e)) in
+  size-step (while s e ts t r) p d f σ l h =
+      let g = ap (λ (τ : Scope Status). size (returned w T r p d l false (joins (states w) (exit (states w) T t (suc d) τ) τ))) (sym (after-one T σ e)) in
       omega arith
-  size-step (while s e ts t r) p d f σ h =
-      let g = ap (λ (τ : Scope Status). size (returned T r p d false (joins states (exit states T t (suc d) τ) τ))) (sym (after-one T σ e)) in
-      omega arith
-  size-step (jump k s r) p d f σ h =
-      let g = ap (λ (τ : Scope Status). size (returned T r p d false τ)) (sym (after-none σ)) in
-      omega arith
+  size-step (jump k s x r) p d f σ l h =
+      let τ = valued T (jump k s x r) σ in
+      ap (λ (υ : Scope Status). size (inserts (jumpDrops (states w) T (concerns w) l υ) (jump k s tt (returned w T r p d l false υ)))) (sym (after-none T σ))
+      ∙ inserts-size (jumpDrops (states w) T (concerns w) l τ) (jump k s tt (returned w T r p d l false τ))
 
   -- whether every block in it counts at most 65,535
   pub fits-step : (c : Tree) (p d : ℕ) (f : Bool) (σ : Scope Status) (l : Option ℕ) (at : ℕ) → So (not (isDone c))
-      → countsFit 65535 (returned T c p d f σ) ≡ (own T c d l at σ .fits && countsFit 65535 (returned T (restOf c) p d (sureOf c) (ownAfter T c d σ)))
+      → countsFit 65535 (returned w T c p d l f σ) ≡ (own w T c d l at σ .fits && countsFit 65535 (returned w T (restOf c) p d l (sureOf c) (ownAfter w T c d σ)))
   unfolding countsFit
   fits-step (done x) p d f σ l at h = absurd h
-  fits-step (exprStmt s e y r) p d f σ l at h = ap (λ (τ : Scope Status). countsFit 65535 (returned T r p d false τ)) (expr-after e σ)
-  fits-step (variable k s n t e r) p d f σ l at h = ap (λ (τ : Scope Status). countsFit 65535 (returned T r p d false τ)) (variable-after d s n t e σ)
+  fits-step (exprStmt s e y r) p d f σ l at h = ap (λ (τ : Scope Status). countsFit 65535 (returned w T r p d l false τ)) (expr-after T e σ)
+  fits-step (variable k s n t e r) p d f σ l at h = ap (λ (τ : Scope Status). countsFit 65535 (returned w T r p d l false τ)) (variable-after T d s n t e σ)
   fits-step (assign s e v t x r) p d f σ l at h =
-      ap (λ (υ : Scope Status). countsFit 65535 (inserts (assignDrops states T s e υ) (assign s e v t tt (returned T r p d false (afterAssign states T e v υ))))) (sym (after-two T σ e v))
-      ∙ inserts-fit 65535 (assignDrops states T s e (valued T (assign s e v t x r) σ)) _
+      ap (λ (υ : Scope Status). countsFit 65535 (inserts (assignDrops (states w) T (concerns w) s e υ) (assign s e v t tt (returned w T r p d l false (afterAssign (states w) T e v υ))))) (sym (after-two T σ e v))
+      ∙ inserts-fit 65535 (assignDrops (states w) T (concerns w) s e (valued T (assign s e v t x r) σ)) _
   fits-step (return s e t x r) p d f σ l at h =
-      ap (λ (υ : Scope Status). countsFit 65535 (inserts (returnDrops states T (nameIn (view e)) υ) (return s e t tt (returned T r p d true υ)))) (sym (after-one T σ e))
-      ∙ inserts-fit 65535 (returnDrops states T (nameIn (view e)) (valued T (return s e t x r) σ)) _
-  fits-step (bareReturn s t r) p d f σ l at h = ap (λ (τ : Scope Status). countsFit 65535 (returned T r p d true τ)) (sym (after-none σ))
+      ap (λ (υ : Scope Status). countsFit 65535 (inserts (returnDrops (states w) T (concerns w) (nameIn (view e)) υ) (return s e t tt (returned w T r p d l true υ)))) (sym (after-one T σ e))
+      ∙ inserts-fit 65535 (returnDrops (states w) T (concerns w) (nameIn (view e)) (valued T (return s e t x r) σ)) _
+  fits-step (bareReturn s t x r) p d f σ l at h =
+      ap (λ (υ : Scope Status). countsFit 65535 (inserts (bareReturnDrops (states w) T (concerns w) υ) (bareReturn s t tt (returned w T r p d l true υ)))) (sym (after-none T σ))
+      ∙ inserts-fit 65535 (bareReturnDrops (states w) T (concerns w) (valued T (bareReturn s t x r) σ)) _
   fits-step (block s c r) p d f σ l at h =
       let τ = valued T (block s c r) σ in
-      let x = returned T c s (suc d) false τ in
-      ap (λ (τ : Scope Status). countsFit 65535 (flatten (block s (decide states T c s (suc d) false τ) (decide states T r p d (sureFrom c false) (exit states T c (suc d) τ))))) (sym (after-none σ))
+      let x = returned w T c s (suc d) l false τ in
+      ap (λ (τ : Scope Status). countsFit 65535 (flatten (block s (decide (states w) T (concerns w) c s (suc d) l false τ) (decide (states w) T (concerns w) r p d l (sureFrom c false) (exit (states w) T c (suc d) τ))))) (sym (after-none T σ))
   fits-step (ifElse s e ts t us u r) p d f σ l at h =
       let τ = valued T (ifElse s e ts t us u r) σ in
-      let x = returned T t ts (suc d) false τ in
-      let y = returned T u us (suc d) false τ in
-      ap (λ (τ : Scope Status). countsFit 65535 (flatten (ifElse s e ts (decide states T t ts (suc d) false τ) us (decide states T u us (suc d) false τ)
-      (decide states T r p d (sureFrom t false && sureFrom u false) (merge states (sureFrom t false) (sureFrom u false) τ (exit states T t (suc d) τ) (exit states T u (suc d) τ)))))) (sym (after-one T σ e))
+      let x = returned w T t ts (suc d) l false τ in
+      let y = returned w T u us (suc d) l false τ in
+      ap (λ (τ : Scope Status). countsFit 65535 (flatten (ifElse s e ts (decide (states w) T (concerns w) t ts (suc d) l false τ) us (decide (states w) T (concerns w) u us (suc d) l false τ)
+      (decide (states w) T (concerns w) r p d l (sureFrom t false && sureFrom u false) (merge (states w) (sureFrom t false) (sureFrom u false) τ (exit (states w) T t (suc d) τ) (exit (states w) T u (suc d) τ)))))) (sym (after-one T σ e))
       ∙ two-fit (leb (size x) 65535) (leb (size y) 65535) (countsFit 65535 x) (countsFit 65535 y)
-      (countsFit 65535 (returned T r p d (sureFrom t false && sureFrom u false) (merge states (sureFrom t false) (sureFrom u false) τ (exit states T t (suc d) τ) (exit states T u (suc d) τ))))
+      (countsFit 65535 (returned w T r p d l (sureFrom t false && sureFrom u false) (merge (states w) (sureFrom t false) (sureFrom u false) τ (exit (states w) T t (suc d) τ) (exit (states w) T u (suc d) τ))))
   fits-step (ifThen s e ts t r) p d f σ l at h =
       let τ = valued T (ifThen s e ts t r) σ in
-      let x = returned T t ts (suc d) false τ in
-      ap (λ (τ : Scope Status). countsFit 65535 (flatten (ifThen s e ts (decide states T t ts (suc d) false τ)
-      (decide states T r p d false (merge states (sureFrom t false) false τ (exit states T t (suc d) τ) τ))))) (sym (after-one T σ e))
-      ∙ and-true (leb (size x) 65535 && countsFit 65535 x) (countsFit 65535 (returned T r p d false (merge states (sureFrom t false) false τ (exit states T t (suc d) τ) τ)))
+      let x = returned w T t ts (suc d) l false τ in
+      ap (λ (τ : Scope Status). countsFit 65535 (flatten (ifThen s e ts (decide (states w) T (concerns w) t ts (suc d) l false τ)
+      (decide (states w) T (concerns w) r p d l false (merge (states w) (sureFrom t false) false τ (exit (states w) T t (suc d) τ) τ))))) (sym (after-one T σ e))
+      ∙ and-true (leb (size x) 65535 && countsFit 65535 x) (countsFit 65535 (returned w T r p d l false (merge (states w) (sureFrom t false) false τ (exit (states w) T t (suc d) τ) τ)))
   fits-step (while s e ts t r) p d f σ l at h =
       let τ = valued T (while s e ts t r) σ in
-      let x = returned T t ts (suc d) false τ in
-      ap (λ (τ : Scope Status). countsFit 65535 (flatten (while s e ts (decide states T t ts (suc d) false τ) (decide states T r p d false (joins states (exit states T t (suc d) τ) τ))))) (sym (after-one T σ e))
-  fits-step (jump k s r) p d f σ l at h = ap (λ (τ : Scope Status). countsFit 65535 (returned T r p d false τ)) (sym (after-none σ))
+      let x = returned w T t ts (suc d) (some (suc d)) false τ in
+      ap (λ (τ : Scope Status). countsFit 65535 (flatten (while s e ts (decide (states w) T (concerns w) t ts (suc d) (some (suc d)) false τ) (decide (states w) T (concerns w) r p d l false (joins (states w) (exit (states w) T t (suc d) τ) τ))))) (sym (after-one T σ e))
+  fits-step (jump k s x r) p d f σ l at h =
+      ap (λ (υ : Scope Status). countsFit 65535 (inserts (jumpDrops (states w) T (concerns w) l υ) (jump k s tt (returned w T r p d l false υ)))) (sym (after-none T σ))
+      ∙ inserts-fit 65535 (jumpDrops (states w) T (concerns w) l (valued T (jump k s x r) σ)) _
 
   -- what is reported
   told-expr : (e : Expr) (σ : Scope Status) → reportAll (exprStmtEffects T (shape σ) e) σ ≡ toldAll T (more e none) σ
   unfolding exprStmtEffects
   told-expr e σ =
       report-append (effects T (shape σ) e) (deletedIn T (shape σ) (view e)) σ
-      ∙ ap (λ (x : List Report). reportAll (effects T (shape σ) e) σ ++ x) (deleted-silent (shape σ) (view e) (evaluate states T e σ))
+      ∙ ap (λ (x : List Report). reportAll (effects T (shape σ) e) σ ++ x) (deleted-silent T (shape σ) (view e) (evaluate (states w) T e σ))
       ∙ append-nil (reportAll (effects T (shape σ) e) σ)
       ∙ sym (told-one T σ e)
 
   pub report-step : (c : Tree) (d : ℕ) (l : Option ℕ) (at : ℕ) (σ : Scope Status)
-      → report T c d l at σ ≡ own T c d l at σ .reports ++ report T (restOf c) d l (at + frontSize c + blocksSize c) (ownAfter T c d σ)
-  report-step (done x) d l at σ = simp (told-none σ)
+      → report w T c d l at σ ≡ own w T c d l at σ .reports ++ report w T (restOf c) d l (at + frontSize c + blocksSize c) (ownAfter w T c d σ)
+  report-step (done x) d l at σ = simp (told-none T σ)
   report-step (exprStmt s e y r) d l at σ =
       let g : at + 5 + exprBytes e ≡ at + (5 + exprBytes e) + 0 = omega arith in
-      ap (λ (x : List Report). x ++ (unused (wrapped T (exprStmt s e y r)) s e at ++ report T r d l (at + 5 + exprBytes e) (afterExpr states T e σ))) (told-expr e σ)
-      ∙ ap (λ (τ : Scope Status). toldAll T (more e none) σ ++ (unused (wrapped T (exprStmt s e y r)) s e at ++ report T r d l (at + 5 + exprBytes e) τ)) (expr-after e σ)
-      ∙ ap (λ (k : ℕ). toldAll T (more e none) σ ++ (unused (wrapped T (exprStmt s e y r)) s e at ++ report T r d l k (ownAfter T (exprStmt s e y r) d σ))) g
+      ap (λ (x : List Report). x ++ (unused (wrapped T (exprStmt s e y r)) s e at ++ report w T r d l (at + 5 + exprBytes e) (afterExpr (states w) T e σ))) (told-expr e σ)
+      ∙ ap (λ (τ : Scope Status). toldAll T (more e none) σ ++ (unused (wrapped T (exprStmt s e y r)) s e at ++ report w T r d l (at + 5 + exprBytes e) τ)) (expr-after T e σ)
+      ∙ ap (λ (k : ℕ). toldAll T (more e none) σ ++ (unused (wrapped T (exprStmt s e y r)) s e at ++ report w T r d l k (ownAfter w T (exprStmt s e y r) d σ))) g
       ∙ simp (append-assoc, append-nil)
   report-step (variable k s n t e r) d l at σ =
       let g : at + 9 + exprBytes e ≡ at + (9 + exprBytes e) + 0 = omega arith in
-      ap (λ (x : List Report). x ++ report T r d l (at + 9 + exprBytes e) (afterVariable states T (declared d s n t) e σ)) (sym (told-one T σ e))
-      ∙ ap (λ (τ : Scope Status). toldAll T (more e none) σ ++ report T r d l (at + 9 + exprBytes e) τ) (variable-after d s n t e σ)
-      ∙ ap (λ (i : ℕ). toldAll T (more e none) σ ++ report T r d l i (ownAfter T (variable k s n t e r) d σ)) g
+      ap (λ (x : List Report). x ++ report w T r d l (at + 9 + exprBytes e) (afterVariable (states w) T (declared d s n t) e σ)) (sym (told-one T σ e))
+      ∙ ap (λ (τ : Scope Status). toldAll T (more e none) σ ++ report w T r d l (at + 9 + exprBytes e) τ) (variable-after T d s n t e σ)
+      ∙ ap (λ (i : ℕ). toldAll T (more e none) σ ++ report w T r d l i (ownAfter w T (variable k s n t e r) d σ)) g
       ∙ simp (append-assoc, append-nil)
   report-step (assign s e v t x r) d l at σ =
       let g : at + 7 + exprBytes e + exprBytes v ≡ at + (7 + exprBytes e + exprBytes v) + 0 = omega arith in
-      ap (λ (y : List Report). y ++ report T r d l (at + 7 + exprBytes e + exprBytes v) (afterAssign states T e v (beforeAssign states T e v σ))) (sym (told-two T σ e v))
-      ∙ ap (λ (τ : Scope Status). toldAll T (more e (more v none)) σ ++ report T r d l (at + 7 + exprBytes e + exprBytes v) (afterAssign states T e v τ)) (sym (after-two T σ e v))
-      ∙ ap (λ (i : ℕ). toldAll T (more e (more v none)) σ ++ report T r d l i (ownAfter T (assign s e v t x r) d σ)) g
+      ap (λ (y : List Report). y ++ report w T r d l (at + 7 + exprBytes e + exprBytes v) (afterAssign (states w) T e v (beforeAssign (states w) T e v σ))) (sym (told-two T σ e v))
+      ∙ ap (λ (τ : Scope Status). toldAll T (more e (more v none)) σ ++ report w T r d l (at + 7 + exprBytes e + exprBytes v) (afterAssign (states w) T e v τ)) (sym (after-two T σ e v))
+      ∙ ap (λ (i : ℕ). toldAll T (more e (more v none)) σ ++ report w T r d l i (ownAfter w T (assign s e v t x r) d σ)) g
       ∙ simp (append-assoc, append-nil)
   report-step (return s e t x r) d l at σ =
       let g : at + 8 + exprBytes e ≡ at + (8 + exprBytes e) + 0 = omega arith in
-      ap (λ (y : List Report). y ++ report T r d l (at + 8 + exprBytes e) (evaluate states T e σ)) (sym (told-one T σ e))
-      ∙ ap (λ (τ : Scope Status). toldAll T (more e none) σ ++ report T r d l (at + 8 + exprBytes e) τ) (sym (after-one T σ e))
-      ∙ ap (λ (i : ℕ). toldAll T (more e none) σ ++ report T r d l i (ownAfter T (return s e t x r) d σ)) g
+      ap (λ (y : List Report). y ++ report w T r d l (at + 8 + exprBytes e) (evaluate (states w) T e σ)) (sym (told-one T σ e))
+      ∙ ap (λ (τ : Scope Status). toldAll T (more e none) σ ++ report w T r d l (at + 8 + exprBytes e) τ) (sym (after-one T σ e))
+      ∙ ap (λ (i : ℕ). toldAll T (more e none) σ ++ report w T r d l i (ownAfter w T (return s e t x r) d σ)) g
       ∙ simp (append-assoc, append-nil)
-  report-step (bareReturn s t r) d l at σ =
+  report-step (bareReturn s t x r) d l at σ =
       let g : at + 8 ≡ at + 8 + 0 = omega arith in
-      ap (λ (τ : Scope Status). leftBehind T s (atReturn nobody) τ ++ report T r d l (at + 8) τ) (sym (after-none σ))
-      ∙ ap (λ (i : ℕ). leftBehind T s (atReturn nobody) (afterAll T none σ) ++ report T r d l i (afterAll T none σ)) g
-      ∙ simp (append-assoc, append-nil, told-none σ)
+      ap (λ (τ : Scope Status). leftBehind T (w .bareReturns) s atBareReturn τ ++ report w T r d l (at + 8) τ) (sym (after-none T σ))
+      ∙ ap (λ (i : ℕ). leftBehind T (w .bareReturns) s atBareReturn (afterAll T none σ) ++ report w T r d l i (afterAll T none σ)) g
+      ∙ simp (append-assoc, append-nil, told-none T σ)
   report-step (block s c r) d l at σ =
       let a : at + 7 ≡ at + 1 + 6 = omega arith in
       let g : at + 7 + codeBytes c ≡ at + 1 + (6 + codeBytes c) = omega arith in
-      ap (λ (τ : Scope Status). report T c (suc d) l (at + 7) τ ++ report T r d l (at + 7 + codeBytes c) (exit states T c (suc d) τ)) (sym (after-none σ))
-      ∙ ap (λ (i : ℕ). report T c (suc d) l i (afterAll T none σ) ++ report T r d l (at + 7 + codeBytes c) (exit states T c (suc d) (afterAll T none σ))) a
-      ∙ ap (λ (i : ℕ). report T c (suc d) l (at + 1 + 6) (afterAll T none σ) ++ report T r d l i (exit states T c (suc d) (afterAll T none σ))) g
-      ∙ simp (append-assoc, append-nil, told-none σ)
+      ap (λ (τ : Scope Status). report w T c (suc d) l (at + 7) τ ++ report w T r d l (at + 7 + codeBytes c) (exit (states w) T c (suc d) τ)) (sym (after-none T σ))
+      ∙ ap (λ (i : ℕ). report w T c (suc d) l i (afterAll T none σ) ++ report w T r d l (at + 7 + codeBytes c) (exit (states w) T c (suc d) (afterAll T none σ))) a
+      ∙ ap (λ (i : ℕ). report w T c (suc d) l (at + 1 + 6) (afterAll T none σ) ++ report w T r d l i (exit (states w) T c (suc d) (afterAll T none σ))) g
+      ∙ simp (append-assoc, append-nil, told-none T σ)
   report-step (ifElse s e ts t us u r) d l at σ =
       let τ = afterAll T (more e none) σ in
-      let w = at + (5 + exprBytes e) in
-      let a : at + 11 + exprBytes e ≡ w + 6 = omega arith in
-      let b : at + 18 + exprBytes e + codeBytes t ≡ w + (6 + codeBytes t) + 1 + 6 = omega arith in
-      let g : at + 18 + exprBytes e + codeBytes t + codeBytes u ≡ w + (13 + codeBytes t + codeBytes u) = omega arith in
-      ap (λ (x : List Report). x ++ (report T t (suc d) l (at + 11 + exprBytes e) (evaluate states T e σ) ++ (report T u (suc d) l (at + 18 + exprBytes e + codeBytes t) (evaluate states T e σ)
-      ++ report T r d l (at + 18 + exprBytes e + codeBytes t + codeBytes u)
-      (merge states (sureFrom t false) (sureFrom u false) (evaluate states T e σ) (exit states T t (suc d) (evaluate states T e σ)) (exit states T u (suc d) (evaluate states T e σ)))))) (sym (told-one T σ e))
-      ∙ ap (λ (υ : Scope Status). toldAll T (more e none) σ ++ (report T t (suc d) l (at + 11 + exprBytes e) υ ++ (report T u (suc d) l (at + 18 + exprBytes e + codeBytes t) υ
-      ++ report T r d l (at + 18 + exprBytes e + codeBytes t + codeBytes u) (merge states (sureFrom t false) (sureFrom u false) υ (exit states T t (suc d) υ) (exit states T u (suc d) υ))))) (sym (after-one T σ e))
-      ∙ three (λ (i : ℕ). report T t (suc d) l i τ) (λ (i : ℕ). report T u (suc d) l i τ)
-      (λ (i : ℕ). report T r d l i (merge states (sureFrom t false) (sureFrom u false) τ (exit states T t (suc d) τ) (exit states T u (suc d) τ))) (toldAll T (more e none) σ) a b g
+      let b₀ = at + (5 + exprBytes e) in
+      let a : at + 11 + exprBytes e ≡ b₀ + 6 = omega arith in
+      let b : at + 18 + exprBytes e + codeBytes t ≡ b₀ + (6 + codeBytes t) + 1 + 6 = omega arith in
+      let g : at + 18 + exprBytes e + codeBytes t + codeBytes u ≡ b₀ + (13 + codeBytes t + codeBytes u) = omega arith in
+      ap (λ (x : List Report). x ++ (report w T t (suc d) l (at + 11 + exprBytes e) (evaluate (states w) T e σ) ++ (report w T u (suc d) l (at + 18 + exprBytes e + codeBytes t) (evaluate (states w) T e σ)
+      ++ report w T r d l (at + 18 + exprBytes e + codeBytes t + codeBytes u)
+      (merge (states w) (sureFrom t false) (sureFrom u false) (evaluate (states w) T e σ) (exit (states w) T t (suc d) (evaluate (states w) T e σ)) (exit (states w) T u (suc d) (evaluate (states w) T e σ)))))) (sym (told-one T σ e))
+      ∙ ap (λ (υ : Scope Status). toldAll T (more e none) σ ++ (report w T t (suc d) l (at + 11 + exprBytes e) υ ++ (report w T u (suc d) l (at + 18 + exprBytes e + codeBytes t) υ
+      ++ report w T r d l (at + 18 + exprBytes e + codeBytes t + codeBytes u) (merge (states w) (sureFrom t false) (sureFrom u false) υ (exit (states w) T t (suc d) υ) (exit (states w) T u (suc d) υ))))) (sym (after-one T σ e))
+      ∙ three (λ (i : ℕ). report w T t (suc d) l i τ) (λ (i : ℕ). report w T u (suc d) l i τ)
+      (λ (i : ℕ). report w T r d l i (merge (states w) (sureFrom t false) (sureFrom u false) τ (exit (states w) T t (suc d) τ) (exit (states w) T u (suc d) τ))) (toldAll T (more e none) σ) a b g
       ∙ simp (append-assoc, append-nil)
   report-step (ifThen s e ts t r) d l at σ =
       let τ = afterAll T (more e none) σ in
-      let w = at + (5 + exprBytes e) in
-      let a : at + 11 + exprBytes e ≡ w + 6 = omega arith in
-      let g : at + 12 + exprBytes e + codeBytes t ≡ w + (7 + codeBytes t) = omega arith in
-      ap (λ (x : List Report). x ++ (report T t (suc d) l (at + 11 + exprBytes e) (evaluate states T e σ)
-      ++ report T r d l (at + 12 + exprBytes e + codeBytes t) (merge states (sureFrom t false) false (evaluate states T e σ) (exit states T t (suc d) (evaluate states T e σ)) (evaluate states T e σ)))) (sym (told-one T σ e))
-      ∙ ap (λ (υ : Scope Status). toldAll T (more e none) σ ++ (report T t (suc d) l (at + 11 + exprBytes e) υ
-      ++ report T r d l (at + 12 + exprBytes e + codeBytes t) (merge states (sureFrom t false) false υ (exit states T t (suc d) υ) υ))) (sym (after-one T σ e))
-      ∙ two (λ (i : ℕ). report T t (suc d) l i τ) (λ (i : ℕ). report T r d l i (merge states (sureFrom t false) false τ (exit states T t (suc d) τ) τ)) (toldAll T (more e none) σ) a g
+      let b₀ = at + (5 + exprBytes e) in
+      let a : at + 11 + exprBytes e ≡ b₀ + 6 = omega arith in
+      let g : at + 12 + exprBytes e + codeBytes t ≡ b₀ + (7 + codeBytes t) = omega arith in
+      ap (λ (x : List Report). x ++ (report w T t (suc d) l (at + 11 + exprBytes e) (evaluate (states w) T e σ)
+      ++ report w T r d l (at + 12 + exprBytes e + codeBytes t) (merge (states w) (sureFrom t false) false (evaluate (states w) T e σ) (exit (states w) T t (suc d) (evaluate (states w) T e σ)) (evaluate (states w) T e σ)))) (sym (told-one T σ e))
+      ∙ ap (λ (υ : Scope Status). toldAll T (more e none) σ ++ (report w T t (suc d) l (at + 11 + exprBytes e) υ
+      ++ report w T r d l (at + 12 + exprBytes e + codeBytes t) (merge (states w) (sureFrom t false) false υ (exit (states w) T t (suc d) υ) υ))) (sym (after-one T σ e))
+      ∙ two (λ (i : ℕ). report w T t (suc d) l i τ) (λ (i : ℕ). report w T r d l i (merge (states w) (sureFrom t false) false τ (exit (states w) T t (suc d) τ) τ)) (toldAll T (more e none) σ) a g
       ∙ simp (append-assoc, append-nil)
   report-step (while s e ts t r) d l at σ =
       let τ = afterAll T (more e none) σ in
-      let w = at + (5 + exprBytes e) in
-      let a : at + 11 + exprBytes e ≡ w + 6 = omega arith in
-      let g : at + 11 + exprBytes e + codeBytes t ≡ w + (6 + codeBytes t) = omega arith in
-      ap (λ (x : List Report). x ++ (report T t (suc d) (some (suc d)) (at + 11 + exprBytes e) (evaluate states T e σ)
-      ++ report T r d l (at + 11 + exprBytes e + codeBytes t) (joins states (exit states T t (suc d) (evaluate states T e σ)) (evaluate states T e σ)))) (sym (told-one T σ e))
-      ∙ ap (λ (υ : Scope Status). toldAll T (more e none) σ ++ (report T t (suc d) (some (suc d)) (at + 11 + exprBytes e) υ
-      ++ report T r d l (at + 11 + exprBytes e + codeBytes t) (joins states (exit states T t (suc d) υ) υ))) (sym (after-one T σ e))
-      ∙ two (λ (i : ℕ). report T t (suc d) (some (suc d)) i τ) (λ (i : ℕ). report T r d l i (joins states (exit states T t (suc d) τ) τ)) (toldAll T (more e none) σ) a g
+      let b₀ = at + (5 + exprBytes e) in
+      let a : at + 11 + exprBytes e ≡ b₀ + 6 = omega arith in
+      let g : at + 11 + exprBytes e + codeBytes t ≡ b₀ + (6 + codeBytes t) = omega arith in
+      ap (λ (x : List Report). x ++ (report w T t (suc d) (some (suc d)) (at + 11 + exprBytes e) (evaluate (states w) T e σ)
+      ++ report w T r d l (at + 11 + exprBytes e + codeBytes t) (joins (states w) (exit (states w) T t (suc d) (evaluate (states w) T e σ)) (evaluate (states w) T e σ)))) (sym (told-one T σ e))
+      ∙ ap (λ (υ : Scope Status). toldAll T (more e none) σ ++ (report w T t (suc d) (some (suc d)) (at + 11 + exprBytes e) υ
+      ++ report w T r d l (at + 11 + exprBytes e + codeBytes t) (joins (states w) (exit (states w) T t (suc d) υ) υ))) (sym (after-one T σ e))
+      ∙ two (λ (i : ℕ). report w T t (suc d) (some (suc d)) i τ) (λ (i : ℕ). report w T r d l i (joins (states w) (exit (states w) T t (suc d) τ) τ)) (toldAll T (more e none) σ) a g
       ∙ simp (append-assoc, append-nil)
-  report-step (jump k s r) d l at σ =
+  report-step (jump k s x r) d l at σ =
       let g : at + 5 ≡ at + 5 + 0 = omega arith in
-      ap (λ (τ : Scope Status). leftBehind T s (atJump l) τ ++ report T r d l (at + 5) τ) (sym (after-none σ))
-      ∙ ap (λ (i : ℕ). leftBehind T s (atJump l) (afterAll T none σ) ++ report T r d l i (afterAll T none σ)) g
-      ∙ simp (append-assoc, append-nil, told-none σ)
+      ap (λ (τ : Scope Status). leftBehind T (w .jumps) s (atJump l) τ ++ report w T r d l (at + 5) τ) (sym (after-none T σ))
+      ∙ ap (λ (i : ℕ). leftBehind T (w .jumps) s (atJump l) (afterAll T none σ) ++ report w T r d l i (afterAll T none σ)) g
+      ∙ simp (append-assoc, append-nil, told-none T σ)

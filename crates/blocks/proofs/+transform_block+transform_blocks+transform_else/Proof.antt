@@ -11,6 +11,7 @@ use Rattle.image_fields.specs.Bytes.{Bytes}
 use Rattle.tables.specs.Tables.{Tables}
 use Rattle.tables_lookup.specs.Lent.{Says}
 use Rattle.tables_lookup.proofs.Lent.{tablesOf, said}
+use Rattle.rules.specs.Rules.{switchesOf}
 use Rattle.rules.specs.Stack.{shape}
 use Rattle.image_writing.specs.Memory.{memory}
 use Rattle.statements_returns.specs.Returns.{BlockThere}
@@ -168,7 +169,7 @@ first-comes t c =
     comes-at (start .args .env) (at-in-loop .in-loop .result) _ (moved-once (start .args .env) (at-behind .behind .result) (at-in-loop .in-loop .result) (start .args .tag) (start .args .l .count) (at-behind .behind .ensures) (at-in-loop .in-loop .ensures)) (c .transform-block2 .ensures .0 .0)
 
 first-walks : (t : ℕ) (c : First t) → (T : Tables) → Says (c .before .before .before .before .before .before .before .before .before .before .before .before .before .before .before .before .before .before .before .before .before .before .before .before .before .args .s .now) (c .before .before .before .before .before .before .before .before .before .before .before .before .before .before .before .before .before .before .before .before .before .before .before .before .before .args .tb .now) T → (loop : Option ℕ) → InLoop loop (c .before .before .before .before .before .before .before .before .before .before .before .before .before .before .before .before .before .before .before .before .before .before .before .before .before .args .env .base) (suc (12 - c .before .before .before .before .before .before .before .before .before .before .before .before .before .before .before .before .before .before .before .before .before .before .before .before .before .args .env .left)) (c .before .before .before .before .before .before .before .before .before .before .before .before .before .before .before .before .before .before .before .before .before .before .before .before .before .args .l) → (faultIn (c .transform-block2 .last .1 .1 .1 .1 .1 .1 .1 .1 .1 .1 .1 .0) ≡ 254 → ⊥)
-    → BlockWalks T (c .before .before .before .before .before .before .before .before .before .before .before .before .before .before .before .before .before .before .before .before .before .before .before .before .before .args .s .now) (c .before .before .before .before .before .before .before .before .before .before .before .before .before .before .before .before .before .before .before .before .before .before .before .before .before .args .env .left) (suc (12 - c .before .before .before .before .before .before .before .before .before .before .before .before .before .before .before .before .before .before .before .before .before .before .before .before .before .args .env .left)) (ownLoop (c .before .before .before .before .before .before .before .before .before .before .before .before .before .before .before .before .before .before .before .before .before .before .before .before .before .args .tag) (12 - c .before .before .before .before .before .before .before .before .before .before .before .before .before .before .before .before .before .before .before .before .before .before .before .before .before .args .env .left) loop) (view (c .before .before .before .before .before .before .before .before .before .before .before .before .before .before .before .before .before .before .before .before .before .before .before .before .before .args .l) (c .before .before .before .before .before .before .before .before .before .before .before .before .before .before .before .before .before .before .before .before .before .before .before .before .before .args .t6) (c .before .before .before .before .before .before .before .before .before .before .before .branch-rows .last .1 .1 .0) (rowOf (c .before .before .before .before .before .before .before .before .before .before .before .before .before .before .before .before .before .before .before .before .before .before .before .before .before .args .env .cur) (c .before .before .before .before .before .before .before .before .before .before .before .before .before .before .before .before .before .before .before .before .before .before .before .before .before .args .env .width) (c .before .before .before .before .before .before .before .before .before .before .before .before .before .before .before .before .before .before .before .before .before .before .before .before .before .args .l .count)) (c .before .before .before .before .before .before .before .before .before .before .before .before .before .before .before .before .before .before .before .before .before .before .before .before .before .args .env .width)) (placeIn (c .before .before .before .before .before .before .before .before .before .before .before .before .before .before .before .before .before .before .before .before .before .before .before .before .before .args .pl .now))
+    → BlockWalks (switchesOf (c .before .before .before .before .before .before .before .before .before .before .before .before .before .before .before .before .before .before .before .before .before .before .before .before .before .args .env .switches)) T (c .before .before .before .before .before .before .before .before .before .before .before .before .before .before .before .before .before .before .before .before .before .before .before .before .before .args .s .now) (c .before .before .before .before .before .before .before .before .before .before .before .before .before .before .before .before .before .before .before .before .before .before .before .before .before .args .env .left) (suc (12 - c .before .before .before .before .before .before .before .before .before .before .before .before .before .before .before .before .before .before .before .before .before .before .before .before .before .args .env .left)) (ownLoop (c .before .before .before .before .before .before .before .before .before .before .before .before .before .before .before .before .before .before .before .before .before .before .before .before .before .args .tag) (12 - c .before .before .before .before .before .before .before .before .before .before .before .before .before .before .before .before .before .before .before .before .before .before .before .before .before .args .env .left) loop) (view (c .before .before .before .before .before .before .before .before .before .before .before .before .before .before .before .before .before .before .before .before .before .before .before .before .before .args .l) (c .before .before .before .before .before .before .before .before .before .before .before .before .before .before .before .before .before .before .before .before .before .before .before .before .before .args .t6) (c .before .before .before .before .before .before .before .before .before .before .before .branch-rows .last .1 .1 .0) (rowOf (c .before .before .before .before .before .before .before .before .before .before .before .before .before .before .before .before .before .before .before .before .before .before .before .before .before .args .env .cur) (c .before .before .before .before .before .before .before .before .before .before .before .before .before .before .before .before .before .before .before .before .before .before .before .before .before .args .env .width) (c .before .before .before .before .before .before .before .before .before .before .before .before .before .before .before .before .before .before .before .before .before .before .before .before .before .args .l .count)) (c .before .before .before .before .before .before .before .before .before .before .before .before .before .before .before .before .before .before .before .before .before .before .before .before .before .args .env .width)) (placeIn (c .before .before .before .before .before .before .before .before .before .before .before .before .before .before .before .before .before .before .before .before .before .before .before .before .before .args .pl .now))
     (memory (c .before .before .before .before .before .before .before .before .before .before .before .before .before .before .before .before .before .before .before .before .before .before .before .before .before .args .out .now) (c .before .before .before .before .before .before .before .before .before .before .before .before .before .before .before .before .before .before .before .before .before .before .before .before .before .args .errs .now) (c .before .before .before .before .before .before .before .before .before .before .before .before .before .before .before .before .before .before .before .before .before .before .before .before .before .args .warns .now) (c .before .before .before .before .before .before .before .before .before .before .before .before .before .before .before .before .before .before .before .before .before .before .before .before .before .args .lefts .now)) (walkedIn (c .transform-block2 .last .1 .1 .1 .1 .1 .1 .1 .1 .1 .1 .1 .0) (view (c .before .before .before .before .before .before .before .before .before .before .before .before .before .before .before .before .before .before .before .before .before .before .before .before .before .args .l) (c .transform-block2 .result) (c .transform-block2 .last .1 .1 .1 .1 .1 .0) (rowOf (c .before .before .before .before .before .before .before .before .before .before .before .before .before .before .before .before .before .before .before .before .before .before .before .before .before .args .env .cur) (c .before .before .before .before .before .before .before .before .before .before .before .before .before .before .before .before .before .before .before .before .before .before .before .before .before .args .env .width) (c .before .before .before .before .before .before .before .before .before .before .before .before .before .before .before .before .before .before .before .before .before .before .before .before .before .args .l .count)) (c .before .before .before .before .before .before .before .before .before .before .before .before .before .before .before .before .before .before .before .before .before .before .before .before .before .args .env .width))) (memory (c .transform-block2 .last .1 .1 .1 .1 .1 .1 .1 .0) (c .transform-block2 .last .1 .1 .1 .1 .1 .1 .1 .1 .0) (c .transform-block2 .last .1 .1 .1 .1 .1 .1 .1 .1 .1 .0) (c .transform-block2 .last .1 .1 .1 .1 .1 .1 .1 .1 .1 .1 .0))
 first-walks t c =
     let at-branch-rows = c .before .before .before .before .before .before .before .before .before .before .before in
@@ -217,17 +218,17 @@ turned-at t c came =
     (at-mark-of .mark-of .ensures (at-loop .loop .l) (at-loop .loop .st) refl refl) (at-scanning .scanning .result) (at-scanning .scanning .ensures) (c .next-change .ensures)
     came (c .next-change .kept .1 .1 .1 .1 .1 .1 .1 .1 .1 .1 .1 .0) (c .next-change .kept .1 .1 .1 .1 .1 .1 .1 .1 .1 .1 .1 .1 .0) (c .next-change .kept .1 .1 .1 .1 .1 .1 .1 .1 .1 .1 .1 .1 .1 .0) (c .next-change .kept .1 .1 .1 .1 .1 .1 .1 .1 .1 .1 .1 .1 .1 .1 .0)
 
--- src/lib.rt:137:9
+-- src/lib.rt:138:9
 transform-block-place-in-requires : (t : ℕ) → transform-block-lts.Need-place-in-requires (transform-block-claims t) (transform-block-at t) transform-block.Post transform-block-Inv-loop transform-block-μ-loop
 transform-block-place-in-requires t c κs = tt
 
--- src/lib.rt:138:9
+-- src/lib.rt:139:9
 transform-block-inner-requires : (t : ℕ) → transform-block-lts.Need-inner-requires (transform-block-claims t) (transform-block-at t) transform-block.Post transform-block-Inv-loop transform-block-μ-loop
 transform-block-inner-requires t c κs =
     let start = c .before .before .before .before .before .before .before .before .before in
     block-there _ _ _ (start .pre .1 .1) .0
 
--- src/lib.rt:139:18
+-- src/lib.rt:140:18
 transform-block-sub-depth : (t : ℕ) → transform-block-lts.Need-sub-depth (transform-block-claims t) (transform-block-at t) transform-block.Post transform-block-Inv-loop transform-block-μ-loop
 transform-block-sub-depth t c =
     let at-inner = c .before in
@@ -235,11 +236,11 @@ transform-block-sub-depth t c =
     let el = ap (λ (x : Env). x .left) (at-inner .inner .ensures) in
     omega (arith, el, start .pre .1 .0 .depth)
 
--- src/lib.rt:139:17
+-- src/lib.rt:140:17
 transform-block-cast-depth : (t : ℕ) → transform-block-lts.Need-cast-depth (transform-block-claims t) (transform-block-at t) transform-block.Post transform-block-Inv-loop transform-block-μ-loop
 transform-block-cast-depth t c = omega arith
 
--- src/lib.rt:142:9
+-- src/lib.rt:143:9
 transform-block-head-requires : (t : ℕ) → transform-block-lts.Need-head-requires (transform-block-claims t) (transform-block-at t) transform-block.Post transform-block-Inv-loop transform-block-μ-loop
 transform-block-head-requires t c κs =
     let at-place-in = c .before .before .before in
@@ -249,7 +250,7 @@ transform-block-head-requires t c κs =
           (sym (at-place-in .place-in .ensures)) (block-there _ _ _ (start .pre .1 .1) .1),
     )
 
--- src/lib.rt:143:5
+-- src/lib.rt:144:5
 transform-block-loop-holds : (t : ℕ) → transform-block-lts.Need-loop-holds (transform-block-claims t) (transform-block-at t) transform-block.Post transform-block-Inv-loop transform-block-μ-loop
 transform-block-loop-holds t c =
     let at-head = c .before .before in
@@ -267,15 +268,15 @@ transform-block-loop-holds t c =
     (start .args .env .left) el there (block-bytes t at-shared-slice-known) _ _ (start .pre .1 .3) (start .pre .1 .4) _
     (at-head .head .ensures .is)
 
--- src/lib.rt:144:13
+-- src/lib.rt:145:13
 transform-block-mark-of-requires : (t : ℕ) → transform-block-lts.Need-mark-of-requires (transform-block-claims t) (transform-block-at t) transform-block.Post transform-block-Inv-loop transform-block-μ-loop
 transform-block-mark-of-requires t c κs = search needs
 
--- src/lib.rt:148:13
+-- src/lib.rt:149:13
 transform-block-scanning-requires : (t : ℕ) → transform-block-lts.Need-scanning-requires (transform-block-claims t) (transform-block-at t) transform-block.Post transform-block-Inv-loop transform-block-μ-loop
 transform-block-scanning-requires t c κs = search needs
 
--- src/lib.rt:145:13
+-- src/lib.rt:146:13
 transform-block-next-change-requires : (t : ℕ) → transform-block-lts.Need-next-change-requires (transform-block-claims t) (transform-block-at t) transform-block.Post transform-block-Inv-loop transform-block-μ-loop
 transform-block-next-change-requires t c κs =
     let at-scanning = c .before .before .before .before .before .before .before .before .before .before .before .before .before in
@@ -297,23 +298,23 @@ transform-block-next-change-requires t c κs =
 transform-block-enum-told : (t : ℕ) → transform-block-lts.Need-enum-told (transform-block-claims t) (transform-block-at t) transform-block.Post transform-block-Inv-loop transform-block-μ-loop
 transform-block-enum-told t c = search needs
 
--- src/lib.rt:143:5
+-- src/lib.rt:144:5
 transform-block-loop-less : (t : ℕ) → transform-block-lts.Need-loop-less (transform-block-claims t) (transform-block-at t) transform-block.Post transform-block-Inv-loop transform-block-μ-loop
 transform-block-loop-less t c =
     let at-next-change = c .before .before .before .before .before .before .before .before .before .before .before in
     absurd (at-next-change .next-change .ensures .1 .2 (c .enum-told .given .1))
 
--- src/lib.rt:143:5
+-- src/lib.rt:144:5
 transform-block-loop-again : (t : ℕ) → transform-block-lts.Need-loop-again (transform-block-claims t) (transform-block-at t) transform-block.Post transform-block-Inv-loop transform-block-μ-loop
 transform-block-loop-again t c =
     let at-next-change = c .before .before .before .before .before .before .before .before .before .before .before in
     absurd (at-next-change .next-change .ensures .1 .2 (c .enum-told .given .1))
 
--- src/lib.rt:172:21
+-- src/lib.rt:174:21
 transform-block-enum-told-2 : (t : ℕ) → transform-block-lts.Need-enum-told-2 (transform-block-claims t) (transform-block-at t) transform-block.Post transform-block-Inv-loop transform-block-μ-loop
 transform-block-enum-told-2 t c = search needs
 
--- src/lib.rt:167:17
+-- src/lib.rt:168:17
 transform-block-end-block-requires : (t : ℕ) → transform-block-lts.Need-end-block-requires (transform-block-claims t) (transform-block-at t) transform-block.Post transform-block-Inv-loop transform-block-μ-loop
 transform-block-end-block-requires t c κs =
     let at-enum-told2 = c .before .before .before .before .before in
@@ -338,7 +339,7 @@ transform-block-end-block-requires t c κs =
       at-loop .loop .inv .long .pl,
     )
 
--- src/lib.rt:179:17
+-- src/lib.rt:181:17
 transform-block-leave-requires : (t : ℕ) → transform-block-lts.Need-leave-requires (transform-block-claims t) (transform-block-at t) transform-block.Post transform-block-Inv-loop transform-block-μ-loop
 transform-block-leave-requires t c κs =
     let at-loop = c .before .before .before .before .before .before .before .before .before .before .before .before .before .before .before .before .before .before .before .before .before .before .before .before .before .before .before .before .before .before .before .before .before .before .before in
@@ -346,43 +347,43 @@ transform-block-leave-requires t c κs =
     let small = at-loop .loop .inv .owned .sound .kept .small in
     (at-loop .loop .inv .owned .sound .held, omega (arith, most, small), omega (arith, most, small))
 
--- src/lib.rt:179:17
+-- src/lib.rt:181:17
 transform-block-same-length : (t : ℕ) → transform-block-lts.Need-same-length (transform-block-claims t) (transform-block-at t) transform-block.Post transform-block-Inv-loop transform-block-μ-loop
 transform-block-same-length t c =
     let at-loop = c .before .before .before .before .before .before .before .before .before .before .before .before .before .before .before .before .before .before .before .before .before .before .before .before .before .before .before .before .before .before .before .before .before .before .before .before in
     at-loop .loop .inv .owned .below .room
 
--- src/lib.rt:179:17
+-- src/lib.rt:181:17
 transform-block-same-length-2 : (t : ℕ) → transform-block-lts.Need-same-length-2 (transform-block-claims t) (transform-block-at t) transform-block.Post transform-block-Inv-loop transform-block-μ-loop
 transform-block-same-length-2 t c =
     let at-end-block = c .before .before .before in
     let at-next-change = at-end-block .before .before .before .before .before .before .before .before .before .before .before .before .before .before .before .before .before in
     let at-loop = at-next-change .before .before .before .before .before .before .before .before .before .before .before .before .before .before .before .before in
     let at-head = at-loop .before .before .before in
-    omega (arith, at-end-block .end-block .kept .1 .1 .1 .1 .1 .1 .1 .1 .0, at-next-change .next-change .kept .1 .1 .1 .1 .1 .1 .1 .1 .1 .1 .1 .0, at-loop .loop .inv .long .out, at-head .head .kept .1 .1 .0)
+    omega (arith, at-end-block .end-block .kept .1 .1 .1 .1 .1 .1 .1 .1 .1 .0, at-next-change .next-change .kept .1 .1 .1 .1 .1 .1 .1 .1 .1 .1 .1 .0, at-loop .loop .inv .long .out, at-head .head .kept .1 .1 .0)
 
--- src/lib.rt:179:17
+-- src/lib.rt:181:17
 transform-block-same-length-3 : (t : ℕ) → transform-block-lts.Need-same-length-3 (transform-block-claims t) (transform-block-at t) transform-block.Post transform-block-Inv-loop transform-block-μ-loop
 transform-block-same-length-3 t c =
     let at-next-change = c .before .before .before .before .before .before .before .before .before .before .before .before .before .before .before .before .before .before .before .before in
     let at-loop = at-next-change .before .before .before .before .before .before .before .before .before .before .before .before .before .before .before .before in
     omega (arith, at-next-change .next-change .kept .1 .1 .1 .1 .1 .1 .1 .1 .1 .1 .1 .1 .0, at-loop .loop .inv .long .errs)
 
--- src/lib.rt:179:17
+-- src/lib.rt:181:17
 transform-block-same-length-4 : (t : ℕ) → transform-block-lts.Need-same-length-4 (transform-block-claims t) (transform-block-at t) transform-block.Post transform-block-Inv-loop transform-block-μ-loop
 transform-block-same-length-4 t c =
     let at-next-change = c .before .before .before .before .before .before .before .before .before .before .before .before .before .before .before .before .before .before .before .before in
     let at-loop = at-next-change .before .before .before .before .before .before .before .before .before .before .before .before .before .before .before .before in
     omega (arith, at-next-change .next-change .kept .1 .1 .1 .1 .1 .1 .1 .1 .1 .1 .1 .1 .1 .0, at-loop .loop .inv .long .warns)
 
--- src/lib.rt:179:17
+-- src/lib.rt:181:17
 transform-block-same-length-5 : (t : ℕ) → transform-block-lts.Need-same-length-5 (transform-block-claims t) (transform-block-at t) transform-block.Post transform-block-Inv-loop transform-block-μ-loop
 transform-block-same-length-5 t c =
     let at-next-change = c .before .before .before .before .before .before .before .before .before .before .before .before .before .before .before .before .before .before .before .before in
     let at-loop = at-next-change .before .before .before .before .before .before .before .before .before .before .before .before .before .before .before .before in
     omega (arith, at-next-change .next-change .kept .1 .1 .1 .1 .1 .1 .1 .1 .1 .1 .1 .1 .1 .1 .0, at-loop .loop .inv .long .lefts)
 
--- src/lib.rt:179:17
+-- src/lib.rt:181:17
 transform-block-returns : (t : ℕ) → transform-block-lts.Need-returns (transform-block-claims t) (transform-block-at t) transform-block.Post transform-block-Inv-loop transform-block-μ-loop
 transform-block-returns t c =
     let at-end-block = c .before .before .before in
@@ -411,17 +412,17 @@ transform-block-returns t c =
     (block-bytes t at-shared-slice-known) (at-inner .inner .result) (start .args .env .left) low (start .pre .1 .0 .depth) el
     (at-place-in .place-in .result) (start .args .outer) (start .args .states) (start .args .rows .now) _ (start .args .errs .now) (start .args .warns .now)
     (start .args .lefts .now) within there (start .args .out .now) (at-head .head .ensures .stored) h _ _ (at-end-block .end-block .ensures .1) (c .leave .result)
-    (c .leave .ensures) (start .pre .1 .0 .sound .kept) (start .pre .1 .0 .sound .drops) nested _
+    (c .leave .ensures) (start .pre .1 .0 .sound .kept) (start .pre .1 .0 .sound .drops) nested _ _ (sym (ap (λ (x : Env). x .switches) (at-inner .inner .ensures)))
     (λ T sy. at-end-block .end-block .ensures .0 T (at-loop .loop .l .depths) (at-loop .loop .l .births) _ _
     (at-mark-of .mark-of .ensures (at-loop .loop .l) (at-loop .loop .st) refl refl ∙ at-loop .loop .inv .owned .sound .marked T sy) frame) in
     let q = done-as _ _ (start .args .env) (at-inner .inner .result) _ _ _ _ _ _ _ _ _ _ _ _ _ (at-inner .inner .ensures) (at-place-in .place-in .ensures) d in
     ((q .comes, q .nodes), q .walks)
 
--- src/lib.rt:181:24
+-- src/lib.rt:183:24
 transform-block-enum-known-turn : (t : ℕ) → transform-block-lts.Need-enum-known-turn (transform-block-claims t) (transform-block-at t) transform-block.Post transform-block-Inv-loop transform-block-μ-loop
 transform-block-enum-known-turn t c = search needs
 
--- src/lib.rt:182:22
+-- src/lib.rt:184:22
 transform-block-mark-requires : (t : ℕ) → transform-block-lts.Need-mark-requires (transform-block-claims t) (transform-block-at t) transform-block.Post transform-block-Inv-loop transform-block-μ-loop
 transform-block-mark-requires t c κs =
     let at-turn = c .before .before .before .before in
@@ -430,14 +431,14 @@ transform-block-mark-requires t c κs =
     let h = turned-at t at-next-change (at-turn .turn .given .1) in
     (at-loop .loop .inv .owned .sound .held, at-loop .loop .inv .owned .sound .kept .small, h .fit .1)
 
--- src/lib.rt:143:5
+-- src/lib.rt:144:5
 transform-block-loop-less-2 : (t : ℕ) → transform-block-lts.Need-loop-less-2 (transform-block-claims t) (transform-block-at t) transform-block.Post transform-block-Inv-loop transform-block-μ-loop
 transform-block-loop-less-2 t c =
     let at-turn = c .before .before .before .before .before in
     let at-next-change = at-turn .before .before .before .before .before .before .before .before .before .before .before in
     at-next-change .next-change .ensures .1 .3 (λ z. mark-goes _ _ _ _ (sym (at-turn .turn .given .1) ∙ z))
 
--- src/lib.rt:143:5
+-- src/lib.rt:144:5
 transform-block-loop-again-2 : (t : ℕ) → transform-block-lts.Need-loop-again-2 (transform-block-claims t) (transform-block-at t) transform-block.Post transform-block-Inv-loop transform-block-μ-loop
 transform-block-loop-again-2 t c =
     let at-turn = c .before .before .before .before .before in
@@ -451,25 +452,25 @@ transform-block-loop-again-2 t c =
     (start .args .outer) (start .args .states) (start .args .rows .now) _ (start .args .errs .now) (start .args .warns .now) (start .args .lefts .now) _ _ _ _ h
     (c .mark .result) (c .mark .ensures .0) (c .mark .ensures .1 (at-loop .loop .l) refl refl refl)
 
--- src/lib.rt:184:28
+-- src/lib.rt:186:28
 transform-block-enum-known-turn-2 : (t : ℕ) → transform-block-lts.Need-enum-known-turn-2 (transform-block-claims t) (transform-block-at t) transform-block.Post transform-block-Inv-loop transform-block-μ-loop
 transform-block-enum-known-turn-2 t c = search needs
 
--- src/lib.rt:185:20
+-- src/lib.rt:187:20
 transform-block-full-requires : (t : ℕ) → transform-block-lts.Need-full-requires (transform-block-claims t) (transform-block-at t) transform-block.Post transform-block-Inv-loop transform-block-μ-loop
 transform-block-full-requires t c κs = tt
 
--- src/lib.rt:186:21
+-- src/lib.rt:188:21
 transform-block-element-write-pl : (t : ℕ) → transform-block-lts.Need-element-write-pl (transform-block-claims t) (transform-block-at t) transform-block.Post transform-block-Inv-loop transform-block-μ-loop
 transform-block-element-write-pl t c = search needs
 
--- src/lib.rt:187:21
+-- src/lib.rt:189:21
 transform-block-same-length-6 : (t : ℕ) → transform-block-lts.Need-same-length-6 (transform-block-claims t) (transform-block-at t) transform-block.Post transform-block-Inv-loop transform-block-μ-loop
 transform-block-same-length-6 t c =
     let at-loop = c .before .before .before .before .before .before .before .before .before .before .before .before .before .before .before .before .before .before .before .before .before .before .before .before .before .before .before .before .before .before in
     at-loop .loop .inv .owned .below .room
 
--- src/lib.rt:187:21
+-- src/lib.rt:189:21
 transform-block-same-length-7 : (t : ℕ) → transform-block-lts.Need-same-length-7 (transform-block-claims t) (transform-block-at t) transform-block.Post transform-block-Inv-loop transform-block-μ-loop
 transform-block-same-length-7 t c =
     let at-next-change = c .before .before .before .before .before .before .before .before .before .before .before .before .before .before in
@@ -477,28 +478,28 @@ transform-block-same-length-7 t c =
     let at-head = at-loop .before .before .before in
     omega (arith, at-next-change .next-change .kept .1 .1 .1 .1 .1 .1 .1 .1 .1 .1 .1 .0, at-loop .loop .inv .long .out, at-head .head .kept .1 .1 .0)
 
--- src/lib.rt:187:21
+-- src/lib.rt:189:21
 transform-block-same-length-8 : (t : ℕ) → transform-block-lts.Need-same-length-8 (transform-block-claims t) (transform-block-at t) transform-block.Post transform-block-Inv-loop transform-block-μ-loop
 transform-block-same-length-8 t c =
     let at-next-change = c .before .before .before .before .before .before .before .before .before .before .before .before .before .before in
     let at-loop = at-next-change .before .before .before .before .before .before .before .before .before .before .before .before .before .before .before .before in
     omega (arith, at-next-change .next-change .kept .1 .1 .1 .1 .1 .1 .1 .1 .1 .1 .1 .1 .0, at-loop .loop .inv .long .errs)
 
--- src/lib.rt:187:21
+-- src/lib.rt:189:21
 transform-block-same-length-9 : (t : ℕ) → transform-block-lts.Need-same-length-9 (transform-block-claims t) (transform-block-at t) transform-block.Post transform-block-Inv-loop transform-block-μ-loop
 transform-block-same-length-9 t c =
     let at-next-change = c .before .before .before .before .before .before .before .before .before .before .before .before .before .before in
     let at-loop = at-next-change .before .before .before .before .before .before .before .before .before .before .before .before .before .before .before .before in
     omega (arith, at-next-change .next-change .kept .1 .1 .1 .1 .1 .1 .1 .1 .1 .1 .1 .1 .1 .0, at-loop .loop .inv .long .warns)
 
--- src/lib.rt:187:21
+-- src/lib.rt:189:21
 transform-block-same-length-10 : (t : ℕ) → transform-block-lts.Need-same-length-10 (transform-block-claims t) (transform-block-at t) transform-block.Post transform-block-Inv-loop transform-block-μ-loop
 transform-block-same-length-10 t c =
     let at-next-change = c .before .before .before .before .before .before .before .before .before .before .before .before .before .before in
     let at-loop = at-next-change .before .before .before .before .before .before .before .before .before .before .before .before .before .before .before .before in
     omega (arith, at-next-change .next-change .kept .1 .1 .1 .1 .1 .1 .1 .1 .1 .1 .1 .1 .1 .1 .0, at-loop .loop .inv .long .lefts)
 
--- src/lib.rt:187:21
+-- src/lib.rt:189:21
 transform-block-returns-2 : (t : ℕ) → transform-block-lts.Need-returns-2 (transform-block-claims t) (transform-block-at t) transform-block.Post transform-block-Inv-loop transform-block-μ-loop
 transform-block-returns-2 t c =
     let at-full = c .before in
@@ -529,17 +530,17 @@ transform-block-returns-2 t c =
     let q = done-as _ _ (start .args .env) (at-inner .inner .result) _ _ _ _ _ _ _ _ _ _ _ _ _ (at-inner .inner .ensures) (at-place-in .place-in .ensures) d in
     ((q .comes, q .nodes), q .walks)
 
--- src/lib.rt:194:53
+-- src/lib.rt:196:53
 transform-block-cast-auto-deleted : (t : ℕ) → transform-block-lts.Need-cast-auto-deleted (transform-block-claims t) (transform-block-at t) transform-block.Post transform-block-Inv-loop transform-block-μ-loop
 transform-block-cast-auto-deleted t c = search needs
 
--- src/lib.rt:194:21
+-- src/lib.rt:196:21
 transform-block-auto-deleted-requires : (t : ℕ) → transform-block-lts.Need-auto-deleted-requires (transform-block-claims t) (transform-block-at t) transform-block.Post transform-block-Inv-loop transform-block-μ-loop
 transform-block-auto-deleted-requires t c κs =
     let start = c .before .before .before .before .before .before .before .before .before .before .before .before .before .before .before .before .before .before .before .before .before .before .before .before .before .before .before .before .before .before .before .before .before .before .before .before .before .before .before .before .before .before .before .before .before .before in
     (start .pre .1 .0 .lent .filled .size, start .pre .1 .0 .lent .filled .fewTypes)
 
--- src/lib.rt:189:21
+-- src/lib.rt:191:21
 transform-block-register-local-requires : (t : ℕ) → transform-block-lts.Need-register-local-requires (transform-block-claims t) (transform-block-at t) transform-block.Post transform-block-Inv-loop transform-block-μ-loop
 transform-block-register-local-requires t c κs =
     let at-if1 = c .before in
@@ -548,25 +549,25 @@ transform-block-register-local-requires t c κs =
     let start = at-loop .before .before .before .before .before .before .before .before .before .before .before .before .before .before .before .before in
     (at-loop .loop .inv .owned .sound .kept, omega (arith, at-full .full .ensures .1 (at-if1 .if1 .left), start .pre .1 .0 .limit))
 
--- src/lib.rt:196:20
+-- src/lib.rt:198:20
 transform-block-needs-revival-requires : (t : ℕ) → transform-block-lts.Need-needs-revival-requires (transform-block-claims t) (transform-block-at t) transform-block.Post transform-block-Inv-loop transform-block-μ-loop
 transform-block-needs-revival-requires t c κs = search needs
 
--- src/lib.rt:197:26
+-- src/lib.rt:199:26
 transform-block-mark-requires-2 : (t : ℕ) → transform-block-lts.Need-mark-requires-2 (transform-block-claims t) (transform-block-at t) transform-block.Post transform-block-Inv-loop transform-block-μ-loop
 transform-block-mark-requires-2 t c κs =
     let at-register-local = c .before .before .before .before .before .before .before .before in
     let at-loop = at-register-local .before .before .before .before .before .before .before .before .before .before .before .before .before .before .before .before .before .before .before .before .before .before .before .before .before .before .before .before .before .before .before .before in
     (at-loop .loop .inv .owned .sound .held, at-register-local .register-local .ensures .kept .small, omega arith)
 
--- src/lib.rt:143:5
+-- src/lib.rt:144:5
 transform-block-loop-less-3 : (t : ℕ) → transform-block-lts.Need-loop-less-3 (transform-block-claims t) (transform-block-at t) transform-block.Post transform-block-Inv-loop transform-block-μ-loop
 transform-block-loop-less-3 t c =
     let at-turn2 = c .before .before .before .before .before .before .before .before .before .before .before .before .before .before in
     let at-next-change = at-turn2 .before .before .before .before .before .before .before .before .before .before .before in
     at-next-change .next-change .ensures .1 .3 (λ z. register-goes _ _ _ (sym (at-turn2 .turn2 .given .1) ∙ z))
 
--- src/lib.rt:143:5
+-- src/lib.rt:144:5
 transform-block-loop-again-3 : (t : ℕ) → transform-block-lts.Need-loop-again-3 (transform-block-claims t) (transform-block-at t) transform-block.Post transform-block-Inv-loop transform-block-μ-loop
 transform-block-loop-again-3 t c =
     let at-register-local = c .before .before .before .before .before .before .before .before .before in
@@ -585,14 +586,14 @@ transform-block-loop-again-3 t c =
     (at-register-local .register-local .ensures) (omega (arith, at-full .full .ensures .1 (at-if1 .if1 .left), start .pre .1 .0 .limit)) 0 (c .mark2 .result) (c .mark2 .ensures .0)
     (c .mark2 .ensures .1 (at-register-local .register-local .result) refl refl refl)
 
--- src/lib.rt:143:5
+-- src/lib.rt:144:5
 transform-block-loop-less-4 : (t : ℕ) → transform-block-lts.Need-loop-less-4 (transform-block-claims t) (transform-block-at t) transform-block.Post transform-block-Inv-loop transform-block-μ-loop
 transform-block-loop-less-4 t c =
     let at-turn2 = c .before .before .before .before .before .before .before .before .before .before in
     let at-next-change = at-turn2 .before .before .before .before .before .before .before .before .before .before .before in
     at-next-change .next-change .ensures .1 .3 (λ z. register-goes _ _ _ (sym (at-turn2 .turn2 .given .1) ∙ z))
 
--- src/lib.rt:143:5
+-- src/lib.rt:144:5
 transform-block-loop-again-4 : (t : ℕ) → transform-block-lts.Need-loop-again-4 (transform-block-claims t) (transform-block-at t) transform-block.Post transform-block-Inv-loop transform-block-μ-loop
 transform-block-loop-again-4 t c =
     let at-needs-revival = c .before in
@@ -613,17 +614,17 @@ transform-block-loop-again-4 t c =
     (at-register-local .register-local .ensures) (omega (arith, at-full .full .ensures .1 (at-if1 .if1 .left), start .pre .1 .0 .limit))
     (at-needs-revival .needs-revival .ensures (aliveAt (at-loop .loop .st)) (at-loop .loop .inv .owned .sound .held .word) (c .if2 .left))
 
--- src/lib.rt:200:26
+-- src/lib.rt:202:26
 transform-block-enum-known-turn-3 : (t : ℕ) → transform-block-lts.Need-enum-known-turn-3 (transform-block-claims t) (transform-block-at t) transform-block.Post transform-block-Inv-loop transform-block-μ-loop
 transform-block-enum-known-turn-3 t c = search needs
 
--- src/lib.rt:201:17
+-- src/lib.rt:203:17
 transform-block-put-place-requires : (t : ℕ) → transform-block-lts.Need-put-place-requires (transform-block-claims t) (transform-block-at t) transform-block.Post transform-block-Inv-loop transform-block-μ-loop
 transform-block-put-place-requires t c κs =
     let at-loop = c .before .before .before .before .before .before .before .before .before .before .before .before .before .before .before .before .before .before .before .before .before .before .before .before .before .before .before .before .before in
     at-loop .loop .inv .long .pl
 
--- src/lib.rt:202:22
+-- src/lib.rt:204:22
 transform-block-transform-blocks-requires : (t : ℕ) → transform-block-lts.Need-transform-blocks-requires (transform-block-claims t) (transform-block-at t) transform-block.Post transform-block-Inv-loop transform-block-μ-loop
 transform-block-transform-blocks-requires t c κs =
     let at-put-place = c .before .before .before .before .before .before .before in
@@ -656,18 +657,18 @@ transform-block-transform-blocks-requires t c κs =
       ),
     )
 
--- src/lib.rt:217:24
+-- src/lib.rt:219:24
 transform-block-element-copy-out-if3 : (t : ℕ) → transform-block-lts.Need-element-copy-out-if3 (transform-block-claims t) (transform-block-at t) transform-block.Post transform-block-Inv-loop transform-block-μ-loop
 transform-block-element-copy-out-if3 t c = search needs
 
--- src/lib.rt:218:21
+-- src/lib.rt:220:21
 transform-block-same-length-11 : (t : ℕ) → transform-block-lts.Need-same-length-11 (transform-block-claims t) (transform-block-at t) transform-block.Post transform-block-Inv-loop transform-block-μ-loop
 transform-block-same-length-11 t c =
     let at-transform-blocks = c .before .before .before .before .before .before .before .before .before .before .before .before in
     let at-loop = at-transform-blocks .before .before .before .before .before .before .before .before .before .before .before .before .before .before .before .before .before .before .before .before .before .before .before .before .before .before .before .before .before .before .before .before .before .before .before .before .before .before in
     omega (arith, at-transform-blocks .transform-blocks .kept .1 .1 .1 .1 .1 .1 .0, at-loop .loop .inv .owned .below .room)
 
--- src/lib.rt:218:21
+-- src/lib.rt:220:21
 transform-block-same-length-12 : (t : ℕ) → transform-block-lts.Need-same-length-12 (transform-block-claims t) (transform-block-at t) transform-block.Post transform-block-Inv-loop transform-block-μ-loop
 transform-block-same-length-12 t c =
     let at-transform-blocks = c .before .before .before .before .before .before .before .before .before .before .before .before in
@@ -676,7 +677,7 @@ transform-block-same-length-12 t c =
     let at-head = at-loop .before .before .before in
     omega (arith, at-transform-blocks .transform-blocks .kept .1 .1 .1 .1 .1 .1 .1 .1 .0, at-next-change .next-change .kept .1 .1 .1 .1 .1 .1 .1 .1 .1 .1 .1 .0, at-loop .loop .inv .long .out, at-head .head .kept .1 .1 .0)
 
--- src/lib.rt:218:21
+-- src/lib.rt:220:21
 transform-block-same-length-13 : (t : ℕ) → transform-block-lts.Need-same-length-13 (transform-block-claims t) (transform-block-at t) transform-block.Post transform-block-Inv-loop transform-block-μ-loop
 transform-block-same-length-13 t c =
     let at-transform-blocks = c .before .before .before .before .before .before .before .before .before .before .before .before in
@@ -684,7 +685,7 @@ transform-block-same-length-13 t c =
     let at-loop = at-next-change .before .before .before .before .before .before .before .before .before .before .before .before .before .before .before .before in
     omega (arith, at-transform-blocks .transform-blocks .kept .1 .1 .1 .1 .1 .1 .1 .1 .1 .0, at-next-change .next-change .kept .1 .1 .1 .1 .1 .1 .1 .1 .1 .1 .1 .1 .0, at-loop .loop .inv .long .errs)
 
--- src/lib.rt:218:21
+-- src/lib.rt:220:21
 transform-block-same-length-14 : (t : ℕ) → transform-block-lts.Need-same-length-14 (transform-block-claims t) (transform-block-at t) transform-block.Post transform-block-Inv-loop transform-block-μ-loop
 transform-block-same-length-14 t c =
     let at-transform-blocks = c .before .before .before .before .before .before .before .before .before .before .before .before in
@@ -692,7 +693,7 @@ transform-block-same-length-14 t c =
     let at-loop = at-next-change .before .before .before .before .before .before .before .before .before .before .before .before .before .before .before .before in
     omega (arith, at-transform-blocks .transform-blocks .kept .1 .1 .1 .1 .1 .1 .1 .1 .1 .1 .0, at-next-change .next-change .kept .1 .1 .1 .1 .1 .1 .1 .1 .1 .1 .1 .1 .1 .0, at-loop .loop .inv .long .warns)
 
--- src/lib.rt:218:21
+-- src/lib.rt:220:21
 transform-block-same-length-15 : (t : ℕ) → transform-block-lts.Need-same-length-15 (transform-block-claims t) (transform-block-at t) transform-block.Post transform-block-Inv-loop transform-block-μ-loop
 transform-block-same-length-15 t c =
     let at-transform-blocks = c .before .before .before .before .before .before .before .before .before .before .before .before in
@@ -700,7 +701,7 @@ transform-block-same-length-15 t c =
     let at-loop = at-next-change .before .before .before .before .before .before .before .before .before .before .before .before .before .before .before .before in
     omega (arith, at-transform-blocks .transform-blocks .kept .1 .1 .1 .1 .1 .1 .1 .1 .1 .1 .1 .0, at-next-change .next-change .kept .1 .1 .1 .1 .1 .1 .1 .1 .1 .1 .1 .1 .1 .1 .0, at-loop .loop .inv .long .lefts)
 
--- src/lib.rt:218:21
+-- src/lib.rt:220:21
 transform-block-returns-3 : (t : ℕ) → transform-block-lts.Need-returns-3 (transform-block-claims t) (transform-block-at t) transform-block.Post transform-block-Inv-loop transform-block-μ-loop
 transform-block-returns-3 t c =
     let at-transform-blocks = c .before .before .before .before .before .before .before .before .before .before .before .before in
@@ -731,11 +732,11 @@ transform-block-returns-3 t c =
     let q = done-as _ _ (start .args .env) (at-inner .inner .result) _ _ _ _ _ _ _ _ _ _ _ _ _ (at-inner .inner .ensures) (at-place-in .place-in .ensures) d in
     ((q .comes, q .nodes), q .walks)
 
--- src/lib.rt:220:17
+-- src/lib.rt:222:17
 transform-block-resumed-requires : (t : ℕ) → transform-block-lts.Need-resumed-requires (transform-block-claims t) (transform-block-at t) transform-block.Post transform-block-Inv-loop transform-block-μ-loop
 transform-block-resumed-requires t c κs = tt
 
--- src/lib.rt:143:5
+-- src/lib.rt:144:5
 transform-block-loop-less-5 : (t : ℕ) → transform-block-lts.Need-loop-less-5 (transform-block-claims t) (transform-block-at t) transform-block.Post transform-block-Inv-loop transform-block-μ-loop
 transform-block-loop-less-5 t c =
     let at-if3 = c .before .before in
@@ -760,7 +761,7 @@ transform-block-loop-less-5 t c =
     (at-transform-blocks .transform-blocks .last .1 .1 .1 .1 .1 .1 .1 .0) (b .0 .1) _
     (at-next-change .next-change .ensures .1 .3 (λ z. blocks-go _ (sym (at-turn3 .turn3 .given .1) ∙ z))) _ _ (c .resumed .ensures)
 
--- src/lib.rt:143:5
+-- src/lib.rt:144:5
 transform-block-loop-again-5 : (t : ℕ) → transform-block-lts.Need-loop-again-5 (transform-block-claims t) (transform-block-at t) transform-block.Post transform-block-Inv-loop transform-block-μ-loop
 transform-block-loop-again-5 t c =
     let at-if3 = c .before .before in
@@ -788,7 +789,7 @@ transform-block-loop-again-5 t c =
     (at-transform-blocks .transform-blocks .kept .1 .1 .1 .1 .1 .1 .1 .1 .1 .1 .0)
     (at-transform-blocks .transform-blocks .kept .1 .1 .1 .1 .1 .1 .1 .1 .1 .1 .1 .0) _ refl _ (c .resumed .ensures)
 
--- src/lib.rt:83:9
+-- src/lib.rt:84:9
 transform-blocks-transform-block-requires : (t : ℕ) → transform-blocks-lts.Need-transform-block-requires (transform-blocks-claims t) (transform-blocks-at t) transform-blocks.Post
 transform-blocks-transform-block-requires t c κs =
     let at-shared-slice-known = c .before .before .before .before .before .before .before .before .before .before .before .before .before .before in
@@ -806,27 +807,27 @@ transform-blocks-transform-block-requires t c κs =
       ),
     )
 
--- src/lib.rt:83:9
+-- src/lib.rt:84:9
 transform-blocks-same-length : (t : ℕ) → transform-blocks-lts.Need-same-length (transform-blocks-claims t) (transform-blocks-at t) transform-blocks.Post
 transform-blocks-same-length t c = omega arith
 
--- src/lib.rt:83:9
+-- src/lib.rt:84:9
 transform-blocks-same-length-2 : (t : ℕ) → transform-blocks-lts.Need-same-length-2 (transform-blocks-claims t) (transform-blocks-at t) transform-blocks.Post
 transform-blocks-same-length-2 t c = omega arith
 
--- src/lib.rt:83:9
+-- src/lib.rt:84:9
 transform-blocks-same-length-3 : (t : ℕ) → transform-blocks-lts.Need-same-length-3 (transform-blocks-claims t) (transform-blocks-at t) transform-blocks.Post
 transform-blocks-same-length-3 t c = omega arith
 
--- src/lib.rt:83:9
+-- src/lib.rt:84:9
 transform-blocks-same-length-4 : (t : ℕ) → transform-blocks-lts.Need-same-length-4 (transform-blocks-claims t) (transform-blocks-at t) transform-blocks.Post
 transform-blocks-same-length-4 t c = omega arith
 
--- src/lib.rt:83:9
+-- src/lib.rt:84:9
 transform-blocks-same-length-5 : (t : ℕ) → transform-blocks-lts.Need-same-length-5 (transform-blocks-claims t) (transform-blocks-at t) transform-blocks.Post
 transform-blocks-same-length-5 t c = omega arith
 
--- src/lib.rt:83:9
+-- src/lib.rt:84:9
 transform-blocks-returns : (t : ℕ) → transform-blocks-lts.Need-returns (transform-blocks-claims t) (transform-blocks-at t) transform-blocks.Post
 transform-blocks-returns t c =
     let at-transform-block = c .before .before .before .before .before .before .before .before .before .before in
@@ -847,7 +848,7 @@ transform-blocks-returns t c =
       },
     )
 
--- src/lib.rt:86:35
+-- src/lib.rt:87:35
 transform-blocks-behind-requires : (t : ℕ) → transform-blocks-lts.Need-behind-requires (transform-blocks-claims t) (transform-blocks-at t) transform-blocks.Post
 transform-blocks-behind-requires t c κs =
     let at-shared-slice-known = c .before .before .before .before .before .before .before in
@@ -859,11 +860,11 @@ transform-blocks-behind-requires t c κs =
           (start .args .rows .now) (start .args .pl .now) (start .pre .1 .0) (start .pre .1 .1) (start .pre .1 .3) .2,
     )
 
--- src/lib.rt:86:9
+-- src/lib.rt:87:9
 transform-blocks-in-loop-requires : (t : ℕ) → transform-blocks-lts.Need-in-loop-requires (transform-blocks-claims t) (transform-blocks-at t) transform-blocks.Post
 transform-blocks-in-loop-requires t c κs = search needs
 
--- src/lib.rt:87:9
+-- src/lib.rt:88:9
 transform-blocks-branch-rows-requires : (t : ℕ) → transform-blocks-lts.Need-branch-rows-requires (transform-blocks-claims t) (transform-blocks-at t) transform-blocks.Post
 transform-blocks-branch-rows-requires t c κs =
     let at-in-loop = c .before .before .before in
@@ -877,15 +878,15 @@ transform-blocks-branch-rows-requires t c κs =
     (blocks-bytes t at-shared-slice-known) (start .args .env) (start .args .tag) (start .args .l) (start .args .t6)
     (start .args .rows .now) (start .args .pl .now) (start .pre .1 .0) (start .pre .1 .1) (start .pre .1 .3) .0))
 
--- src/lib.rt:88:9
+-- src/lib.rt:89:9
 transform-blocks-element-write-pl : (t : ℕ) → transform-blocks-lts.Need-element-write-pl (transform-blocks-claims t) (transform-blocks-at t) transform-blocks.Post
 transform-blocks-element-write-pl t c = search needs
 
--- src/lib.rt:89:9
+-- src/lib.rt:90:9
 transform-blocks-same-length-6 : (t : ℕ) → transform-blocks-lts.Need-same-length-6 (transform-blocks-claims t) (transform-blocks-at t) transform-blocks.Post
 transform-blocks-same-length-6 t c = omega arith
 
--- src/lib.rt:89:9
+-- src/lib.rt:90:9
 transform-blocks-returns-2 : (t : ℕ) → transform-blocks-lts.Need-returns-2 (transform-blocks-claims t) (transform-blocks-at t) transform-blocks.Post
 transform-blocks-returns-2 t c =
     let at-branch-rows = c .before .before .before in
@@ -911,7 +912,7 @@ transform-blocks-returns-2 t c =
       λ T sy loop o reach. absurd (reach f),
     )
 
--- src/lib.rt:91:9
+-- src/lib.rt:92:9
 transform-blocks-transform-block-requires-2 : (t : ℕ) → transform-blocks-lts.Need-transform-block-requires-2 (transform-blocks-claims t) (transform-blocks-at t) transform-blocks.Post
 transform-blocks-transform-block-requires-2 t c κs =
     let at-if2 = c .before .before .before .before .before .before .before in
@@ -936,31 +937,31 @@ transform-blocks-transform-block-requires-2 t c κs =
           (start .args .rows .now) (start .args .pl .now) (start .pre .1 .0) (start .pre .1 .1) (start .pre .1 .3) .1) (start .pre .1 .4) (start .pre .1 .5),
     )
 
--- src/lib.rt:92:12
+-- src/lib.rt:93:12
 transform-blocks-element-copy-out-if3 : (t : ℕ) → transform-blocks-lts.Need-element-copy-out-if3 (transform-blocks-claims t) (transform-blocks-at t) transform-blocks.Post
 transform-blocks-element-copy-out-if3 t c = search needs
 
--- src/lib.rt:93:9
+-- src/lib.rt:94:9
 transform-blocks-same-length-7 : (t : ℕ) → transform-blocks-lts.Need-same-length-7 (transform-blocks-claims t) (transform-blocks-at t) transform-blocks.Post
 transform-blocks-same-length-7 t c = omega arith
 
--- src/lib.rt:93:9
+-- src/lib.rt:94:9
 transform-blocks-same-length-8 : (t : ℕ) → transform-blocks-lts.Need-same-length-8 (transform-blocks-claims t) (transform-blocks-at t) transform-blocks.Post
 transform-blocks-same-length-8 t c = omega arith
 
--- src/lib.rt:93:9
+-- src/lib.rt:94:9
 transform-blocks-same-length-9 : (t : ℕ) → transform-blocks-lts.Need-same-length-9 (transform-blocks-claims t) (transform-blocks-at t) transform-blocks.Post
 transform-blocks-same-length-9 t c = omega arith
 
--- src/lib.rt:93:9
+-- src/lib.rt:94:9
 transform-blocks-same-length-10 : (t : ℕ) → transform-blocks-lts.Need-same-length-10 (transform-blocks-claims t) (transform-blocks-at t) transform-blocks.Post
 transform-blocks-same-length-10 t c = omega arith
 
--- src/lib.rt:93:9
+-- src/lib.rt:94:9
 transform-blocks-same-length-11 : (t : ℕ) → transform-blocks-lts.Need-same-length-11 (transform-blocks-claims t) (transform-blocks-at t) transform-blocks.Post
 transform-blocks-same-length-11 t c = omega arith
 
--- src/lib.rt:93:9
+-- src/lib.rt:94:9
 transform-blocks-returns-3 : (t : ℕ) → transform-blocks-lts.Need-returns-3 (transform-blocks-claims t) (transform-blocks-at t) transform-blocks.Post
 transform-blocks-returns-3 t c =
     let at-transform-block2 = c .before .before .before .before .before .before .before .before .before .before .before .before in
@@ -990,7 +991,7 @@ transform-blocks-returns-3 t c =
           (c .if3 .taken) which,
     )
 
--- src/lib.rt:95:8
+-- src/lib.rt:96:8
 transform-blocks-then-over-requires : (t : ℕ) → transform-blocks-lts.Need-then-over-requires (transform-blocks-claims t) (transform-blocks-at t) transform-blocks.Post
 transform-blocks-then-over-requires t c κs =
     let at-if3 = c .before .before in
@@ -1005,7 +1006,7 @@ transform-blocks-then-over-requires t c κs =
       come .room,
     )
 
--- src/lib.rt:96:9
+-- src/lib.rt:97:9
 transform-blocks-transform-else-requires : (t : ℕ) → transform-blocks-lts.Need-transform-else-requires (transform-blocks-claims t) (transform-blocks-at t) transform-blocks.Post
 transform-blocks-transform-else-requires t c κs =
     let at-if4 = c .before .before .before .before .before .before .before in
@@ -1055,7 +1056,7 @@ transform-blocks-transform-else-requires t c κs =
       ),
     )
 
--- src/lib.rt:96:9
+-- src/lib.rt:97:9
 transform-blocks-same-length-12 : (t : ℕ) → transform-blocks-lts.Need-same-length-12 (transform-blocks-claims t) (transform-blocks-at t) transform-blocks.Post
 transform-blocks-same-length-12 t c =
     let at-transform-else = c .before .before .before .before .before .before .before .before .before .before in
@@ -1063,7 +1064,7 @@ transform-blocks-same-length-12 t c =
     let at-branch-rows = at-transform-block2 .before .before .before .before .before .before .before .before .before .before .before in
     omega (arith, at-transform-else .transform-else .kept .1 .1 .1 .1 .1 .1 .0, at-transform-block2 .transform-block2 .kept .1 .1 .1 .1 .1 .0, at-branch-rows .branch-rows .kept .1 .1 .0)
 
--- src/lib.rt:96:9
+-- src/lib.rt:97:9
 transform-blocks-same-length-13 : (t : ℕ) → transform-blocks-lts.Need-same-length-13 (transform-blocks-claims t) (transform-blocks-at t) transform-blocks.Post
 transform-blocks-same-length-13 t c =
     let at-transform-else = c .before .before .before .before .before .before .before .before .before .before in
@@ -1071,28 +1072,28 @@ transform-blocks-same-length-13 t c =
     let at-transform-block2 = at-then-over .before .before .before .before .before .before .before .before .before .before .before .before .before .before .before in
     omega (arith, at-transform-else .transform-else .kept .1 .1 .1 .1 .1 .1 .1 .1 .0, at-then-over .then-over .kept .1 .1 .0, at-transform-block2 .transform-block2 .kept .1 .1 .1 .1 .1 .1 .1 .0)
 
--- src/lib.rt:96:9
+-- src/lib.rt:97:9
 transform-blocks-same-length-14 : (t : ℕ) → transform-blocks-lts.Need-same-length-14 (transform-blocks-claims t) (transform-blocks-at t) transform-blocks.Post
 transform-blocks-same-length-14 t c =
     let at-transform-else = c .before .before .before .before .before .before .before .before .before .before in
     let at-transform-block2 = at-transform-else .before .before .before .before .before .before .before .before .before .before .before .before .before .before .before .before .before .before .before .before .before .before .before .before .before .before in
     omega (arith, at-transform-else .transform-else .kept .1 .1 .1 .1 .1 .1 .1 .1 .1 .0, at-transform-block2 .transform-block2 .kept .1 .1 .1 .1 .1 .1 .1 .1 .0)
 
--- src/lib.rt:96:9
+-- src/lib.rt:97:9
 transform-blocks-same-length-15 : (t : ℕ) → transform-blocks-lts.Need-same-length-15 (transform-blocks-claims t) (transform-blocks-at t) transform-blocks.Post
 transform-blocks-same-length-15 t c =
     let at-transform-else = c .before .before .before .before .before .before .before .before .before .before in
     let at-transform-block2 = at-transform-else .before .before .before .before .before .before .before .before .before .before .before .before .before .before .before .before .before .before .before .before .before .before .before .before .before .before in
     omega (arith, at-transform-else .transform-else .kept .1 .1 .1 .1 .1 .1 .1 .1 .1 .1 .0, at-transform-block2 .transform-block2 .kept .1 .1 .1 .1 .1 .1 .1 .1 .1 .0)
 
--- src/lib.rt:96:9
+-- src/lib.rt:97:9
 transform-blocks-same-length-16 : (t : ℕ) → transform-blocks-lts.Need-same-length-16 (transform-blocks-claims t) (transform-blocks-at t) transform-blocks.Post
 transform-blocks-same-length-16 t c =
     let at-transform-else = c .before .before .before .before .before .before .before .before .before .before in
     let at-transform-block2 = at-transform-else .before .before .before .before .before .before .before .before .before .before .before .before .before .before .before .before .before .before .before .before .before .before .before .before .before .before in
     omega (arith, at-transform-else .transform-else .kept .1 .1 .1 .1 .1 .1 .1 .1 .1 .1 .1 .0, at-transform-block2 .transform-block2 .kept .1 .1 .1 .1 .1 .1 .1 .1 .1 .1 .0)
 
--- src/lib.rt:96:9
+-- src/lib.rt:97:9
 transform-blocks-returns-4 : (t : ℕ) → transform-blocks-lts.Need-returns-4 (transform-blocks-claims t) (transform-blocks-at t) transform-blocks.Post
 transform-blocks-returns-4 t c =
     let at-transform-else = c .before .before .before .before .before .before .before .before .before .before in
@@ -1134,7 +1135,7 @@ transform-blocks-returns-4 t c =
           (at-transform-else .transform-else .ensures .1 T sy loop o reach),
     )
 
--- src/lib.rt:112:5
+-- src/lib.rt:113:5
 transform-blocks-merge-first-requires : (t : ℕ) → transform-blocks-lts.Need-merge-first-requires (transform-blocks-claims t) (transform-blocks-at t) transform-blocks.Post
 transform-blocks-merge-first-requires t c κs =
     let at-then-over = c .before .before .before .before .before in
@@ -1164,7 +1165,7 @@ transform-blocks-merge-first-requires t c κs =
       told .1,
     )
 
--- src/lib.rt:60:1
+-- src/lib.rt:61:1
 transform-blocks-same-length-17 : (t : ℕ) → transform-blocks-lts.Need-same-length-17 (transform-blocks-claims t) (transform-blocks-at t) transform-blocks.Post
 transform-blocks-same-length-17 t c =
     let at-merge-first = c .before .before in
@@ -1172,23 +1173,23 @@ transform-blocks-same-length-17 t c =
     let at-branch-rows = at-transform-block2 .before .before .before .before .before .before .before .before .before .before .before in
     omega (arith, at-merge-first .merge-first .kept .1 .1 .1 .0, at-transform-block2 .transform-block2 .kept .1 .1 .1 .1 .1 .0, at-branch-rows .branch-rows .kept .1 .1 .0)
 
--- src/lib.rt:60:1
+-- src/lib.rt:61:1
 transform-blocks-same-length-18 : (t : ℕ) → transform-blocks-lts.Need-same-length-18 (transform-blocks-claims t) (transform-blocks-at t) transform-blocks.Post
 transform-blocks-same-length-18 t c = omega arith
 
--- src/lib.rt:60:1
+-- src/lib.rt:61:1
 transform-blocks-same-length-19 : (t : ℕ) → transform-blocks-lts.Need-same-length-19 (transform-blocks-claims t) (transform-blocks-at t) transform-blocks.Post
 transform-blocks-same-length-19 t c = omega arith
 
--- src/lib.rt:60:1
+-- src/lib.rt:61:1
 transform-blocks-same-length-20 : (t : ℕ) → transform-blocks-lts.Need-same-length-20 (transform-blocks-claims t) (transform-blocks-at t) transform-blocks.Post
 transform-blocks-same-length-20 t c = omega arith
 
--- src/lib.rt:60:1
+-- src/lib.rt:61:1
 transform-blocks-same-length-21 : (t : ℕ) → transform-blocks-lts.Need-same-length-21 (transform-blocks-claims t) (transform-blocks-at t) transform-blocks.Post
 transform-blocks-same-length-21 t c = omega arith
 
--- src/lib.rt:60:1
+-- src/lib.rt:61:1
 transform-blocks-returns-5 : (t : ℕ) → transform-blocks-lts.Need-returns-5 (transform-blocks-claims t) (transform-blocks-at t) transform-blocks.Post
 transform-blocks-returns-5 t c =
     let at-merge-first = c .before .before in
@@ -1273,24 +1274,24 @@ transform-blocks-returns-5 t c =
     ))
     which
 
--- src/lib.rt:49:16
+-- src/lib.rt:50:16
 transform-else-element-copy-out-sure : (t : ℕ) → transform-else-lts.Need-element-copy-out-sure (transform-else-claims t) (transform-else-at t) transform-else.Post
 transform-else-element-copy-out-sure t c = search needs
 
--- src/lib.rt:50:34
+-- src/lib.rt:51:34
 transform-else-behind-requires : (t : ℕ) → transform-else-lts.Need-behind-requires (transform-else-claims t) (transform-else-at t) transform-else.Post
 transform-else-behind-requires t c κs =
     let start = c .before .before .before .before .before .before .before .before in
     (start .pre .1 .0 .sound .kept .small, start .pre .1 .0 .width, omega (arith, start .pre .1 .2))
 
--- src/lib.rt:50:9
+-- src/lib.rt:51:9
 transform-else-behind-requires-2 : (t : ℕ) → transform-else-lts.Need-behind-requires-2 (transform-else-claims t) (transform-else-at t) transform-else.Post
 transform-else-behind-requires-2 t c κs =
     let start = c .before .before .before .before .before .before .before .before .before in
     behind-asked (start .args .s .now) (start .args .tb .now) (start .args .env) (start .args .l) (start .args .t6) _ _
     (start .pre .1 .0) (start .pre .1 .2) _ (c .behind .ensures)
 
--- src/lib.rt:51:9
+-- src/lib.rt:52:9
 transform-else-branch-rows-requires : (t : ℕ) → transform-else-lts.Need-branch-rows-requires (transform-else-claims t) (transform-else-at t) transform-else.Post
 transform-else-branch-rows-requires t c κs =
     let at-behind2 = c .before .before .before in
@@ -1304,15 +1305,15 @@ transform-else-branch-rows-requires t c κs =
     (to-branch (start .args .s .now) (start .args .tb .now) (start .args .env) (start .args .l) (start .args .t6) _
     _ (start .pre .1 .0) _ (low .2) (low .0))
 
--- src/lib.rt:52:9
+-- src/lib.rt:53:9
 transform-else-element-write-pl : (t : ℕ) → transform-else-lts.Need-element-write-pl (transform-else-claims t) (transform-else-at t) transform-else.Post
 transform-else-element-write-pl t c = search needs
 
--- src/lib.rt:53:9
+-- src/lib.rt:54:9
 transform-else-same-length : (t : ℕ) → transform-else-lts.Need-same-length (transform-else-claims t) (transform-else-at t) transform-else.Post
 transform-else-same-length t c = omega arith
 
--- src/lib.rt:53:9
+-- src/lib.rt:54:9
 transform-else-returns : (t : ℕ) → transform-else-lts.Need-returns (transform-else-claims t) (transform-else-at t) transform-else.Post
 transform-else-returns t c =
     let at-branch-rows = c .before .before .before in
@@ -1340,7 +1341,7 @@ transform-else-returns t c =
       λ T sy loop o reach. absurd (reach f),
     )
 
--- src/lib.rt:55:9
+-- src/lib.rt:56:9
 transform-else-transform-block-requires : (t : ℕ) → transform-else-lts.Need-transform-block-requires (transform-else-claims t) (transform-else-at t) transform-else.Post
 transform-else-transform-block-requires t c κs =
     let at-if1 = c .before .before .before .before .before .before .before in
@@ -1360,7 +1361,7 @@ transform-else-transform-block-requires t c κs =
           (start .pre .1 .4) (start .pre .1 .5),
     )
 
--- src/lib.rt:56:5
+-- src/lib.rt:57:5
 transform-else-merge-else-requires : (t : ℕ) → transform-else-lts.Need-merge-else-requires (transform-else-claims t) (transform-else-at t) transform-else.Post
 transform-else-merge-else-requires t c κs =
     let at-transform-block = c .before .before .before .before .before .before .before .before .before .before .before .before in
@@ -1380,7 +1381,7 @@ transform-else-merge-else-requires t c κs =
       come .room,
     )
 
--- src/lib.rt:26:1
+-- src/lib.rt:27:1
 transform-else-same-length-2 : (t : ℕ) → transform-else-lts.Need-same-length-2 (transform-else-claims t) (transform-else-at t) transform-else.Post
 transform-else-same-length-2 t c =
     let at-merge-else = c .before .before in
@@ -1388,23 +1389,23 @@ transform-else-same-length-2 t c =
     let at-branch-rows = at-transform-block .before .before .before .before .before .before .before .before .before .before .before in
     omega (arith, at-merge-else .merge-else .kept .1 .1 .1 .1 .1 .0, at-transform-block .transform-block .kept .1 .1 .1 .1 .1 .0, at-branch-rows .branch-rows .kept .1 .1 .0)
 
--- src/lib.rt:26:1
+-- src/lib.rt:27:1
 transform-else-same-length-3 : (t : ℕ) → transform-else-lts.Need-same-length-3 (transform-else-claims t) (transform-else-at t) transform-else.Post
 transform-else-same-length-3 t c = omega arith
 
--- src/lib.rt:26:1
+-- src/lib.rt:27:1
 transform-else-same-length-4 : (t : ℕ) → transform-else-lts.Need-same-length-4 (transform-else-claims t) (transform-else-at t) transform-else.Post
 transform-else-same-length-4 t c = omega arith
 
--- src/lib.rt:26:1
+-- src/lib.rt:27:1
 transform-else-same-length-5 : (t : ℕ) → transform-else-lts.Need-same-length-5 (transform-else-claims t) (transform-else-at t) transform-else.Post
 transform-else-same-length-5 t c = omega arith
 
--- src/lib.rt:26:1
+-- src/lib.rt:27:1
 transform-else-same-length-6 : (t : ℕ) → transform-else-lts.Need-same-length-6 (transform-else-claims t) (transform-else-at t) transform-else.Post
 transform-else-same-length-6 t c = omega arith
 
--- src/lib.rt:26:1
+-- src/lib.rt:27:1
 transform-else-returns-2 : (t : ℕ) → transform-else-lts.Need-returns-2 (transform-else-claims t) (transform-else-at t) transform-else.Post
 transform-else-returns-2 t c =
     let at-merge-else = c .before .before in

@@ -4,11 +4,11 @@ use Rattle.blocks_ends.proofs.fitting.Tie as tie
 use Rattle.blocks_ends.proofs.fitting.Reads as reads
 use Rattle.blocks_ends.proofs.fitting.Lts as lts
 
--- src/lib.rt:220:9
+-- src/lib.rt:224:9
 returns : tie.Need-returns
 returns c = rw (c .if1 .taken)
 
--- src/lib.rt:216:1
+-- src/lib.rt:220:1
 returns-2 : tie.Need-returns-2
 returns-2 c = search needs
 

@@ -11,38 +11,38 @@ use Rattle.image_fields.proofs.two_at.Reads as two-at-reads
 use Rattle.statements_changes.proofs.between.Reads as between-reads
 use Rattle.image_writing.proofs.copy_bytes.Reads as copy-bytes-reads
 
--- src/lib.rt:156:50
+-- src/lib.rt:160:50
 add-copy-bytes : tie.Need-add-copy-bytes
 add-copy-bytes c = search needs
 
--- src/lib.rt:156:9
+-- src/lib.rt:160:9
 copy-bytes-requires : tie.Need-copy-bytes-requires
 copy-bytes-requires c κs = search needs
 
--- src/lib.rt:157:41
+-- src/lib.rt:161:41
 add-two-at : tie.Need-add-two-at
 add-two-at c = search needs
 
--- src/lib.rt:157:9
+-- src/lib.rt:161:9
 two-at-requires : tie.Need-two-at-requires
 two-at-requires c κs = search needs
 
--- src/lib.rt:158:9
+-- src/lib.rt:162:9
 inside-requires : tie.Need-inside-requires
 inside-requires c κs =
     let r = c .before .before .before .before .before .before .before .before .before .pre in
     let g = span-length _ (λ k. omega (arith, c .before .before .before .before .before .before .before .before .shared-slice-known .given k)) _ (r .1) (c .before .before .before .before .copy-bytes .ensures) in
     (omega (arith, r .0 .inside, r .0 .small), omega (arith, g, r .0 .written, r .0 .inside, r .0 .small))
 
--- src/lib.rt:159:5
+-- src/lib.rt:163:5
 between-requires : tie.Need-between-requires
 between-requires c κs = search needs
 
--- src/lib.rt:152:1
+-- src/lib.rt:156:1
 same-length : tie.Need-same-length
 same-length c = search needs
 
--- src/lib.rt:152:1
+-- src/lib.rt:156:1
 returns : tie.Need-returns
 returns c =
     let at-copy-bytes = c .before .before .before .before .before .before in

@@ -1,7 +1,6 @@
 use borrow.Author.Needs.{needs}
 use native.Mathlib.Omega.{arith}
-use lib.Dec.{eqb}
-use Rattle.rules.specs.Rules.{deleteAt}
+use Rattle.rules.specs.Rules.{atEnd, concerns, deleteAt}
 use Rattle.statements_acts.specs.Marks.{lent, dropIn}
 use Rattle.statements_acts.proofs.Masked.{stateSince, since-marked, since-drops}
 use Rattle.blocks_laws.proofs.Ends.{tail-none, tail-frame}
@@ -15,7 +14,7 @@ use Rattle.statements_acts.proofs.put_drops.Reads as put-drops-reads
 returns : tie.Need-returns
 returns c =
     let a = c .before .before .args in
-    (omega arith, omega arith, λ T ld births g n depth h f. tail-none T (a .sure) depth (a .span) (lent (a .ln .now) (a .lt .now) ld births g n) (c .if1 .taken) _ _)
+    (omega arith, omega arith, λ w T ld births g n depth h f. tail-none w T (a .sure) depth (a .span) (lent (a .ln .now) (a .lt .now) ld births g n) (c .if1 .taken) _ _)
 
 since-requires : tie.Need-since-requires
 since-requires c κs = search needs
@@ -33,8 +32,8 @@ returns-2 c =
     let own = c .before .before .before .before .since in (
       put .0,
       put .1,
-      λ T ld births g n depth h f. tail-frame T (a .sure) depth (a .span) (lent (a .ln .now) (a .lt .now) ld births g n) (c .before .before .before .before .before .if1 .left)
-          (since-drops T (a .lt .now) g (a .base) (a .ln .now) ld births (λ x. eqb (x .depth) depth) (deleteAt (a .span)) n (f .own))
+      λ w T ld births g n depth h f. tail-frame w T (a .sure) depth (a .span) (lent (a .ln .now) (a .lt .now) ld births g n) (c .before .before .before .before .before .if1 .left)
+          (since-drops T (a .lt .now) g (a .base) (a .ln .now) ld births (λ x. concerns w (atEnd depth) x) (deleteAt (a .span)) n (f .own (a .ln .now) (a .lt .now) births))
           (put .2 T ld births (stateSince (a .base) g) n (since-marked T (a .lt .now) g (a .base) n _ (own .ensures 0 n (dropIn T (a .lt .now) g) (f .few) h))),
     )
 

@@ -10,15 +10,15 @@ use Rattle.blocks_ends.proofs.resumed.Lts as lts
 use Rattle.blocks_ends.proofs.place_in.Reads as place-in-reads
 use Rattle.statements_changes.proofs.between.Reads as between-reads
 
--- src/lib.rt:130:39
+-- src/lib.rt:134:39
 place-in-requires : tie.Need-place-in-requires
 place-in-requires c κs = search needs
 
--- src/lib.rt:130:5
+-- src/lib.rt:134:5
 between-requires : tie.Need-between-requires
 between-requires c κs = search needs
 
--- src/lib.rt:127:1
+-- src/lib.rt:131:1
 returns : tie.Need-returns
 returns c = c .between .ensures ∙ ap (λ (p : Place). betweenOf (c .before .before .args .left) p Nobody) (c .before .place-in .ensures)
 

@@ -10,47 +10,47 @@ use Rattle.blocks_ends.proofs.then_over.Reads as reads
 use Rattle.blocks_ends.proofs.then_over.Lts as lts
 use Rattle.image_writing.proofs.put.Reads as put-reads
 
--- src/lib.rt:169:9
+-- src/lib.rt:173:9
 element-write-pl : tie.Need-element-write-pl
 element-write-pl c = search needs
 
--- src/lib.rt:170:9
+-- src/lib.rt:174:9
 returns : tie.Need-returns
 returns c = (λ h. record { flag = refl; same = refl; tells = sure-told (c .before .before .before .args .pl .now) (c .before .before .before .pre .2) 0 _ refl }, λ h. absurd (h (c .if1 .taken)))
 
--- src/lib.rt:172:14
+-- src/lib.rt:176:14
 element-copy-out-at : tie.Need-element-copy-out-at
 element-copy-out-at c = search needs
 
--- src/lib.rt:173:16
+-- src/lib.rt:177:16
 shared-slice-read-flag : tie.Need-shared-slice-read-flag
 shared-slice-read-flag c = c .before .before .before .before .before .pre .1 (c .before .before .if1 .left)
 
--- src/lib.rt:174:37
+-- src/lib.rt:178:37
 element-copy-out-put : tie.Need-element-copy-out-put
 element-copy-out-put c = search needs
 
--- src/lib.rt:174:13
+-- src/lib.rt:178:13
 put-requires : tie.Need-put-requires
 put-requires c κs = search needs
 
--- src/lib.rt:174:5
+-- src/lib.rt:178:5
 element-write-pl-2 : tie.Need-element-write-pl-2
 element-write-pl-2 c = search needs
 
--- src/lib.rt:175:13
+-- src/lib.rt:179:13
 add-pl : tie.Need-add-pl
 add-pl c = search needs
 
--- src/lib.rt:175:5
+-- src/lib.rt:179:5
 element-write-pl-3 : tie.Need-element-write-pl-3
 element-write-pl-3 c = search needs
 
--- src/lib.rt:163:1
+-- src/lib.rt:167:1
 same-length : tie.Need-same-length
 same-length c = search needs
 
--- src/lib.rt:163:1
+-- src/lib.rt:167:1
 returns-2 : tie.Need-returns-2
 returns-2 c =
     let at-if1 = c .before .before .before .before .before .before .before in

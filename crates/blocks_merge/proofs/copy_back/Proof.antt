@@ -8,18 +8,18 @@ use Rattle.blocks_merge.proofs.copy_back.Reads as reads
 use Rattle.blocks_merge.proofs.copy_back.Lts as lts
 use Rattle.scope_rows.proofs.copy_rows.Reads as copy-rows-reads
 
--- src/lib.rt:70:9
+-- src/lib.rt:73:9
 copy-rows-requires : tie.Need-copy-rows-requires
 copy-rows-requires c κs =
     let a = c .before .before .before .args in
     let h = c .before .before .before .pre in
     to-copy (a .n) (a .kinds .now) (a .rows .now) (a .src) (a .cur) (a .width) h (c .before .if1 .taken)
 
--- src/lib.rt:64:1
+-- src/lib.rt:67:1
 same-length : tie.Need-same-length
 same-length c = search needs
 
--- src/lib.rt:64:1
+-- src/lib.rt:67:1
 returns : tie.Need-returns
 returns c =
     let a = c .before .before .before .before .before .before .args in
@@ -29,7 +29,7 @@ returns c =
     let z = copied-back _ _ _ _ _ _ _ _ (to-copy (a .n) (a .kinds .now) (a .rows .now) (a .src) (a .cur) (a .width) h ne) (omega (arith, h .3 ne)) g in
     rw z at g
 
--- src/lib.rt:64:1
+-- src/lib.rt:67:1
 returns-2 : tie.Need-returns-2
 returns-2 c =
     let a = c .before .before .args in

@@ -6,11 +6,11 @@ use Rattle.blocks_merge.proofs.in_loop.Tie as tie
 use Rattle.blocks_merge.proofs.in_loop.Reads as reads
 use Rattle.blocks_merge.proofs.in_loop.Lts as lts
 
--- src/lib.rt:34:9
+-- src/lib.rt:36:9
 returns : tie.Need-returns
 returns c = rw (ne-eqb _ 8 (c .if1 .taken)) refl
 
--- src/lib.rt:30:1
+-- src/lib.rt:32:1
 returns-2 : tie.Need-returns-2
 returns-2 c = rw (eq-eqb _ 8 (c .if1 .left)) refl
 

@@ -6,19 +6,19 @@ use Rattle.entries_image.proofs.measure.Lts as lts
 use Rattle.entries_image.proofs.measure_long.Reads as measure-long-reads
 use Rattle.entries_image.proofs.measure_short.Reads as measure-short-reads
 
--- src/lib.rt:206:9
+-- src/lib.rt:207:9
 measure-short-requires : tie.Need-measure-short-requires
 measure-short-requires c κs = search needs
 
--- src/lib.rt:208:9
+-- src/lib.rt:209:9
 returns : tie.Need-returns
 returns c = c .before .before .measure-short .ensures .measures (c .if1 .taken)
 
--- src/lib.rt:210:5
+-- src/lib.rt:211:5
 measure-long-requires : tie.Need-measure-long-requires
 measure-long-requires c κs = search needs
 
--- src/lib.rt:202:1
+-- src/lib.rt:203:1
 returns-2 : tie.Need-returns-2
 returns-2 c = search needs
 

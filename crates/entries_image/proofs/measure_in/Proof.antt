@@ -10,27 +10,27 @@ use Rattle.entries_image.proofs.measure_in.Lts as lts
 use Rattle.entries_image.proofs.begin.Reads as begin-reads
 use Rattle.entries_image.proofs.walk_body.Reads as walk-body-reads
 
--- src/lib.rt:168:9
+-- src/lib.rt:169:9
 begin-requires : tie.Need-begin-requires
 begin-requires c κs = search needs
 
--- src/lib.rt:176:9
+-- src/lib.rt:177:9
 slice-aggregate-walk-body : tie.Need-slice-aggregate-walk-body
 slice-aggregate-walk-body c = search needs
 
--- src/lib.rt:177:9
+-- src/lib.rt:178:9
 slice-aggregate-walk-body-2 : tie.Need-slice-aggregate-walk-body-2
 slice-aggregate-walk-body-2 c = search needs
 
--- src/lib.rt:178:9
+-- src/lib.rt:179:9
 slice-aggregate-walk-body-3 : tie.Need-slice-aggregate-walk-body-3
 slice-aggregate-walk-body-3 c = search needs
 
--- src/lib.rt:179:9
+-- src/lib.rt:180:9
 slice-aggregate-walk-body-4 : tie.Need-slice-aggregate-walk-body-4
 slice-aggregate-walk-body-4 c = search needs
 
--- src/lib.rt:169:5
+-- src/lib.rt:170:5
 walk-body-requires : tie.Need-walk-body-requires
 walk-body-requires c κs =
     let s = c .before .before .before .before .before .before .before .before .before .args .s .now in
@@ -42,11 +42,11 @@ walk-body-requires c κs =
     let n = head-inside s tb small e i j (c .before .before .before .before .before .before .before .before .before .pre) in
     (c .before .before .before .before .before .before .before .before .before .pre, begins-at (c .before .before .before .before .before .begin .ensures) (omega arith) (omega arith) (omega arith))
 
--- src/lib.rt:153:1
+-- src/lib.rt:154:1
 same-length : tie.Need-same-length
 same-length c = search needs
 
--- src/lib.rt:153:1
+-- src/lib.rt:154:1
 returns : tie.Need-returns
 returns c =
     let s = c .before .before .before .before .before .before .before .before .before .before .before .before .before .before .before .before .args .s .now in

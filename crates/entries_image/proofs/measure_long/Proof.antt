@@ -6,15 +6,15 @@ use Rattle.entries_image.proofs.measure_long.Reads as reads
 use Rattle.entries_image.proofs.measure_long.Lts as lts
 use Rattle.entries_image.proofs.measure_in.Reads as measure-in-reads
 
--- src/lib.rt:198:41
+-- src/lib.rt:199:41
 slice-aggregate-measure-in : tie.Need-slice-aggregate-measure-in
 slice-aggregate-measure-in c = search needs
 
--- src/lib.rt:198:5
+-- src/lib.rt:199:5
 measure-in-requires : tie.Need-measure-in-requires
 measure-in-requires c κs = search needs
 
--- src/lib.rt:193:1
+-- src/lib.rt:194:1
 returns : tie.Need-returns
 returns c = c .before .measure-in .ensures .measures (λ z. omega (arith, c .before .measure-in .ensures .short z))
 

@@ -11,37 +11,37 @@ use Rattle.entries_image.proofs.page_image.Lts as lts
 use Rattle.entries_image.proofs.begin.Reads as begin-reads
 use Rattle.entries_image.proofs.walk_body.Reads as walk-body-reads
 
--- src/lib.rt:137:9
+-- src/lib.rt:138:9
 begin-requires : tie.Need-begin-requires
 begin-requires c κs = search needs
 
--- src/lib.rt:146:9
+-- src/lib.rt:147:9
 slice-aggregate-walk-body : tie.Need-slice-aggregate-walk-body
 slice-aggregate-walk-body c = search needs
 
--- src/lib.rt:147:9
+-- src/lib.rt:148:9
 slice-aggregate-walk-body-2 : tie.Need-slice-aggregate-walk-body-2
 slice-aggregate-walk-body-2 c = search needs
 
--- src/lib.rt:148:9
+-- src/lib.rt:149:9
 slice-aggregate-walk-body-3 : tie.Need-slice-aggregate-walk-body-3
 slice-aggregate-walk-body-3 c = search needs
 
--- src/lib.rt:138:5
+-- src/lib.rt:139:5
 walk-body-requires : tie.Need-walk-body-requires
 walk-body-requires c κs =
     let r = c .before .before .before .before .before .before .before .before .before .before .pre in
     (r .0, begins-at (c .before .before .before .before .before .begin .ensures) (r .1) (r .2) (r .3))
 
--- src/lib.rt:121:1
+-- src/lib.rt:122:1
 same-length : tie.Need-same-length
 same-length c = search needs
 
--- src/lib.rt:121:1
+-- src/lib.rt:122:1
 same-length-2 : tie.Need-same-length-2
 same-length-2 c = search needs
 
--- src/lib.rt:121:1
+-- src/lib.rt:122:1
 returns : tie.Need-returns
 returns c =
     let s = c .before .before .before .before .before .before .before .before .before .before .before .before .before .before .before .before .before .before .args .s .now in

@@ -14,7 +14,7 @@ use Rattle.entries_image.proofs.ended.Reads as ended-reads
 use Rattle.entries_image.proofs.walk_body.Reads as walk-body-reads
 use Rattle.image_writing.proofs.copy_bytes.Reads as copy-bytes-reads
 
--- src/lib.rt:114:9
+-- src/lib.rt:115:9
 copy-bytes-requires : tie.Need-copy-bytes-requires
 copy-bytes-requires c κs =
     let s = c .before .before .before .before .before .before .before .before .args .s .now in
@@ -26,11 +26,11 @@ copy-bytes-requires c κs =
     let n = head-inside s tb small e i j (c .before .before .before .before .before .before .before .before .pre) in
     (n .0, n .1, n .2, omega arith)
 
--- src/lib.rt:115:9
+-- src/lib.rt:116:9
 begin-requires : tie.Need-begin-requires
 begin-requires c κs = search needs
 
--- src/lib.rt:116:9
+-- src/lib.rt:117:9
 walk-body-requires : tie.Need-walk-body-requires
 walk-body-requires c κs =
     let s = c .before .before .before .before .before .before .before .before .before .before .before .before .before .before .before .before .before .args .s .now in
@@ -41,7 +41,7 @@ walk-body-requires c κs =
     let j = c .before .before .before .before .before .before .before .before .before .before .before .before .before .before .before .before .before .args .read .body in
     (c .before .before .before .before .before .before .before .before .before .before .before .before .before .before .before .before .before .pre, begins-head s tb small e i j (c .before .before .before .before .before .before .before .before .before .before .before .before .before .before .before .before .before .pre) (c .before .before .before .before .before .before .before .before .copy-bytes .result) (memory (c .before .before .before .before .before .before .before .before .before .before .before .before .before .before .before .before .before .args .out .now) (c .before .before .before .before .before .before .before .before .before .before .before .before .before .before .before .before .before .args .errs .now) (c .before .before .before .before .before .before .before .before .before .before .before .before .before .before .before .before .before .args .warns .now) (c .before .before .before .before .before .before .before .before .before .before .before .before .before .before .before .before .before .args .lefts .now)) (memory _ (c .before .before .before .before .before .before .before .before .before .before .before .before .before .before .before .before .before .args .errs .now) (c .before .before .before .before .before .before .before .before .before .before .before .before .before .before .before .before .before .args .warns .now) (c .before .before .before .before .before .before .before .before .before .before .before .before .before .before .before .before .before .args .lefts .now)) (c .before .before .before .before .before .begin .result) (c .before .before .before .before .before .begin .ensures) (c .before .before .before .before .before .before .before .before .copy-bytes .ensures))
 
--- src/lib.rt:117:5
+-- src/lib.rt:118:5
 ended-requires : tie.Need-ended-requires
 ended-requires c κs =
     let s = c .before .before .before .before .before .before .before .before .before .before .before .before .before .before .before .before .before .before .before .before .before .before .before .before .before .before .before .before .before .args .s .now in
@@ -52,27 +52,27 @@ ended-requires c κs =
     let j = c .before .before .before .before .before .before .before .before .before .before .before .before .before .before .before .before .before .before .before .before .before .before .before .before .before .before .before .before .before .args .read .body in
     low-written s tb small e i j (c .before .before .before .before .before .before .before .before .before .before .before .before .before .before .before .before .before .before .before .before .before .before .before .before .before .before .before .before .before .pre) (c .before .before .before .before .before .before .before .before .before .before .before .before .before .before .before .before .before .before .before .before .copy-bytes .result) (memory (c .before .before .before .before .before .before .before .before .before .before .before .before .before .before .before .before .before .before .before .before .before .before .before .before .before .before .before .before .before .args .out .now) (c .before .before .before .before .before .before .before .before .before .before .before .before .before .before .before .before .before .before .before .before .before .before .before .before .before .before .before .before .before .args .errs .now) (c .before .before .before .before .before .before .before .before .before .before .before .before .before .before .before .before .before .before .before .before .before .before .before .before .before .before .before .before .before .args .warns .now) (c .before .before .before .before .before .before .before .before .before .before .before .before .before .before .before .before .before .before .before .before .before .before .before .before .before .before .before .before .before .args .lefts .now)) (memory _ (c .before .before .before .before .before .before .before .before .before .before .before .before .before .before .before .before .before .before .before .before .before .before .before .before .before .before .before .before .before .args .errs .now) (c .before .before .before .before .before .before .before .before .before .before .before .before .before .before .before .before .before .before .before .before .before .before .before .before .before .before .before .before .before .args .warns .now) (c .before .before .before .before .before .before .before .before .before .before .before .before .before .before .before .before .before .before .before .before .before .before .before .before .before .before .before .before .before .args .lefts .now)) (c .before .before .before .before .before .before .before .before .before .before .before .before .before .before .before .before .before .begin .result) (c .before .before .before .before .before .before .before .before .before .before .before .before .before .before .before .before .before .begin .ensures) (c .before .before .before .before .before .before .before .before .before .before .before .before .before .before .before .before .before .before .before .before .copy-bytes .ensures) _ _ (memory [] [] [] []) (c .before .before .before .before .before .before .before .before .before .before .before .walk-body .result) (c .before .before .before .before .before .before .before .before .before .before .before .walk-body .result) (c .before .before .before .before .before .before .before .before .before .before .before .walk-body .ensures)
 
--- src/lib.rt:99:1
+-- src/lib.rt:100:1
 same-length : tie.Need-same-length
 same-length c = search needs
 
--- src/lib.rt:99:1
+-- src/lib.rt:100:1
 same-length-2 : tie.Need-same-length-2
 same-length-2 c = omega (arith, c .before .before .ended .kept .1 .0, c .before .before .before .before .before .before .before .before .before .before .before .before .before .before .walk-body .kept .1 .1 .1 .1 .1 .1 .0, c .before .before .before .before .before .before .before .before .before .before .before .before .before .before .before .before .before .before .before .before .before .before .before .copy-bytes .kept .1 .1 .1 .0)
 
--- src/lib.rt:99:1
+-- src/lib.rt:100:1
 same-length-3 : tie.Need-same-length-3
 same-length-3 c = search needs
 
--- src/lib.rt:99:1
+-- src/lib.rt:100:1
 same-length-4 : tie.Need-same-length-4
 same-length-4 c = search needs
 
--- src/lib.rt:99:1
+-- src/lib.rt:100:1
 same-length-5 : tie.Need-same-length-5
 same-length-5 c = search needs
 
--- src/lib.rt:99:1
+-- src/lib.rt:100:1
 returns : tie.Need-returns
 returns c =
     let s = c .before .before .before .before .before .before .before .before .before .before .before .before .before .before .before .before .before .before .before .before .before .before .before .before .before .before .before .before .before .before .before .before .args .s .now in

@@ -6,19 +6,19 @@ use Rattle.entries_page.proofs.write_page.Reads as reads
 use Rattle.entries_page.proofs.write_page.Lts as lts
 use Rattle.entries_image.proofs.page_image.Reads as page-image-reads
 
--- src/lib.rt:38:49
+-- src/lib.rt:39:49
 slice-aggregate-page-image : tie.Need-slice-aggregate-page-image
 slice-aggregate-page-image c = search needs
 
--- src/lib.rt:38:5
+-- src/lib.rt:39:5
 page-image-requires : tie.Need-page-image-requires
 page-image-requires c κs = search needs
 
--- src/lib.rt:24:1
+-- src/lib.rt:25:1
 same-length : tie.Need-same-length
 same-length c = search needs
 
--- src/lib.rt:24:1
+-- src/lib.rt:25:1
 returns : tie.Need-returns
 returns c =
     let g = c .before .before .before .page-image .ensures in

@@ -71,7 +71,7 @@ verdict-returns : (t : ℕ) → verdict-lts.Need-returns (verdict-claims t) (ver
 verdict-returns t c =
     let at-judge-tiny = c .before .before .before .before .before .before .before .before .before .before .before in
     let start = at-judge-tiny .before .before .before .before .before .before .before .before .before .before .before .before in
-    judged false (start .args .s .now) (memory (start .args .out .now) (start .args .errs .now) (start .args .warns .now) (start .args .lefts .now)) (at-judge-tiny .judge-tiny .result) _ (at-judge-tiny .judge-tiny .ensures) (c .before .if2 .taken) (c .told-of .result) (c .told-of .ensures)
+    judged (start .args .env .switches) false (start .args .s .now) (memory (start .args .out .now) (start .args .errs .now) (start .args .warns .now) (start .args .lefts .now)) (at-judge-tiny .judge-tiny .result) _ (at-judge-tiny .judge-tiny .ensures) (c .before .if2 .taken) (c .told-of .result) (c .told-of .ensures)
 
 -- src/lib.rt:217:9
 verdict-verdict-requires : (t : ℕ) → verdict-lts.Need-verdict-requires (verdict-claims t) (verdict-at t) verdict.Post
@@ -115,7 +115,7 @@ verdict-returns-2 t c =
     let at-if2 = at-verdict .before .before .before .before .before in
     let at-judge-tiny = at-if2 .before .before .before .before .before .before .before .before .before .before in
     let start = at-judge-tiny .before .before .before .before .before .before .before .before .before .before .before .before in
-    judged-next (start .args .s .now) (memory (start .args .out .now) (start .args .errs .now) (start .args .warns .now) (start .args .lefts .now)) (at-judge-tiny .judge-tiny .result) _ (at-judge-tiny .judge-tiny .ensures) (at-if2 .if2 .left) (at-verdict .verdict .result) _ (at-verdict .verdict .ensures)
+    judged-next (start .args .env .switches) (start .args .s .now) (memory (start .args .out .now) (start .args .errs .now) (start .args .warns .now) (start .args .lefts .now)) (at-judge-tiny .judge-tiny .result) _ (at-judge-tiny .judge-tiny .ensures) (at-if2 .if2 .left) (at-verdict .verdict .result) _ (at-verdict .verdict .ensures)
 
 -- src/lib.rt:220:13
 verdict-judge-short-requires : (t : ℕ) → verdict-lts.Need-judge-short-requires (verdict-claims t) (verdict-at t) verdict.Post
@@ -156,7 +156,7 @@ verdict-returns-3 : (t : ℕ) → verdict-lts.Need-returns-3 (verdict-claims t) 
 verdict-returns-3 t c =
     let at-judge-short = c .before .before .before .before .before .before .before .before .before .before .before in
     let start = at-judge-short .before .before .before .before .before .before .before .before .before .before .before .before .before in
-    judged false (start .args .s .now) (memory (start .args .out .now) (start .args .errs .now) (start .args .warns .now) (start .args .lefts .now)) (at-judge-short .judge-short .result) _ (at-judge-short .judge-short .ensures) (c .before .if4 .taken) (c .told-of2 .result) (c .told-of2 .ensures)
+    judged (start .args .env .switches) false (start .args .s .now) (memory (start .args .out .now) (start .args .errs .now) (start .args .warns .now) (start .args .lefts .now)) (at-judge-short .judge-short .result) _ (at-judge-short .judge-short .ensures) (c .before .if4 .taken) (c .told-of2 .result) (c .told-of2 .ensures)
 
 -- src/lib.rt:224:9
 verdict-verdict-requires-2 : (t : ℕ) → verdict-lts.Need-verdict-requires-2 (verdict-claims t) (verdict-at t) verdict.Post
@@ -200,7 +200,7 @@ verdict-returns-4 t c =
     let at-if4 = at-verdict2 .before .before .before .before .before in
     let at-judge-short = at-if4 .before .before .before .before .before .before .before .before .before .before in
     let start = at-judge-short .before .before .before .before .before .before .before .before .before .before .before .before .before in
-    judged-next (start .args .s .now) (memory (start .args .out .now) (start .args .errs .now) (start .args .warns .now) (start .args .lefts .now)) (at-judge-short .judge-short .result) _ (at-judge-short .judge-short .ensures) (at-if4 .if4 .left) (at-verdict2 .verdict2 .result) _ (at-verdict2 .verdict2 .ensures)
+    judged-next (start .args .env .switches) (start .args .s .now) (memory (start .args .out .now) (start .args .errs .now) (start .args .warns .now) (start .args .lefts .now)) (at-judge-short .judge-short .result) _ (at-judge-short .judge-short .ensures) (at-if4 .if4 .left) (at-verdict2 .verdict2 .result) _ (at-verdict2 .verdict2 .ensures)
 
 -- src/lib.rt:227:13
 verdict-judge-middle-requires : (t : ℕ) → verdict-lts.Need-judge-middle-requires (verdict-claims t) (verdict-at t) verdict.Post
@@ -241,7 +241,7 @@ verdict-returns-5 : (t : ℕ) → verdict-lts.Need-returns-5 (verdict-claims t) 
 verdict-returns-5 t c =
     let at-judge-middle = c .before .before .before .before .before .before .before .before .before .before .before in
     let start = at-judge-middle .before .before .before .before .before .before .before .before .before .before .before .before .before .before in
-    judged false (start .args .s .now) (memory (start .args .out .now) (start .args .errs .now) (start .args .warns .now) (start .args .lefts .now)) (at-judge-middle .judge-middle .result) _ (at-judge-middle .judge-middle .ensures) (c .before .if6 .taken) (c .told-of3 .result) (c .told-of3 .ensures)
+    judged (start .args .env .switches) false (start .args .s .now) (memory (start .args .out .now) (start .args .errs .now) (start .args .warns .now) (start .args .lefts .now)) (at-judge-middle .judge-middle .result) _ (at-judge-middle .judge-middle .ensures) (c .before .if6 .taken) (c .told-of3 .result) (c .told-of3 .ensures)
 
 -- src/lib.rt:231:9
 verdict-verdict-requires-3 : (t : ℕ) → verdict-lts.Need-verdict-requires-3 (verdict-claims t) (verdict-at t) verdict.Post
@@ -285,7 +285,7 @@ verdict-returns-6 t c =
     let at-if6 = at-verdict3 .before .before .before .before .before in
     let at-judge-middle = at-if6 .before .before .before .before .before .before .before .before .before .before in
     let start = at-judge-middle .before .before .before .before .before .before .before .before .before .before .before .before .before .before in
-    judged-next (start .args .s .now) (memory (start .args .out .now) (start .args .errs .now) (start .args .warns .now) (start .args .lefts .now)) (at-judge-middle .judge-middle .result) _ (at-judge-middle .judge-middle .ensures) (at-if6 .if6 .left) (at-verdict3 .verdict3 .result) _ (at-verdict3 .verdict3 .ensures)
+    judged-next (start .args .env .switches) (start .args .s .now) (memory (start .args .out .now) (start .args .errs .now) (start .args .warns .now) (start .args .lefts .now)) (at-judge-middle .judge-middle .result) _ (at-judge-middle .judge-middle .ensures) (at-if6 .if6 .left) (at-verdict3 .verdict3 .result) _ (at-verdict3 .verdict3 .ensures)
 
 -- src/lib.rt:233:9
 verdict-judge-long-requires : (t : ℕ) → verdict-lts.Need-judge-long-requires (verdict-claims t) (verdict-at t) verdict.Post
@@ -318,7 +318,7 @@ verdict-returns-7 : (t : ℕ) → verdict-lts.Need-returns-7 (verdict-claims t) 
 verdict-returns-7 t c =
     let at-judge-long = c .before .before .before .before .before .before .before .before .before in
     let start = at-judge-long .before .before .before .before .before .before .before .before .before .before .before .before .before .before in
-    judged-long (start .args .s .now) (memory (start .args .out .now) (start .args .errs .now) (start .args .warns .now) (start .args .lefts .now)) (at-judge-long .judge-long .result) _ (at-judge-long .judge-long .ensures) (c .told-of4 .result) (c .told-of4 .ensures)
+    judged-long (start .args .env .switches) (start .args .s .now) (memory (start .args .out .now) (start .args .errs .now) (start .args .warns .now) (start .args .lefts .now)) (at-judge-long .judge-long .result) _ (at-judge-long .judge-long .ensures) (c .told-of4 .result) (c .told-of4 .ensures)
 
 pub +verdict-spec : {M : Type 1} → statement M
 +verdict-spec = close μ-verdict λ t. verdict-lts.spec (verdict-claims t) (verdict-at t) verdict.Post

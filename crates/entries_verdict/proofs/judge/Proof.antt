@@ -42,7 +42,7 @@ returns : tie.Need-returns
 returns c =
     let at-walk-image = c .before .before .before .before .before .before .before .before .before .before .before .before in
     let start = at-walk-image .before .before .before .before .before .before .before .before .before .before .before .before .before .before .before .before .before in
-    judge-walk (start .args .s .now) (start .pre .0 .i) (start .pre .0 .read) (start .args .largest) (length (start .args .rows .now)) (start .pre .2) (at-walk-image .walk-image .ensures) (memory (start .args .out .now) (start .args .errs .now) (start .args .warns .now) (start .args .lefts .now)) (c .if1 .taken)
+    judge-walk (start .args .env .switches) (start .pre .0 .value) (start .args .s .now) (start .pre .0 .i) (start .pre .0 .read) (start .args .largest) (length (start .args .rows .now)) (start .pre .2) (at-walk-image .walk-image .ensures) (memory (start .args .out .now) (start .args .errs .now) (start .args .warns .now) (start .args .lefts .now)) (c .if1 .taken)
 
 -- src/lib.rt:111:9
 room-fault-requires : tie.Need-room-fault-requires
@@ -78,7 +78,7 @@ returns-2 c =
     let at-if1 = c .before .before .before .before in
     let at-walk-image = at-if1 .before .before .before .before .before .before .before .before .before .before .before .before in
     let start = at-walk-image .before .before .before .before .before .before .before .before .before .before .before .before .before .before .before .before .before in
-    judge-room (start .args .s .now) (start .pre .0 .i) (start .pre .0 .read) (start .args .largest) (length (start .args .rows .now)) (start .pre .2) (at-walk-image .walk-image .ensures) (at-if1 .if1 .left) (memory (start .args .out .now) (start .args .errs .now) (start .args .warns .now) (start .args .lefts .now)) (c .before .before .room-fault .result) (c .before .before .room-fault .ensures) (c .seen-at .result) (c .seen-at .ensures) (c .before .if2 .taken)
+    judge-room (start .args .env .switches) (start .pre .0 .value) (start .args .s .now) (start .pre .0 .i) (start .pre .0 .read) (start .args .largest) (length (start .args .rows .now)) (start .pre .2) (at-walk-image .walk-image .ensures) (at-if1 .if1 .left) (memory (start .args .out .now) (start .args .errs .now) (start .args .warns .now) (start .args .lefts .now)) (c .before .before .room-fault .result) (c .before .before .room-fault .ensures) (c .seen-at .result) (c .seen-at .ensures) (c .before .if2 .taken)
 
 -- src/lib.rt:115:8
 room-fault-requires-2 : tie.Need-room-fault-requires-2
@@ -94,7 +94,7 @@ copy-all-requires c κs =
     let at-if1 = at-room-fault .before .before in
     let at-walk-image = at-if1 .before .before .before .before .before .before .before .before .before .before .before .before in
     let start = at-walk-image .before .before .before .before .before .before .before .before .before .before .before .before .before .before .before .before .before in
-    (omega (arith, at-walk-image .walk-image .kept .1 .1 .1 .1 .1 .0, start .pre .1), room-own (start .args .s .now) (start .pre .0 .i) (start .pre .0 .read) (start .args .largest) (length (start .args .rows .now)) (start .pre .2) (at-walk-image .walk-image .ensures) (at-if1 .if1 .left) (memory (start .args .out .now) (start .args .errs .now) (start .args .warns .now) (start .args .lefts .now)) (at-room-fault .room-fault .result) (at-room-fault .room-fault .ensures) (at-if2 .if2 .left) (at-room-fault2 .room-fault2 .result) (at-room-fault2 .room-fault2 .ensures) (at-if3 .if3 .taken), room-lent (start .args .s .now) (start .pre .0 .i) (start .pre .0 .read) (start .args .largest) (length (start .args .rows .now)) (start .pre .2) (at-walk-image .walk-image .ensures) (at-if1 .if1 .left) (memory (start .args .out .now) (start .args .errs .now) (start .args .warns .now) (start .args .lefts .now)) (at-room-fault .room-fault .result) (at-room-fault .room-fault .ensures) (at-if2 .if2 .left))
+    (omega (arith, at-walk-image .walk-image .kept .1 .1 .1 .1 .1 .0, start .pre .1), room-own (start .args .env .switches) (start .pre .0 .value) (start .args .s .now) (start .pre .0 .i) (start .pre .0 .read) (start .args .largest) (length (start .args .rows .now)) (start .pre .2) (at-walk-image .walk-image .ensures) (at-if1 .if1 .left) (memory (start .args .out .now) (start .args .errs .now) (start .args .warns .now) (start .args .lefts .now)) (at-room-fault .room-fault .result) (at-room-fault .room-fault .ensures) (at-if2 .if2 .left) (at-room-fault2 .room-fault2 .result) (at-room-fault2 .room-fault2 .ensures) (at-if3 .if3 .taken), room-lent (start .args .env .switches) (start .pre .0 .value) (start .args .s .now) (start .pre .0 .i) (start .pre .0 .read) (start .args .largest) (length (start .args .rows .now)) (start .pre .2) (at-walk-image .walk-image .ensures) (at-if1 .if1 .left) (memory (start .args .out .now) (start .args .errs .now) (start .args .warns .now) (start .args .lefts .now)) (at-room-fault .room-fault .result) (at-room-fault .room-fault .ensures) (at-if2 .if2 .left))
 
 -- src/lib.rt:117:9
 same-length-11 : tie.Need-same-length-11
@@ -145,7 +145,7 @@ returns-3 c =
     let at-if1 = at-room-fault .before .before in
     let at-walk-image = at-if1 .before .before .before .before .before .before .before .before .before .before .before .before in
     let start = at-walk-image .before .before .before .before .before .before .before .before .before .before .before .before .before .before .before .before .before in
-    judge-copied (start .args .s .now) (start .pre .0 .i) (start .pre .0 .read) (start .args .largest) (length (start .args .rows .now)) (start .pre .2) (at-walk-image .walk-image .ensures) (at-if1 .if1 .left) (memory (start .args .out .now) (start .args .errs .now) (start .args .warns .now) (start .args .lefts .now)) (at-room-fault .room-fault .result) (at-room-fault .room-fault .ensures) (at-if2 .if2 .left) (at-room-fault2 .room-fault2 .result) (at-room-fault2 .room-fault2 .ensures) (at-if3 .if3 .taken) _ (at-copy-all .copy-all .ensures)
+    judge-copied (start .args .env .switches) (start .pre .0 .value) (start .args .s .now) (start .pre .0 .i) (start .pre .0 .read) (start .args .largest) (length (start .args .rows .now)) (start .pre .2) (at-walk-image .walk-image .ensures) (at-if1 .if1 .left) (memory (start .args .out .now) (start .args .errs .now) (start .args .warns .now) (start .args .lefts .now)) (at-room-fault .room-fault .result) (at-room-fault .room-fault .ensures) (at-if2 .if2 .left) (at-room-fault2 .room-fault2 .result) (at-room-fault2 .room-fault2 .ensures) (at-if3 .if3 .taken) _ (at-copy-all .copy-all .ensures)
 
 -- src/lib.rt:120:9
 walk-image-requires-2 : tie.Need-walk-image-requires-2
@@ -210,7 +210,7 @@ returns-4 c =
     let at-if1 = at-room-fault .before .before in
     let at-walk-image = at-if1 .before .before .before .before .before .before .before .before .before .before .before .before in
     let start = at-walk-image .before .before .before .before .before .before .before .before .before .before .before .before .before .before .before .before .before in
-    judge-again (start .args .s .now) (start .pre .0 .i) (start .pre .0 .read) (start .args .largest) (length (start .args .rows .now)) (start .pre .2) (at-walk-image .walk-image .ensures) (at-if1 .if1 .left) (memory (start .args .out .now) (start .args .errs .now) (start .args .warns .now) (start .args .lefts .now)) (at-room-fault .room-fault .result) (at-room-fault .room-fault .ensures) (at-if2 .if2 .left) (at-if4 .if4 .taken) _ (at-walk-image .walk-image .kept .1 .1 .1 .1 .0) _ (at-walk-image2 .walk-image2 .ensures)
+    judge-again (start .args .env .switches) (start .pre .0 .value) (start .args .s .now) (start .pre .0 .i) (start .pre .0 .read) (start .args .largest) (length (start .args .rows .now)) (start .pre .2) (at-walk-image .walk-image .ensures) (at-if1 .if1 .left) (memory (start .args .out .now) (start .args .errs .now) (start .args .warns .now) (start .args .lefts .now)) (at-room-fault .room-fault .result) (at-room-fault .room-fault .ensures) (at-if2 .if2 .left) (at-if4 .if4 .taken) _ (at-walk-image .walk-image .kept .1 .1 .1 .1 .0) _ (at-walk-image2 .walk-image2 .ensures)
 
 -- src/lib.rt:123:5
 seen-at-requires-2 : tie.Need-seen-at-requires-2
@@ -241,7 +241,7 @@ returns-5 : tie.Need-returns-5
 returns-5 c =
     let at-walk-image = c .before .before .before .before .before .before .before .before .before .before .before .before .before .before .before .before .before .before .before in
     let start = at-walk-image .before .before .before .before .before .before .before .before .before .before .before .before .before .before .before .before .before in
-    judge-small (start .args .largest) (start .args .s .now) (memory (start .args .out .now) (start .args .errs .now) (start .args .warns .now) (start .args .lefts .now)) (at-walk-image .walk-image .result .place) (c .seen-at2 .result) (c .seen-at2 .ensures) (c .before .if4 .left)
+    judge-small (start .args .env .switches) (start .args .largest) (start .args .s .now) (memory (start .args .out .now) (start .args .errs .now) (start .args .warns .now) (start .args .lefts .now)) (at-walk-image .walk-image .result .place) (c .seen-at2 .result) (c .seen-at2 .ensures) (c .before .if4 .left)
 
 pub judge-spec : {M : Type 1} → statement M
 judge-spec =

@@ -8,23 +8,23 @@ use Rattle.expressions_scan.proofs.consume.Reads as reads
 use Rattle.expressions_scan.proofs.consume.Lts as lts
 use Rattle.scope_state.proofs.find_local.Reads as find-local-reads
 
--- src/lib.rt:283:11
+-- src/lib.rt:284:11
 find-local-requires : tie.Need-find-local-requires
 find-local-requires c κs = search needs
 
--- src/lib.rt:286:21
+-- src/lib.rt:287:21
 enum-told : tie.Need-enum-told
 enum-told c = search needs
 
--- src/lib.rt:290:21
+-- src/lib.rt:291:21
 enum-told-2 : tie.Need-enum-told-2
 enum-told-2 c = search needs
 
--- src/lib.rt:279:1
+-- src/lib.rt:280:1
 returns : tie.Need-returns
 returns c = (λ types depths births at old. answers-give _ (found-local (c .before .before .find-local .ensures) types depths births at (c .enum-told .given .1)), λ old. record { most = omega arith; marks = (omega arith, omega arith) })
 
--- src/lib.rt:279:1
+-- src/lib.rt:280:1
 returns-2 : tie.Need-returns-2
 returns-2 c = (λ types depths births at old. answers-ungiven _ (found-none (c .before .before .find-local .ensures) types depths births at (c .enum-told2 .given .1)), λ old. record { most = omega arith; marks = tt })
 

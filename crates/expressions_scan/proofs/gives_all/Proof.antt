@@ -4,11 +4,11 @@ use Rattle.expressions_scan.proofs.gives_all.Tie as tie
 use Rattle.expressions_scan.proofs.gives_all.Reads as reads
 use Rattle.expressions_scan.proofs.gives_all.Lts as lts
 
--- src/lib.rt:143:9
+-- src/lib.rt:144:9
 returns : tie.Need-returns
 returns c = gives-3 _ (c .if1 .taken)
 
--- src/lib.rt:139:1
+-- src/lib.rt:140:1
 returns-2 : tie.Need-returns-2
 returns-2 c = gives-6 _ (c .if1 .left)
 

@@ -7,35 +7,35 @@ use Rattle.expressions_scan.proofs.put_error.Lts as lts
 use Rattle.expressions_scan.proofs.put_zeros.Reads as put-zeros-reads
 use Rattle.image_writing.proofs.put_number.Reads as put-number-reads
 
--- src/lib.rt:92:9
+-- src/lib.rt:93:9
 put-number-requires : tie.Need-put-number-requires
 put-number-requires c κs = search needs
 
--- src/lib.rt:93:5
+-- src/lib.rt:94:5
 put-number-requires-2 : tie.Need-put-number-requires-2
 put-number-requires-2 c κs = search needs
 
--- src/lib.rt:94:5
+-- src/lib.rt:95:5
 put-number-requires-3 : tie.Need-put-number-requires-3
 put-number-requires-3 c κs = search needs
 
--- src/lib.rt:95:5
+-- src/lib.rt:96:5
 put-number-requires-4 : tie.Need-put-number-requires-4
 put-number-requires-4 c κs = search needs
 
--- src/lib.rt:96:5
+-- src/lib.rt:97:5
 put-number-requires-5 : tie.Need-put-number-requires-5
 put-number-requires-5 c κs = search needs
 
--- src/lib.rt:97:5
+-- src/lib.rt:98:5
 put-zeros-requires : tie.Need-put-zeros-requires
 put-zeros-requires c κs = search needs
 
--- src/lib.rt:80:1
+-- src/lib.rt:81:1
 same-length : tie.Need-same-length
 same-length c = search needs
 
--- src/lib.rt:80:1
+-- src/lib.rt:81:1
 returns : tie.Need-returns
 returns c =
     let at-put-number5 = c .before .before .before .before .before .before in

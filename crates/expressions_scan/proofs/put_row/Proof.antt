@@ -8,43 +8,43 @@ use Rattle.expressions_scan.proofs.put_places.Reads as put-places-reads
 use Rattle.image_fields.proofs.wide32.Reads as wide32-reads
 use Rattle.image_writing.proofs.put_number.Reads as put-number-reads
 
--- src/lib.rt:130:18
+-- src/lib.rt:131:18
 mul-others : tie.Need-mul-others
 mul-others c = search needs
 
--- src/lib.rt:130:18
+-- src/lib.rt:131:18
 shared-slice-read-others : tie.Need-shared-slice-read-others
 shared-slice-read-others c = search needs
 
--- src/lib.rt:131:9
+-- src/lib.rt:132:9
 put-number-requires : tie.Need-put-number-requires
 put-number-requires c κs = search needs
 
--- src/lib.rt:132:5
+-- src/lib.rt:133:5
 put-number-requires-2 : tie.Need-put-number-requires-2
 put-number-requires-2 c κs = search needs
 
--- src/lib.rt:133:5
+-- src/lib.rt:134:5
 put-number-requires-3 : tie.Need-put-number-requires-3
 put-number-requires-3 c κs = search needs
 
--- src/lib.rt:134:5
+-- src/lib.rt:135:5
 put-number-requires-4 : tie.Need-put-number-requires-4
 put-number-requires-4 c κs = search needs
 
--- src/lib.rt:135:37
+-- src/lib.rt:136:37
 wide32-requires : tie.Need-wide32-requires
 wide32-requires c κs = search needs
 
--- src/lib.rt:135:5
+-- src/lib.rt:136:5
 put-places-requires : tie.Need-put-places-requires
 put-places-requires c κs = search needs
 
--- src/lib.rt:126:1
+-- src/lib.rt:127:1
 same-length : tie.Need-same-length
 same-length c = search needs
 
--- src/lib.rt:126:1
+-- src/lib.rt:127:1
 returns : tie.Need-returns
 returns c =
     let at-put-number4 = c .before .before .before .before .before .before .before in

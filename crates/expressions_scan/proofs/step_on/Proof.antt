@@ -13,59 +13,59 @@ use Rattle.expressions_scan.proofs.pack.Reads as pack-reads
 use Rattle.expressions_scan.proofs.unpack.Reads as unpack-reads
 use Rattle.expressions_steps.proofs.advance.Reads as advance-reads
 
--- src/lib.rt:456:13
+-- src/lib.rt:457:13
 sub-m : tie.Need-sub-m
 sub-m c = search needs
 
--- src/lib.rt:457:22
+-- src/lib.rt:458:22
 mul-unpack : tie.Need-mul-unpack
 mul-unpack c = let z = few _ _ _ _ (c .before .before .pre .1) in omega arith
 
--- src/lib.rt:457:22
+-- src/lib.rt:458:22
 element-copy-out-unpack : tie.Need-element-copy-out-unpack
 element-copy-out-unpack c = let z = few _ _ _ _ (c .before .before .pre .1) in omega arith
 
--- src/lib.rt:457:9
+-- src/lib.rt:458:9
 unpack-requires : tie.Need-unpack-requires
 unpack-requires c κs = search needs
 
--- src/lib.rt:458:9
+-- src/lib.rt:459:9
 advance-requires : tie.Need-advance-requires
 advance-requires c κs = (c .before .before .before .before .pre .0, waits-at _ (c .before .before .before .before .args .nodes .now) (c .before .before .before .before .args .depth) _ _ (c .before .before .before .before .pre .1) (c .before .before .before .before .pre .2) (c .unpack .ensures))
 
--- src/lib.rt:461:16
+-- src/lib.rt:462:16
 pack-requires : tie.Need-pack-requires
 pack-requires c κs = search needs
 
--- src/lib.rt:461:5
+-- src/lib.rt:462:5
 mul-nodes : tie.Need-mul-nodes
 mul-nodes c =
     let start = c .before .before .before .before .before .before .before .before in
     let z = few _ _ _ _ (start .pre .1) in omega arith
 
--- src/lib.rt:461:5
+-- src/lib.rt:462:5
 element-write-nodes : tie.Need-element-write-nodes
 element-write-nodes c =
     let start = c .before .before .before .before .before .before .before .before in
     let z = few _ _ _ _ (start .pre .1) in omega arith
 
--- src/lib.rt:462:20
+-- src/lib.rt:463:20
 pack-requires-2 : tie.Need-pack-requires-2
 pack-requires-2 c κs = search needs
 
--- src/lib.rt:462:5
+-- src/lib.rt:463:5
 mul-nodes-2 : tie.Need-mul-nodes-2
 mul-nodes-2 c =
     let start = c .before .before .before .before .before .before .before .before .before in
     let z = few _ _ _ _ (start .pre .1) in omega arith
 
--- src/lib.rt:462:5
+-- src/lib.rt:463:5
 element-write-nodes-2 : tie.Need-element-write-nodes-2
 element-write-nodes-2 c =
     let start = c .before .before .before .before .before .before .before .before .before in
     let z = few _ _ _ _ (start .pre .1) in omega arith
 
--- src/lib.rt:451:1
+-- src/lib.rt:452:1
 returns : tie.Need-returns
 returns c =
     let at-advance = c .before .before .before .before in

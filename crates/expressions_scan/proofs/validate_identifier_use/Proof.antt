@@ -15,31 +15,31 @@ use Rattle.expressions_scan.proofs.validate_identifier_use.Lts as lts
 use Rattle.scope_state.proofs.find_local.Reads as find-local-reads
 use Rattle.expressions_scan.proofs.put_use_of.Reads as put-use-of-reads
 
--- src/lib.rt:230:11
+-- src/lib.rt:231:11
 find-local-requires : tie.Need-find-local-requires
 find-local-requires c κs = search needs
 
--- src/lib.rt:231:19
+-- src/lib.rt:232:19
 enum-known-i : tie.Need-enum-known-i
 enum-known-i c = search needs
 
--- src/lib.rt:232:17
+-- src/lib.rt:233:17
 put-use-of-requires : tie.Need-put-use-of-requires
 put-use-of-requires c κs = (c .before .before .before .before .before .before .before .pre .0, found-below (c .before .before .before .before .find-local .ensures) (c .before .before .i .given .1), c .before .before .before .before .before .before .before .pre .1)
 
--- src/lib.rt:240:21
+-- src/lib.rt:241:21
 enum-told : tie.Need-enum-told
 enum-told c = search needs
 
--- src/lib.rt:213:1
+-- src/lib.rt:214:1
 same-length : tie.Need-same-length
 same-length c = search needs
 
--- src/lib.rt:213:1
+-- src/lib.rt:214:1
 returns : tie.Need-returns
 returns c = (λ types depths births. answers-use _ (stored-eq (sym (ap (entriesOf version1) (use-some (c .before .before .before .before .before .before .before .find-local .ensures) types depths births _ (c .before .before .before .before .before .i .given .1) _))) (c .before .before .put-use-of .ensures .0)), record { most = c .before .before .put-use-of .ensures .1; marks = tt })
 
--- src/lib.rt:213:1
+-- src/lib.rt:214:1
 returns-2 : tie.Need-returns-2
 returns-2 c = (λ types depths births. answers-use _ (stored-eq (sym (ap (entriesOf version1) (use-none (c .before .before .find-local .ensures) types depths births _ (c .enum-told .given .1) _))) (none-stored _ _)), record { most = omega arith; marks = tt })
 

@@ -54,7 +54,7 @@ slice-aggregate-put-errors c = search needs
 
 -- src/main.rt:135:17
 put-errors-requires : tie.Need-put-errors-requires
-put-errors-requires c κs = let w = within _ _ _ (c .before .before .before .before .before .before .before .before .before .before .before .before .before .pass .ensures) (c .before .before .before .before .before .before .before .t .given .1) in (omega (arith, c .before .before .before .before .put-totals .ensures .1), omega (arith, w .errors), omega (arith, w .errors))
+put-errors-requires c κs = let w = within 0 _ _ _ (c .before .before .before .before .before .before .before .before .before .before .before .before .before .pass .ensures) (c .before .before .before .before .before .before .before .t .given .1) in (omega (arith, c .before .before .before .before .put-totals .ensures .1), omega (arith, w .errors), omega (arith, w .errors))
 
 -- src/main.rt:136:53
 slice-aggregate-put-entries : tie.Need-slice-aggregate-put-entries
@@ -66,7 +66,7 @@ slice-aggregate-put-entries-2 c = search needs
 
 -- src/main.rt:136:17
 put-entries-requires : tie.Need-put-entries-requires
-put-entries-requires c κs = let w = within _ _ _ (c .before .before .before .before .before .before .before .before .before .before .before .before .before .before .before .before .before .before .before .pass .ensures) (c .before .before .before .before .before .before .before .before .before .before .before .before .before .t .given .1) in (omega (arith, w .errors, c .before .before .before .before .before .before .before .before .before .before .put-totals .ensures .1, c .before .before .before .before .before .put-errors .ensures .1), omega (arith, w .warnings), omega arith, omega arith, omega (arith, w .warnings))
+put-entries-requires c κs = let w = within 0 _ _ _ (c .before .before .before .before .before .before .before .before .before .before .before .before .before .before .before .before .before .before .before .pass .ensures) (c .before .before .before .before .before .before .before .before .before .before .before .before .before .t .given .1) in (omega (arith, w .errors, c .before .before .before .before .before .before .before .before .before .before .put-totals .ensures .1, c .before .before .before .before .before .put-errors .ensures .1), omega (arith, w .warnings), omega arith, omega arith, omega (arith, w .warnings))
 
 -- src/main.rt:137:40
 slice-aggregate-put-entries-3 : tie.Need-slice-aggregate-put-entries-3
@@ -78,7 +78,7 @@ slice-aggregate-put-entries-4 c = search needs
 
 -- src/main.rt:137:13
 put-entries-requires-2 : tie.Need-put-entries-requires-2
-put-entries-requires-2 c κs = let w = within _ _ _ (c .before .before .before .before .before .before .before .before .before .before .before .before .before .before .before .before .before .before .before .before .before .before .before .before .before .pass .ensures) (c .before .before .before .before .before .before .before .before .before .before .before .before .before .before .before .before .before .before .before .t .given .1) in (omega (arith, w .errors, w .warnings, c .before .before .before .before .before .before .before .before .before .before .before .before .before .before .before .before .put-totals .ensures .1, c .before .before .before .before .before .before .before .before .before .before .before .put-errors .ensures .1, c .before .before .before .before .before .put-entries .ensures .1), omega (arith, w .lefts), omega arith, omega arith, omega (arith, w .lefts))
+put-entries-requires-2 c κs = let w = within 0 _ _ _ (c .before .before .before .before .before .before .before .before .before .before .before .before .before .before .before .before .before .before .before .before .before .before .before .before .before .pass .ensures) (c .before .before .before .before .before .before .before .before .before .before .before .before .before .before .before .before .before .before .before .t .given .1) in (omega (arith, w .errors, w .warnings, c .before .before .before .before .before .before .before .before .before .before .before .before .before .before .before .before .put-totals .ensures .1, c .before .before .before .before .before .before .before .before .before .before .before .put-errors .ensures .1, c .before .before .before .before .before .put-entries .ensures .1), omega (arith, w .lefts), omega arith, omega arith, omega (arith, w .lefts))
 
 -- src/main.rt:124:1
 same-length : tie.Need-same-length
@@ -94,7 +94,7 @@ same-length-2 c = search needs
 
 -- src/main.rt:124:1
 returns-2 : tie.Need-returns-2
-returns-2 c = let w = within _ _ _ (c .before .before .before .before .before .before .before .before .before .before .before .before .before .before .before .before .before .before .before .before .before .before .before .before .before .before .before .before .pass .ensures) (c .before .before .before .before .before .before .before .before .before .before .before .before .before .before .before .before .before .before .before .before .before .before .t .given .1) in (told-accepted _ _ (record { bytes = search needs; errors = search needs; warnings = search needs; lefts = search needs }) (c .before .before .before .before .before .before .before .before .before .before .before .before .before .before .before .before .before .before .before .before .before .before .before .before .before .before .before .before .pass .ensures) (c .before .before .before .before .before .before .before .before .before .before .before .before .before .before .before .before .before .before .before .before .before .before .t .given .1) (c .before .before .before .before .before .before .before .before .before .before .before .before .before .before .before .before .before .before .before .put-totals .ensures .0) (c .before .before .before .before .before .before .before .before .before .before .before .before .before .before .put-errors .ensures .0) (c .before .before .before .before .before .before .before .before .put-entries .ensures .0) (c .before .before .put-entries2 .ensures .0), omega (arith, w .errors, w .warnings, w .lefts, c .before .before .before .before .before .before .before .before .before .before .before .before .before .before .before .before .before .before .before .put-totals .ensures .1, c .before .before .before .before .before .before .before .before .before .before .before .before .before .before .put-errors .ensures .1, c .before .before .before .before .before .before .before .before .put-entries .ensures .1, c .before .before .put-entries2 .ensures .1))
+returns-2 c = let w = within 0 _ _ _ (c .before .before .before .before .before .before .before .before .before .before .before .before .before .before .before .before .before .before .before .before .before .before .before .before .before .before .before .before .pass .ensures) (c .before .before .before .before .before .before .before .before .before .before .before .before .before .before .before .before .before .before .before .before .before .before .t .given .1) in (told-accepted _ _ (record { bytes = search needs; errors = search needs; warnings = search needs; lefts = search needs }) (c .before .before .before .before .before .before .before .before .before .before .before .before .before .before .before .before .before .before .before .before .before .before .before .before .before .before .before .before .pass .ensures) (c .before .before .before .before .before .before .before .before .before .before .before .before .before .before .before .before .before .before .before .before .before .before .t .given .1) (c .before .before .before .before .before .before .before .before .before .before .before .before .before .before .before .before .before .before .before .put-totals .ensures .0) (c .before .before .before .before .before .before .before .before .before .before .before .before .before .before .put-errors .ensures .0) (c .before .before .before .before .before .before .before .before .put-entries .ensures .0) (c .before .before .put-entries2 .ensures .0), omega (arith, w .errors, w .warnings, w .lefts, c .before .before .before .before .before .before .before .before .before .before .before .before .before .before .before .before .before .before .before .put-totals .ensures .1, c .before .before .before .before .before .before .before .before .before .before .before .before .before .before .put-errors .ensures .1, c .before .before .before .before .before .before .before .before .put-entries .ensures .1, c .before .before .put-entries2 .ensures .1))
 
 pub report-spec : {M : Type 1} → statement M
 report-spec =

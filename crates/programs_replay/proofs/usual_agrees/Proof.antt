@@ -84,7 +84,7 @@ slice-aggregate-same-answer-4 c = search needs
 
 -- src/main.rt:330:13
 same-answer-requires : tie.Need-same-answer-requires
-same-answer-requires c κs = let w = within _ _ _ (c .before .before .before .before .before .before .before .before .before .before .before .before .pass .ensures) (c .before .before .before .before .before .before .t .given .1) in (c .before .before .before .before .before .before .before .before .before .before .before .before .before .before .before .before .before .before .before .before .before .pre, (omega (arith, w .written), omega (arith, w .errors), omega (arith, w .warnings), omega (arith, w .lefts)))
+same-answer-requires c κs = let w = within 0 _ _ _ (c .before .before .before .before .before .before .before .before .before .before .before .before .pass .ensures) (c .before .before .before .before .before .before .t .given .1) in (c .before .before .before .before .before .before .before .before .before .before .before .before .before .before .before .before .before .before .before .before .before .pre, (omega (arith, w .written), omega (arith, w .errors), omega (arith, w .warnings), omega (arith, w .lefts)))
 
 -- src/main.rt:308:1
 returns-2 : tie.Need-returns-2

@@ -12,35 +12,35 @@ use Rattle.image_body.proofs.node_at.Reads as node-at-reads
 use Rattle.image_body.proofs.strip_noop_unary.Reads as strip-noop-unary-reads
 use Rattle.statements_acts.proofs.name_in.Reads as name-in-reads
 
--- src/lib.rt:111:9
+-- src/lib.rt:113:9
 strip-noop-unary-requires : tie.Need-strip-noop-unary-requires
 strip-noop-unary-requires c κs = search needs
 
--- src/lib.rt:112:31
+-- src/lib.rt:114:31
 node-at-requires : tie.Need-node-at-requires
 node-at-requires c κs = search needs
 
--- src/lib.rt:112:22
+-- src/lib.rt:114:22
 enum-known-child : tie.Need-enum-known-child
 enum-known-child c = search needs
 
--- src/lib.rt:113:9
+-- src/lib.rt:115:9
 returns : tie.Need-returns
 returns c = no-delete-at (now (c .before .before .before .before .args .s)) (c .before .before .before .before .args .at) _ (c .before .before .strip-noop-unary .ensures) (c .before .node-at .ensures) (c .match .keys2)
 
--- src/lib.rt:115:11
+-- src/lib.rt:117:11
 name-in-requires : tie.Need-name-in-requires
 name-in-requires c κs = search needs
 
--- src/lib.rt:116:23
+-- src/lib.rt:118:23
 enum-known-name : tie.Need-enum-known-name
 enum-known-name c = search needs
 
--- src/lib.rt:117:26
+-- src/lib.rt:119:26
 enum-told : tie.Need-enum-told
 enum-told c = search needs
 
--- src/lib.rt:108:1
+-- src/lib.rt:110:1
 returns-2 : tie.Need-returns-2
 returns-2 c =
     let at-child = c .before .before .before .before .before in
@@ -50,7 +50,7 @@ returns-2 c =
     let a = start .args in
     λ e next st. sym (ap (λ x. deleteOf (namedOf x)) (c .before .name .given .1)) ∙ delete-at (a .s .now) (a .at) _ (at-strip-noop-unary .strip-noop-unary .ensures) (at-node-at .node-at .ensures) (at-child .child .given .1) (c .before .before .before .name-in .result) (c .before .before .before .name-in .ensures) e next st
 
--- src/lib.rt:108:1
+-- src/lib.rt:110:1
 returns-3 : tie.Need-returns-3
 returns-3 c =
     let a = c .before .before .before .before .before .before .before .before .before .args in

@@ -14,11 +14,11 @@ use Rattle.statements_acts.proofs.put_unused.Reads as put-unused-reads
 use Rattle.statements_acts.proofs.unused_callee.Reads as unused-callee-reads
 use Rattle.image_writing.proofs.copy_bytes.Reads as copy-bytes-reads
 
--- src/lib.rt:274:17
+-- src/lib.rt:276:17
 add-value : tie.Need-add-value
 add-value c = search needs
 
--- src/lib.rt:275:9
+-- src/lib.rt:277:9
 unused-callee-requires : tie.Need-unused-callee-requires
 unused-callee-requires c κs =
     let a = c .before .before .before .before .before .args in
@@ -27,7 +27,7 @@ unused-callee-requires c κs =
     let r = expr-reach (a .s .now) small (a .p) (a .end) (q .2) (q .3) in
     (q .0, omega arith)
 
--- src/lib.rt:276:9
+-- src/lib.rt:278:9
 copy-bytes-requires : tie.Need-copy-bytes-requires
 copy-bytes-requires c κs =
     let a = c .before .before .before .before .before .before .before .args in
@@ -37,7 +37,7 @@ copy-bytes-requires c κs =
     let r = expr-reach (a .s .now) small (a .p) (a .end) (q .2) (q .3) in
     (omega arith, omega arith, w .0, omega arith)
 
--- src/lib.rt:277:9
+-- src/lib.rt:279:9
 put-unused-requires : tie.Need-put-unused-requires
 put-unused-requires c κs =
     let at-copy-bytes = c .before .before .before .before in
@@ -54,7 +54,7 @@ put-unused-requires c κs =
     let y = at-unused-callee .unused-callee .ensures .0 in
     (omega arith, omega arith, omega arith, omega arith)
 
--- src/lib.rt:278:9
+-- src/lib.rt:280:9
 copy-bytes-requires-2 : tie.Need-copy-bytes-requires-2
 copy-bytes-requires-2 c κs =
     let at-put-unused = c .before .before .before .before .before in
@@ -73,19 +73,19 @@ copy-bytes-requires-2 c κs =
     let ly = head-room (at-unused-callee .unused-callee .result) (four (a .s .now) (a .p .at + 1)) in
     (omega arith, r .1, w .0, omega arith)
 
--- src/lib.rt:290:9
+-- src/lib.rt:292:9
 deleted-identifier-requires : tie.Need-deleted-identifier-requires
 deleted-identifier-requires c κs = search needs
 
--- src/lib.rt:261:1
+-- src/lib.rt:263:1
 same-length : tie.Need-same-length
 same-length c = search needs
 
--- src/lib.rt:261:1
+-- src/lib.rt:263:1
 same-length-2 : tie.Need-same-length-2
 same-length-2 c = search needs
 
--- src/lib.rt:261:1
+-- src/lib.rt:263:1
 returns : tie.Need-returns
 returns c =
     let at-put-unused = c .before .before .before .before .before .before .before .before .before in
@@ -99,7 +99,7 @@ returns c =
     let callee = at-unused-callee .unused-callee in
     let told = at-put-unused .put-unused in
     let head = at-copy-bytes .copy-bytes in (
-      λ T h σ. expr-acts (a .s .now) small (a .p) (a .end) (q .2) (q .3) (callee .result) (told .result) (head .ensures) (told .ensures) (c .before .before .before .copy-bytes2 .ensures) (c .deleted-identifier .result) T σ (callee .ensures .1 T h) (c .deleted-identifier .ensures),
+      λ sw T h σ. expr-acts (a .s .now) small (a .p) (a .end) (q .2) (q .3) (callee .result) (told .result) (head .ensures) (told .ensures) (c .before .before .before .copy-bytes2 .ensures) (c .deleted-identifier .result) sw T σ (callee .ensures .1 T h) (c .deleted-identifier .ensures),
       expr-grows (a .s .now) small (a .p) (a .end) (q .2) (q .3) (callee .result) (told .result) (head .ensures) (told .ensures) (c .before .before .before .copy-bytes2 .ensures),
     )
 

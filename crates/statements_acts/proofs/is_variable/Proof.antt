@@ -5,11 +5,11 @@ use Rattle.statements_acts.proofs.is_variable.Tie as tie
 use Rattle.statements_acts.proofs.is_variable.Reads as reads
 use Rattle.statements_acts.proofs.is_variable.Lts as lts
 
--- src/lib.rt:742:9
+-- src/lib.rt:768:9
 returns : tie.Need-returns
 returns c = rw (eq-eqb _ 4 (c .if1 .taken)) refl
 
--- src/lib.rt:738:1
+-- src/lib.rt:764:1
 returns-2 : tie.Need-returns-2
 returns-2 c = rw (ne-eqb _ 4 (c .if1 .left)) refl
 

@@ -30,52 +30,52 @@ Inv-loop names births mark span paged out₀ lefts₀ n text m₀ at₀ out left
 abbrev μ-loop : tie.MeasureT-loop
 μ-loop names births mark span paged out₀ lefts₀ n text m₀ at₀ out lefts m at = ones 64 m
 
--- src/lib.rt:508:5
+-- src/lib.rt:510:5
 begin-lefts-requires : tie.Need-begin-lefts-requires Inv-loop μ-loop
 unfolding blanks
 begin-lefts-requires c κs = refl
 
--- src/lib.rt:511:5
+-- src/lib.rt:513:5
 loop-holds : tie.Need-loop-holds Inv-loop μ-loop
 loop-holds c = (refl, refl, placed-none _ _ (c .before .before .before .before .fits .mark .fits), λ T tys depths g k e. listing-all T _ tys depths _ g _ _ k _ _ _ _ e)
 
--- src/lib.rt:512:13
+-- src/lib.rt:514:13
 newest-requires : tie.Need-newest-requires Inv-loop μ-loop
 newest-requires c κs = search needs
 
--- src/lib.rt:520:20
+-- src/lib.rt:522:20
 mul-number : tie.Need-mul-number Inv-loop μ-loop
 mul-number c = omega (arith, c .before .before .before .newest .ensures .0 .small)
 
--- src/lib.rt:520:20
+-- src/lib.rt:522:20
 element-copy-out-number : tie.Need-element-copy-out-number Inv-loop μ-loop
 element-copy-out-number c = c .before .before .before .newest .ensures .0 .small
 
--- src/lib.rt:520:13
+-- src/lib.rt:522:13
 number-requires : tie.Need-number-requires Inv-loop μ-loop
 number-requires c κs = search needs
 
--- src/lib.rt:521:13
+-- src/lib.rt:523:13
 mul-put-left : tie.Need-mul-put-left Inv-loop μ-loop
 mul-put-left c = omega (arith, c .before .before .before .before .before .newest .ensures .0 .small)
 
--- src/lib.rt:521:13
+-- src/lib.rt:523:13
 element-copy-out-put-left : tie.Need-element-copy-out-put-left Inv-loop μ-loop
 element-copy-out-put-left c = c .before .before .before .before .before .newest .ensures .0 .small
 
--- src/lib.rt:513:9
+-- src/lib.rt:515:9
 put-left-requires : tie.Need-put-left-requires Inv-loop μ-loop
 put-left-requires c κs = (omega (arith, placed-one _ _ _ _ (c .before .before .before .before .before .before .before .before .loop .inv .2) (c .before .before .before .before .before .before .newest .ensures .0), c .before .before .before .before .before .before .before .before .before .before .before .before .before .pre), λ e. c .before .before .before .before .before .before .before .before .before .begin-lefts .ensures e)
 
--- src/lib.rt:523:9
+-- src/lib.rt:525:9
 without-requires : tie.Need-without-requires Inv-loop μ-loop
 without-requires c κs = (c .before .before .before .before .before .before .before .before .before .before .before .newest .ensures .0 .small, c .before .before .before .before .before .before .before .before .before .before .before .newest .ensures .0 .low)
 
--- src/lib.rt:511:5
+-- src/lib.rt:513:5
 loop-less : tie.Need-loop-less Inv-loop μ-loop
 loop-less c = rw (c .without .ensures) (ones-less _ _ (c .before .before .before .before .before .before .before .before .before .before .before .before .newest .ensures .0))
 
--- src/lib.rt:511:5
+-- src/lib.rt:513:5
 loop-again : tie.Need-loop-again Inv-loop μ-loop
 loop-again c =
     let i = c .before .before .before .before .before .before .before .before .before .before .before .before .before .before .loop .inv in
@@ -87,15 +87,15 @@ loop-again c =
       λ T tys depths g k e. listing-put T _ tys depths _ g _ _ k _ _ _ _ _ _ _ (i .3 T tys depths g k e) _ (c .before .before .before .before .before .before .before .before .before .before .before .before .newest .ensures .1) (c .before .before .before .before .before .before .before .number .ensures) refl (put .ensures .0),
     )
 
--- src/lib.rt:493:1
+-- src/lib.rt:495:1
 same-length : tie.Need-same-length Inv-loop μ-loop
 same-length c = c .before .loop .inv .0
 
--- src/lib.rt:493:1
+-- src/lib.rt:495:1
 same-length-2 : tie.Need-same-length-2 Inv-loop μ-loop
 same-length-2 c = c .before .loop .inv .1
 
--- src/lib.rt:493:1
+-- src/lib.rt:495:1
 returns : tie.Need-returns Inv-loop μ-loop
 returns c = (omega (arith, c .before .loop .inv .2 .room), λ T tys depths g k e. listing-none T _ tys depths _ g _ _ k _ _ _ _ _ _ _ (c .before .loop .inv .3 T tys depths g k e) (c .loop-test .left))
 

@@ -9,11 +9,11 @@ use Rattle.statements_acts.proofs.plain_statement.Lts as lts
 use Rattle.statements_acts.proofs.behind.Reads as behind-reads
 use Rattle.statements_acts.proofs.nothing_put.Reads as nothing-put-reads
 
--- src/lib.rt:252:30
+-- src/lib.rt:254:30
 nothing-put-requires : tie.Need-nothing-put-requires
 nothing-put-requires c κs = search needs
 
--- src/lib.rt:252:9
+-- src/lib.rt:254:9
 behind-requires : tie.Need-behind-requires
 behind-requires c κs =
     let a = c .before .before .before .before .args in
@@ -24,11 +24,11 @@ behind-requires c κs =
     let r = plain-reach (a .s .now) small (a .p) (a .to) (q .1) (q .2) in
     (r .0, r .1, w .0, omega arith, omega arith)
 
--- src/lib.rt:246:1
+-- src/lib.rt:248:1
 same-length : tie.Need-same-length
 same-length c = search needs
 
--- src/lib.rt:246:1
+-- src/lib.rt:248:1
 returns : tie.Need-returns
 returns c =
     let a = c .before .before .before .before .before .before .before .args in

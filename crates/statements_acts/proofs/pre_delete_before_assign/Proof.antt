@@ -14,40 +14,40 @@ use Rattle.image_body.proofs.strip_noop_unary.Reads as strip-noop-unary-reads
 use Rattle.expressions_effects.proofs.name_at.Reads as name-at-reads
 use Rattle.statements_acts.proofs.put_assign_drop.Reads as put-assign-drop-reads
 
--- src/lib.rt:699:9
+-- src/lib.rt:725:9
 strip-noop-unary-requires : tie.Need-strip-noop-unary-requires
 strip-noop-unary-requires c κs = search needs
 
--- src/lib.rt:700:26
+-- src/lib.rt:726:26
 node-at-requires : tie.Need-node-at-requires
 node-at-requires c κs = search needs
 
 enum-told : tie.Need-enum-told
 enum-told c = search needs
 
--- src/lib.rt:701:9
+-- src/lib.rt:727:9
 returns : tie.Need-returns
 returns c =
     let a = c .before .before .before .before .before .args in
-    (omega arith, omega arith, λ T ld births g m e next z. none-put _ _ _ (drop-none T (lent (a .ln .now) (a .lt .now) ld births g (a .n)) _ e (no-ident-at (a .s .now) (a .destination) _ (c .before .before .strip-noop-unary .ensures) (c .before .node-at .ensures) (c .match .keys2) e next z)))
+    (omega arith, omega arith, λ sw T ld births g m e next z. none-put _ _ _ (drop-none sw T (lent (a .ln .now) (a .lt .now) ld births g (a .n)) _ e (no-ident-at (a .s .now) (a .destination) _ (c .before .before .strip-noop-unary .ensures) (c .before .node-at .ensures) (c .match .keys2) e next z)))
 
--- src/lib.rt:703:27
+-- src/lib.rt:729:27
 add-name-at : tie.Need-add-name-at
 add-name-at c = let i = ident-in (now (c .before .before .before .before .before .before .args .s)) (c .before .before .before .before .before .before .args .destination) _ (c .before .before .before .strip-noop-unary .ensures) (c .before .before .node-at .ensures) (c .enum-told .given .1) in omega arith
 
--- src/lib.rt:703:9
+-- src/lib.rt:729:9
 name-at-requires : tie.Need-name-at-requires
 name-at-requires c κs = let i = ident-in (now (c .before .before .before .before .before .before .args .s)) (c .before .before .before .before .before .before .args .destination) _ (c .before .before .before .strip-noop-unary .ensures) (c .before .before .node-at .ensures) (c .enum-told .given .1) in omega arith
 
--- src/lib.rt:704:5
+-- src/lib.rt:730:5
 put-assign-drop-requires : tie.Need-put-assign-drop-requires
 put-assign-drop-requires c κs = search needs
 
--- src/lib.rt:682:1
+-- src/lib.rt:708:1
 same-length : tie.Need-same-length
 same-length c = search needs
 
--- src/lib.rt:682:1
+-- src/lib.rt:708:1
 returns-2 : tie.Need-returns-2
 returns-2 c =
     let at-name-at = c .before .before .before .before in
@@ -57,7 +57,7 @@ returns-2 c =
     let start = at-strip-noop-unary .before .before .before in
     let a = start .args in
     let put = c .before .before .put-assign-drop in
-    (put .ensures .0, put .ensures .1, λ T ld births g m e next z. drop-ident T (lent (a .ln .now) (a .lt .now) ld births g (a .n)) _ e (ident-at (a .s .now) (a .destination) _ (at-strip-noop-unary .strip-noop-unary .ensures) (at-node-at .node-at .ensures) (at-enum-told .enum-told .given .1) e next z) (at-name-at .name-at .ensures) (put .ensures .2 T ld births g m))
+    (put .ensures .0, put .ensures .1, λ sw T ld births g m e next z. drop-ident sw T (lent (a .ln .now) (a .lt .now) ld births g (a .n)) _ e (ident-at (a .s .now) (a .destination) _ (at-strip-noop-unary .strip-noop-unary .ensures) (at-node-at .node-at .ensures) (at-enum-told .enum-told .given .1) e next z) (at-name-at .name-at .ensures) (put .ensures .2 T ld births g m))
 
 pub pre-delete-before-assign-spec : {M : Type 1} → statement M
 pre-delete-before-assign-spec =

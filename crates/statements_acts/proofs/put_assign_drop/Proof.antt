@@ -16,32 +16,32 @@ use Rattle.scope_state.proofs.find_local.Reads as find-local-reads
 use Rattle.scope_stack.proofs.has_bit.Reads as has-bit-reads
 use Rattle.image_writing.proofs.put_delete.Reads as put-delete-reads
 
--- src/lib.rt:544:24
+-- src/lib.rt:546:24
 find-local-requires : tie.Need-find-local-requires
 find-local-requires c κs = search needs
 
--- src/lib.rt:544:19
+-- src/lib.rt:546:19
 enum-known-i : tie.Need-enum-known-i
 enum-known-i c = search needs
 
--- src/lib.rt:545:9
+-- src/lib.rt:547:9
 enum-told : tie.Need-enum-told
 enum-told c = search needs
 
--- src/lib.rt:545:9
+-- src/lib.rt:547:9
 returns : tie.Need-returns
 returns c =
     let a = c .before .before .before .before .args in
     (omega arith, omega arith, λ T depths births g e. none-put _ _ _ (assign-none T (a .names .now) (a .tys .now) depths births g (a .count) (a .span) (a .name) 0 _ (c .before .before .find-local .ensures) (c .enum-told .given .1)))
 
--- src/lib.rt:547:9
+-- src/lib.rt:549:9
 has-bit-requires : tie.Need-has-bit-requires
 has-bit-requires c κs =
     let a = c .before .before .before .before .before .args in
     let lt = found-below (c .before .before .before .find-local .ensures) (c .before .i .given .1) in
     omega (arith, lt, c .before .before .before .before .before .pre .0)
 
--- src/lib.rt:548:9
+-- src/lib.rt:550:9
 returns-2 : tie.Need-returns-2
 returns-2 c =
     let a = c .before .before .before .before .before .before .before .args in
@@ -52,29 +52,29 @@ returns-2 c =
           (sym (c .before .has-bit .ensures 0 (a .count) (dropIn T (a .tys .now) g) lt e) ∙ not-true _ (c .if1 .taken))),
     )
 
--- src/lib.rt:550:62
+-- src/lib.rt:552:62
 mul-put-delete : tie.Need-mul-put-delete
 mul-put-delete c =
     let a = c .before .before .before .before .before .before .before .before .args in
     let lt = found-below (c .before .before .before .before .before .before .find-local .ensures) (c .before .before .before .before .i .given .1) in
     omega (arith, lt, c .before .before .before .before .before .before .before .before .pre .0)
 
--- src/lib.rt:550:62
+-- src/lib.rt:552:62
 element-copy-out-put-delete : tie.Need-element-copy-out-put-delete
 element-copy-out-put-delete c =
     let a = c .before .before .before .before .before .before .before .before .args in
     let lt = found-below (c .before .before .before .before .before .before .find-local .ensures) (c .before .before .before .before .i .given .1) in
     omega (arith, lt, c .before .before .before .before .before .before .before .before .pre .0)
 
--- src/lib.rt:550:9
+-- src/lib.rt:552:9
 put-delete-requires : tie.Need-put-delete-requires
 put-delete-requires c κs = search needs
 
--- src/lib.rt:529:1
+-- src/lib.rt:531:1
 same-length : tie.Need-same-length
 same-length c = search needs
 
--- src/lib.rt:529:1
+-- src/lib.rt:531:1
 returns-3 : tie.Need-returns-3
 returns-3 c =
     let at-if1 = c .before .before .before .before .before in

@@ -31,35 +31,35 @@ Inv-loop names tys mark which span out₀ at m₀ place₀ put₀ out m place pu
 abbrev μ-loop : tie.MeasureT-loop
 μ-loop names tys mark which span out₀ at m₀ place₀ put₀ out m place put = ones 64 m
 
--- src/lib.rt:447:5
+-- src/lib.rt:449:5
 loop-holds : tie.Need-loop-holds Inv-loop μ-loop
 loop-holds c = (refl, bounded-none _ _ (c .before .fits .mark .fits), λ T depths births g n e. left-all T _ _ depths births g _ (deleteAt _) deleteBytes _ _ n _ e)
 
--- src/lib.rt:448:13
+-- src/lib.rt:450:13
 newest-requires : tie.Need-newest-requires Inv-loop μ-loop
 newest-requires c κs = search needs
 
--- src/lib.rt:449:20
+-- src/lib.rt:451:20
 mul-name : tie.Need-mul-name Inv-loop μ-loop
 mul-name c = omega (arith, c .newest .ensures .0 .small)
 
--- src/lib.rt:449:20
+-- src/lib.rt:451:20
 element-copy-out-name : tie.Need-element-copy-out-name Inv-loop μ-loop
 element-copy-out-name c = c .newest .ensures .0 .small
 
--- src/lib.rt:450:12
+-- src/lib.rt:452:12
 admits-requires : tie.Need-admits-requires Inv-loop μ-loop
 admits-requires c κs = search needs
 
--- src/lib.rt:451:71
+-- src/lib.rt:453:71
 mul-put-delete : tie.Need-mul-put-delete Inv-loop μ-loop
 mul-put-delete c = omega (arith, c .before .before .before .before .newest .ensures .0 .small)
 
--- src/lib.rt:451:71
+-- src/lib.rt:453:71
 element-copy-out-put-delete : tie.Need-element-copy-out-put-delete Inv-loop μ-loop
 element-copy-out-put-delete c = c .before .before .before .before .newest .ensures .0 .small
 
--- src/lib.rt:451:13
+-- src/lib.rt:453:13
 put-delete-requires : tie.Need-put-delete-requires Inv-loop μ-loop
 put-delete-requires c κs =
     let at-newest = c .before .before .before .before .before in
@@ -67,22 +67,22 @@ put-delete-requires c κs =
     let start = at-loop .before .before in
     omega (arith, bounded-one _ _ _ _ _ (at-loop .loop .inv .1) (at-newest .newest .ensures .0) .0, start .pre)
 
--- src/lib.rt:452:13
+-- src/lib.rt:454:13
 add-put : tie.Need-add-put Inv-loop μ-loop
 add-put c =
     let at-newest = c .before .before .before .before .before .before .before .before in
     let at-loop = at-newest .before .before in
     omega (arith, bounded-one _ _ _ _ _ (at-loop .loop .inv .1) (at-newest .newest .ensures .0) .1)
 
--- src/lib.rt:454:9
+-- src/lib.rt:456:9
 without-requires : tie.Need-without-requires Inv-loop μ-loop
 without-requires c κs = (c .before .before .before .newest .ensures .0 .small, c .before .before .before .newest .ensures .0 .low)
 
--- src/lib.rt:447:5
+-- src/lib.rt:449:5
 loop-less : tie.Need-loop-less Inv-loop μ-loop
 loop-less c = rw (c .without .ensures) (ones-less _ _ (c .before .before .before .before .newest .ensures .0))
 
--- src/lib.rt:447:5
+-- src/lib.rt:449:5
 loop-again : tie.Need-loop-again Inv-loop μ-loop
 loop-again c =
     ⊎-elim
@@ -101,11 +101,11 @@ loop-again c =
     ))
     (c .before .if1 .came)
 
--- src/lib.rt:430:1
+-- src/lib.rt:432:1
 same-length : tie.Need-same-length Inv-loop μ-loop
 same-length c = c .before .loop .inv .0
 
--- src/lib.rt:430:1
+-- src/lib.rt:432:1
 returns : tie.Need-returns Inv-loop μ-loop
 returns c = (
   omega (arith, c .before .loop .inv .1 .room),

@@ -12,19 +12,19 @@ use Rattle.statements_acts.proofs.put_drops.Reads as put-drops-reads
 use Rattle.statements_acts.proofs.returned_identifier_name.Reads as returned-identifier-name-reads
 use Rattle.statements_acts.proofs.behind.Reads as behind-reads
 
--- src/lib.rt:579:45
+-- src/lib.rt:581:45
 add-returned-identifier-name : tie.Need-add-returned-identifier-name
 add-returned-identifier-name c = search needs
 
--- src/lib.rt:579:9
+-- src/lib.rt:581:9
 returned-identifier-name-requires : tie.Need-returned-identifier-name-requires
 returned-identifier-name-requires c κs = search needs
 
--- src/lib.rt:580:9
+-- src/lib.rt:582:9
 put-drops-requires : tie.Need-put-drops-requires
 put-drops-requires c κs = search needs
 
--- src/lib.rt:581:35
+-- src/lib.rt:583:35
 add-behind : tie.Need-add-behind
 add-behind c =
     let a = c .before .before .before .before .before .before .before .before .args in
@@ -34,7 +34,7 @@ add-behind c =
     let r = return-reach (a .s .now) small (a .p) (a .end) (q .1) (q .2) (q .3) in
     omega arith
 
--- src/lib.rt:581:9
+-- src/lib.rt:583:9
 behind-requires : tie.Need-behind-requires
 behind-requires c κs =
     let a = c .before .before .before .before .before .before .before .before .before .args in
@@ -47,11 +47,11 @@ behind-requires c κs =
     let y = put .ensures .1 in
     (omega arith, r .1, w .0, omega arith, omega arith)
 
--- src/lib.rt:565:1
+-- src/lib.rt:567:1
 same-length : tie.Need-same-length
 same-length c = search needs
 
--- src/lib.rt:565:1
+-- src/lib.rt:567:1
 returns : tie.Need-returns
 returns c =
     let at-put-drops = c .before .before .before .before .before .before in
@@ -63,7 +63,7 @@ returns c =
     let q = start .pre in
     let put = at-put-drops .put-drops in
     let wrote = c .before .before .behind in (
-      λ T ld births g n e. return-acts (a .s .now) small (a .p) (a .end) (q .1) (q .2) (q .3) (put .result) (wrote .result) (wrote .ensures) T (lent (a .ln .now) (a .lt .now) ld births g n) (at-returned-identifier-name .returned-identifier-name .result) (at-returned-identifier-name .returned-identifier-name .ensures) (put .ensures .2 T ld births g n e),
+      λ sw T ld births g n e. return-acts (a .s .now) small (a .p) (a .end) (q .1) (q .2) (q .3) (put .result) (wrote .result) (wrote .ensures) sw T (lent (a .ln .now) (a .lt .now) ld births g n) (at-returned-identifier-name .returned-identifier-name .result) (at-returned-identifier-name .returned-identifier-name .ensures) (put .ensures .2 T ld births g n e),
       (
         return-grows (a .s .now) small (a .p) (a .end) (q .1) (q .2) (q .3) (put .result) (put .ensures .0) (put .ensures .1) (wrote .result) (wrote .ensures),
         return-ends (a .s .now) small (a .p) (a .end) (q .1) (q .2) (q .3) (wrote .result) (wrote .ensures .at),

@@ -8,23 +8,23 @@ use Rattle.statements_acts.proofs.returned_identifier_name.Reads as rea
 use Rattle.statements_acts.proofs.returned_identifier_name.Lts as lts
 use Rattle.statements_acts.proofs.name_in.Reads as name-in-reads
 
--- src/lib.rt:558:11
+-- src/lib.rt:560:11
 name-in-requires : tie.Need-name-in-requires
 name-in-requires c κs = search needs
 
--- src/lib.rt:559:23
+-- src/lib.rt:561:23
 enum-known-name : tie.Need-enum-known-name
 enum-known-name c = search needs
 
--- src/lib.rt:560:26
+-- src/lib.rt:562:26
 enum-told : tie.Need-enum-told
 enum-told c = search needs
 
--- src/lib.rt:555:1
+-- src/lib.rt:557:1
 returns : tie.Need-returns
 returns c = λ e next st. sym (ap (λ x. sparing (namedOf x)) (c .before .name .given .1)) ∙ ap sparing (c .before .before .before .name-in .ensures e next st)
 
--- src/lib.rt:555:1
+-- src/lib.rt:557:1
 returns-2 : tie.Need-returns-2
 returns-2 c = λ e next st. sym (ap (λ x. sparing (namedOf x)) (c .enum-told .given .1)) ∙ ap sparing (c .before .before .name-in .ensures e next st)
 

@@ -8,23 +8,23 @@ use Rattle.statements_acts.proofs.revived.Reads as reads
 use Rattle.statements_acts.proofs.revived.Lts as lts
 use Rattle.statements_acts.proofs.name_in.Reads as name-in-reads
 
--- src/lib.rt:386:11
+-- src/lib.rt:388:11
 name-in-requires : tie.Need-name-in-requires
 name-in-requires c κs = search needs
 
--- src/lib.rt:387:23
+-- src/lib.rt:389:23
 enum-known-name : tie.Need-enum-known-name
 enum-known-name c = search needs
 
--- src/lib.rt:388:26
+-- src/lib.rt:390:26
 enum-told : tie.Need-enum-told
 enum-told c = search needs
 
--- src/lib.rt:383:1
+-- src/lib.rt:385:1
 returns : tie.Need-returns
 returns c = λ e next st. sym (ap (λ x. reviveOf (namedOf x)) (c .before .name .given .1)) ∙ ap reviveOf (c .before .before .before .name-in .ensures e next st)
 
--- src/lib.rt:383:1
+-- src/lib.rt:385:1
 returns-2 : tie.Need-returns-2
 returns-2 c = λ e next st. sym (ap (λ x. reviveOf (namedOf x)) (c .enum-told .given .1)) ∙ ap reviveOf (c .before .before .name-in .ensures e next st)
 

@@ -13,23 +13,23 @@ use Rattle.image_fields.proofs.peek_two.Reads as peek-two-reads
 use Rattle.tables_lookup.proofs.should_auto_delete.Reads as should-auto-delete-reads
 use Rattle.tables_lookup.proofs.auto_deleted.Reads as auto-deleted-reads
 
--- src/lib.rt:127:9
+-- src/lib.rt:129:9
 strip-noop-unary-requires : tie.Need-strip-noop-unary-requires
 strip-noop-unary-requires c κs = search needs
 
--- src/lib.rt:128:30
+-- src/lib.rt:130:30
 node-at-requires : tie.Need-node-at-requires
 node-at-requires c κs = search needs
 
--- src/lib.rt:128:20
+-- src/lib.rt:130:20
 enum-known-callee : tie.Need-enum-known-callee
 enum-known-callee c = search needs
 
--- src/lib.rt:129:9
+-- src/lib.rt:131:9
 returns : tie.Need-returns
 returns c = (omega arith, λ T h. no-call-at (now (c .before .before .before .before .before .args .s)) (c .before .before .before .before .before .args .at) _ (c .before .before .strip-noop-unary .ensures) (c .before .node-at .ensures) (c .match .keys2) T)
 
--- src/lib.rt:131:66
+-- src/lib.rt:133:66
 add-peek-two : tie.Need-add-peek-two
 add-peek-two c =
     let a = c .before .before .before .before .before .before .before .args in
@@ -38,7 +38,7 @@ add-peek-two c =
     let v = c .before .before .before .before .before .before .before .pre .1 in
     omega arith
 
--- src/lib.rt:131:40
+-- src/lib.rt:133:40
 peek-two-requires : tie.Need-peek-two-requires
 peek-two-requires c κs =
     let a = c .before .before .before .before .before .before .before .args in
@@ -47,11 +47,11 @@ peek-two-requires c κs =
     let v = c .before .before .before .before .before .before .before .pre .1 in
     omega arith
 
--- src/lib.rt:131:8
+-- src/lib.rt:133:8
 auto-deleted-requires : tie.Need-auto-deleted-requires
 auto-deleted-requires c κs = search needs
 
--- src/lib.rt:132:9
+-- src/lib.rt:134:9
 returns-2 : tie.Need-returns-2
 returns-2 c =
     let at-callee = c .before .before .before .before in
@@ -65,7 +65,7 @@ returns-2 c =
     let v = i .2 in
     (omega arith, λ T h e next st. callee-at (a .s .now) (a .at) _ (strip .ensures) (at-node-at .node-at .ensures) (at-callee .callee .given .1) T (auto-is T _ _ (c .before .before .peek-two .ensures .0) (c .before .auto-deleted .ensures (a .s .now) T (start .pre .0) h)) e next st (c .if1 .taken))
 
--- src/lib.rt:122:1
+-- src/lib.rt:124:1
 returns-3 : tie.Need-returns-3
 returns-3 c =
     let at-callee = c .before .before .before .before in

@@ -13,43 +13,43 @@ use Rattle.statements_acts.proofs.consumed_compiler_temp_from_value.Rea
 use Rattle.statements_acts.proofs.nothing_put.Reads as nothing-put-reads
 use Rattle.expressions_effects.proofs.span_at.Reads as span-at-reads
 
--- src/lib.rt:369:27
+-- src/lib.rt:371:27
 add-span-at : tie.Need-add-span-at
 add-span-at c = search needs
 
--- src/lib.rt:369:9
+-- src/lib.rt:371:9
 span-at-requires : tie.Need-span-at-requires
 span-at-requires c κs = search needs
 
--- src/lib.rt:370:27
+-- src/lib.rt:372:27
 add-name-at : tie.Need-add-name-at
 add-name-at c = search needs
 
--- src/lib.rt:370:9
+-- src/lib.rt:372:9
 name-at-requires : tie.Need-name-at-requires
 name-at-requires c κs = search needs
 
--- src/lib.rt:371:25
+-- src/lib.rt:373:25
 add-name-at-2 : tie.Need-add-name-at-2
 add-name-at-2 c = search needs
 
--- src/lib.rt:371:9
+-- src/lib.rt:373:9
 name-at-requires-2 : tie.Need-name-at-requires-2
 name-at-requires-2 c κs = search needs
 
--- src/lib.rt:372:17
+-- src/lib.rt:374:17
 add-value : tie.Need-add-value
 add-value c = search needs
 
--- src/lib.rt:373:9
+-- src/lib.rt:375:9
 consumed-compiler-temp-from-value-requires : tie.Need-consumed-compiler-temp-from-value-requires
 consumed-compiler-temp-from-value-requires c κs = search needs
 
--- src/lib.rt:374:30
+-- src/lib.rt:376:30
 nothing-put-requires : tie.Need-nothing-put-requires
 nothing-put-requires c κs = search needs
 
--- src/lib.rt:374:9
+-- src/lib.rt:376:9
 behind-requires : tie.Need-behind-requires
 behind-requires c κs =
     let at-shared-slice-known = c .before .before .before .before .before .before .before .before .before .before .before .before in
@@ -61,11 +61,11 @@ behind-requires c κs =
     let r = variable-reach (a .s .now) b (a .p) (a .end) (start .pre .3) (start .pre .4) (start .pre .5) in
     (omega arith, r .1, w .0, omega arith, omega arith)
 
--- src/lib.rt:352:1
+-- src/lib.rt:354:1
 same-length : tie.Need-same-length
 same-length c = search needs
 
--- src/lib.rt:352:1
+-- src/lib.rt:354:1
 returns : tie.Need-returns
 returns c =
     let at-nothing-put = c .before .before .before .before in
@@ -79,7 +79,7 @@ returns c =
     let b : Bytes (a .s .now) = λ k. omega (arith, at-shared-slice-known .shared-slice-known .given k) in
     let put = at-nothing-put .nothing-put in
     let w = c .before .before .behind in (
-      λ T h ld births g. variable-acts (a .s .now) b (a .p) (a .end) (start .pre .3) (start .pre .4) (start .pre .5) (put .result) (put .ensures) (w .result) (w .ensures) T (lent (a .ln .now) (a .lt .now) ld births g (a .n)) _ _ _
+      λ sw T h ld births g. variable-acts (a .s .now) b (a .p) (a .end) (start .pre .3) (start .pre .4) (start .pre .5) (put .result) (put .ensures) (w .result) (w .ensures) sw T (lent (a .ln .now) (a .lt .now) ld births g (a .n)) _ _ _
           (at-consumed-compiler-temp-from-value .consumed-compiler-temp-from-value .result) (at-name-at .name-at .ensures) (at-name-at2 .name-at2 .ensures) (at-span-at .span-at .ensures) (at-consumed-compiler-temp-from-value .consumed-compiler-temp-from-value .ensures T h ld births g),
       variable-grows (a .s .now) b (a .p) (a .end) (start .pre .3) (start .pre .4) (start .pre .5) (put .result) (put .ensures) (w .result) (w .ensures),
     )

@@ -1,3 +1,4 @@
+use Rattle.rules.specs.Rules.{switchesOf}
 use Prim.Native.Nat.{_-_}
 use Rattle.statements_changes.proofs.Steady.{tag-inside, front-there, fit-came, within-told, front-told, acts-told, acts-of, grows-told, came-told, ends-told}
 use Rattle.scope_state.proofs.Stacked.{length-stacked}
@@ -60,7 +61,7 @@ returns c =
     let e = at-told .told .ensures in
     let small : Bytes (a .s .now) = λ k. omega (arith, at-shared-slice-known .shared-slice-known .given k) in
     let m = came-told (getD (a .s .now) (a .c .place .at) 0) (a .c .left - 1) (b .result .change) (b .result .taken) (c .turn-of .ensures) (c .before .before .told2 .ensures) in (
-      λ T tb ld at σ loop h all σ₀ p₀ m₀ nodes errs g. acted-after T (a .s .now) small (a .env .left) _ all σ₀ p₀ m₀ nodes (a .c) σ _ errs _ _ _ _ _ (g .within (r .5)) (omega (arith, r .6)) (b .result)
+      λ T tb ld at σ loop h all σ₀ p₀ m₀ nodes errs g. acted-after (switchesOf (a .env .switches)) T (a .s .now) small (a .env .left) _ all σ₀ p₀ m₀ nodes (a .c) σ _ errs _ _ _ _ _ (g .within (r .5)) (omega (arith, r .6)) (b .result)
           (acts-of (h .held) (acts-told e (b .ensures .0 T tb ld at (h .marked) _ (h .jumps)))) (let l = ap length (h .held) ∙ length-stacked _ at _ in let f = r .1 in omega arith) _ m,
       fit-came (a .s .now) (a .env .left) (a .c) (r .4) (r .5) (r .6) small (b .result) (ends-told _ _ _ _ e (b .ensures .1 .1)) (grows-told e (b .ensures .1 .0)) _ m,
     )

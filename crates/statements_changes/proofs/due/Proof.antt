@@ -24,7 +24,7 @@ returns c =
         owed-fit s left nodes a st _ _ t _ o,
         λ z. absurd (marks-something _ _ _ _ _ _ o z),
         λ z y. owed-ahead s left nodes a st _ _ t _ o,
-        λ T loop all σ₀ p₀ m₀ σ m g. owed-after s left nodes a st _ _ t T loop all σ₀ p₀ m₀ σ m g _ o,
+        λ sw T loop all σ₀ p₀ m₀ σ m g. owed-after s left nodes a st _ _ t sw T loop all σ₀ p₀ m₀ σ m g _ o,
       ),
       ap (λ (x : Came). x .cursor .place) o,
     )
@@ -37,13 +37,13 @@ returns-2 c =
     let a = c .before .before .before .before .args .c in
     let e = c .if1 .taken in
     let t = c .before .before .enum-told .given .1 in
-    (λ s left nodes st. (over-fit s left nodes a st e, λ z. absurd (no-end z), λ z y. absurd (y refl), λ T loop all σ₀ p₀ m₀ σ m g. over-after s left nodes a st t e T loop all σ₀ p₀ m₀ σ m g), refl)
+    (λ s left nodes st. (over-fit s left nodes a st e, λ z. absurd (no-end z), λ z y. absurd (y refl), λ sw T loop all σ₀ p₀ m₀ σ m g. over-after s left nodes a st t e sw T loop all σ₀ p₀ m₀ σ m g), refl)
 
 returns-3 : tie.Need-returns-3
 returns-3 c =
     let e = c .if1 .left in
     let t = c .before .before .enum-told .given .1 in
-    (λ s left nodes st. (st, λ z. (t, omega arith), λ z y. absurd (z refl), λ T loop all σ₀ p₀ m₀ σ m g. g), refl)
+    (λ s left nodes st. (st, λ z. (t, omega arith), λ z y. absurd (z refl), λ sw T loop all σ₀ p₀ m₀ σ m g. g), refl)
 
 pub due-spec : {M : Type 1} → statement M
 due-spec =

@@ -1,3 +1,4 @@
+use Rattle.rules.specs.Rules.{switchesOf}
 use Rattle.statements_changes.proofs.Turned.{Turning, turning-start, nothing-stood, nothing-steady, acted-ahead}
 use native.Mathlib.Omega.{arith}
 use Rattle.scope_state.specs.Locals.{stateIn}
@@ -20,14 +21,14 @@ use Rattle.statements_changes.proofs.scanned.Reads as scanned-reads
 
 abbrev Inv-loop : tie.InvT-loop
 Inv-loop s tb env ln lt lb lk lf rows nodes₀ out₀ errs₀ warns₀ lefts₀ c₀ nodes out errs warns lefts c =
-    Turning s tb (env .left) ln lt lb (stateIn lk lf rows (env .cur) (env .width)) (env .locals) (env .mark) (env .base) nodes₀ c₀ out₀ errs₀ warns₀ lefts₀ nodes c out errs warns lefts
+    Turning (switchesOf (env .switches)) s tb (env .left) ln lt lb (stateIn lk lf rows (env .cur) (env .width)) (env .locals) (env .mark) (env .base) nodes₀ c₀ out₀ errs₀ warns₀ lefts₀ nodes c out errs warns lefts
 
 abbrev μ-loop : tie.MeasureT-loop
 μ-loop s tb env ln lt lb lk lf rows nodes₀ out₀ errs₀ warns₀ lefts₀ c₀ nodes out errs warns lefts c =
     c .left
 
 loop-holds : tie.Need-loop-holds Inv-loop μ-loop
-loop-holds c = let r = c .before .before .before .before .before .before .before .pre in turning-start _ _ _ _ _ _ _ _ _ _ _ _ _ _ _ _ (r .4) (r .5)
+loop-holds c = let r = c .before .before .before .before .before .before .before .pre in turning-start _ _ _ _ _ _ _ _ _ _ _ _ _ _ _ _ _ (r .4) (r .5)
 
 due-requires : tie.Need-due-requires Inv-loop μ-loop
 due-requires c κs = search needs
@@ -52,7 +53,7 @@ returns c =
     let i = c .before .before .before .loop .inv in
     let o = c .before .before .due .ensures .0 _ _ _ (i .steady) in
     let n = c .before .is-nothing .ensures .1 (not-true _ (c .if1 .taken)) in (
-      λ T sy ld σ loop h all σ₀ p₀ m₀ g. o .3 T _ all σ₀ p₀ m₀ σ _ (i .stood T sy ld σ loop h all σ₀ p₀ m₀ g),
+      λ T sy ld σ loop h all σ₀ p₀ m₀ g. o .3 _ T _ all σ₀ p₀ m₀ σ _ (i .stood T sy ld σ loop h all σ₀ p₀ m₀ g),
       (o .0, i .room, n, λ z. (let a = o .2 n z in let b = i .less in omega arith), grows-as (i .grown) (ap (λ (x : Place). retold x 0) (c .before .before .due .ensures .1))),
     )
 
@@ -109,7 +110,7 @@ returns-2 c =
     let b = at-begun .begun .ensures in
     let v = at-scanned .scanned .ensures in
     let n = c .before .is-nothing2 .ensures .1 (not-true _ (c .if2 .taken)) in (
-      λ T sy ld σ loop h all σ₀ p₀ m₀ g. v .0 T sy (r .lt .now) ld (r .lb .now) σ (h .held) loop all σ₀ p₀ m₀ _ _ (b .0 T _ all σ₀ p₀ m₀ σ _ _ _ _ (i .stood T sy ld σ loop h all σ₀ p₀ m₀ g)),
+      λ T sy ld σ loop h all σ₀ p₀ m₀ g. v .0 _ T sy (r .lt .now) ld (r .lb .now) σ (h .held) loop all σ₀ p₀ m₀ _ _ (b .0 _ T _ all σ₀ p₀ m₀ σ _ _ _ _ (i .stood T sy ld σ loop h all σ₀ p₀ m₀ g)),
       (v .1 .0, v .1 .1, n, λ z. (let x = v .1 .3 n in let y = b .5 in let l = i .less in omega arith), grows-as (i .grown) (v .1 .4 ∙ ap (λ (x : Place). retold x 0) (b .6))),
     )
 
@@ -179,8 +180,8 @@ returns-3 c =
     let f = acted-ahead (r .s .now) (a .result .cursor) (k .c) (a .ensures .1 .2) (a .ensures .1 .1 ∙ v .ensures .1 .2 e .2 ∙ b .3) in
     let n = c .before .is-nothing3 .ensures .1 (not-true _ (c .if3 .taken)) in (
       λ T sy ld σ loop h all σ₀ p₀ m₀ g. a .ensures .0 T sy ld _ σ loop h all σ₀ p₀ m₀ _ _
-          (nothing-stood T _ _ _ _ all σ₀ p₀ m₀ _ _ σ _ _ e
-          (v .ensures .0 T sy (r .lt .now) ld (r .lb .now) σ (h .held) loop all σ₀ p₀ m₀ _ _ (b .0 T _ all σ₀ p₀ m₀ σ _ _ _ _ (k .inv .stood T sy ld σ loop h all σ₀ p₀ m₀ g)))),
+          (nothing-stood _ T _ _ _ _ all σ₀ p₀ m₀ _ _ σ _ _ e
+          (v .ensures .0 _ T sy (r .lt .now) ld (r .lb .now) σ (h .held) loop all σ₀ p₀ m₀ _ _ (b .0 _ T _ all σ₀ p₀ m₀ σ _ _ _ _ (k .inv .stood T sy ld σ loop h all σ₀ p₀ m₀ g)))),
       (a .ensures .1 .0 _, v .ensures .1 .1, n, λ z. (let y = k .inv .less in omega arith), grows-both (k .inv .grown) (grows-told (v .ensures .1 .4 ∙ ap (λ (x : Place). retold x 0) (b .6)) (a .ensures .1 .3))),
     )
 
@@ -224,9 +225,9 @@ loop-again c =
       less = let y = k .inv .less in omega arith;
       grown = grows-both (k .inv .grown) (grows-told (v .ensures .1 .4 ∙ ap (λ (x : Place). retold x 0) (b .6)) (a .ensures .1 .3));
       lent = (a .kept .1 .1 .1 .1 .1 .1 .1 .0 ∙ v .kept .1 .1 .1 .1 .1 .1 .1 .1 .1 .0 ∙ l .0, v .kept .1 .1 .1 .1 .1 .1 .1 .1 .1 .1 .0 ∙ l .1, a .kept .1 .1 .1 .1 .1 .1 .1 .1 .0 ∙ l .2, a .kept .1 .1 .1 .1 .1 .1 .1 .1 .1 .0 ∙ l .3);
-      stood = λ T sy ld σ loop h all σ₀ p₀ m₀ g. nothing-stood T _ _ _ _ all σ₀ p₀ m₀ _ _ σ _ _ n (a .ensures .0 T sy ld _ σ loop h all σ₀ p₀ m₀ _ _
-          (nothing-stood T _ _ _ _ all σ₀ p₀ m₀ _ _ σ _ _ e
-          (v .ensures .0 T sy (r .lt .now) ld (r .lb .now) σ (h .held) loop all σ₀ p₀ m₀ _ _ (b .0 T _ all σ₀ p₀ m₀ σ _ _ _ _ (k .inv .stood T sy ld σ loop h all σ₀ p₀ m₀ g)))));
+      stood = λ T sy ld σ loop h all σ₀ p₀ m₀ g. nothing-stood _ T _ _ _ _ all σ₀ p₀ m₀ _ _ σ _ _ n (a .ensures .0 T sy ld _ σ loop h all σ₀ p₀ m₀ _ _
+          (nothing-stood _ T _ _ _ _ all σ₀ p₀ m₀ _ _ σ _ _ e
+          (v .ensures .0 _ T sy (r .lt .now) ld (r .lb .now) σ (h .held) loop all σ₀ p₀ m₀ _ _ (b .0 _ T _ all σ₀ p₀ m₀ σ _ _ _ _ (k .inv .stood T sy ld σ loop h all σ₀ p₀ m₀ g)))));
     }
 
 pub next-change-spec : {M : Type 1} → statement M

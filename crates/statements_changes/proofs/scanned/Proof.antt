@@ -47,7 +47,7 @@ returns c =
     let w = c .before .before .within .ensures in
     let e = within-as _ _ _ w (c .before .before .before .told .ensures) in
     let i = c .enum-told .given .1 in (
-      λ T sy types depths births σ h loop all σ₀ p₀ m₀ warns lefts g. stood-as σ (v .result .change) Nothing (stood-on T _ _ _ _ all σ₀ p₀ m₀ _ (a .c) σ _ _ warns lefts g (r .3) _ (v .ensures .0 T sy types depths births σ h)) e i,
+      λ sw T sy types depths births σ h loop all σ₀ p₀ m₀ warns lefts g. stood-as σ (v .result .change) Nothing (stood-on sw T _ _ _ _ all σ₀ p₀ m₀ _ (a .c) σ _ _ warns lefts g (r .3) _ (v .ensures .0 T sy types depths births σ h)) e i,
       (
         steady-as e (steady-on _ _ _ (a .c) (r .2) (r .3) _ (v .result) (v .ensures .1)),
         sym (length-opens _) ∙ v .ensures .1 .ready .room,
@@ -74,7 +74,7 @@ returns-2 c =
     let w = c .before .before .before .within .ensures in
     let e = within-as _ _ _ w (at-told .told .ensures) in
     let i = c .before .change .given .1 in (
-      λ T sy types depths births σ h loop all σ₀ p₀ m₀ warns lefts g. stood-as σ (v .result .change) _ (stood-on T _ _ _ _ all σ₀ p₀ m₀ _ (a .c) σ _ _ warns lefts g (r .3) _ (v .ensures .0 T sy types depths births σ h)) e i,
+      λ sw T sy types depths births σ h loop all σ₀ p₀ m₀ warns lefts g. stood-as σ (v .result .change) _ (stood-on sw T _ _ _ _ all σ₀ p₀ m₀ _ (a .c) σ _ _ warns lefts g (r .3) _ (v .ensures .0 T sy types depths births σ h)) e i,
       (
         mark-fit _ _ _ _ _ e (steady-on _ _ _ (a .c) (r .2) (r .3) _ (v .result) (v .ensures .1)) (v .result .change) (v .ensures .1 .marks) _ _ _ _ i,
         sym (length-opens _) ∙ v .ensures .1 .ready .room,

@@ -15,19 +15,19 @@ conditional-requires : tie.Need-conditional-requires
 conditional-requires c κs = search needs
 
 returns : tie.Need-returns
-returns c = join-then-alive (c .before .before .before .before .args .self) (c .before .before .before .before .args .other) (c .before .before .before .before .pre .0) (c .before .before .before .before .pre .1) _ (c .before .if1 .taken) (c .conditional .ensures)
+returns c = join-then-alive (c .before .before .before .before .args .keeps) (c .before .before .before .before .args .self) (c .before .before .before .before .args .other) (c .before .before .before .before .pre .0) (c .before .before .before .before .pre .1) _ (c .before .if1 .taken) (c .conditional .ensures)
 
 conditional-requires-2 : tie.Need-conditional-requires-2
 conditional-requires-2 c κs = search needs
 
 returns-2 : tie.Need-returns-2
-returns-2 c = join-else-alive (c .before .before .before .before .before .args .self) (c .before .before .before .before .before .args .other) (c .before .before .before .before .before .pre .0) (c .before .before .before .before .before .pre .1) _ (c .before .if2 .taken) (c .conditional2 .ensures)
+returns-2 c = join-else-alive (c .before .before .before .before .before .args .keeps) (c .before .before .before .before .before .args .self) (c .before .before .before .before .before .args .other) (c .before .before .before .before .before .pre .0) (c .before .before .before .before .before .pre .1) _ (c .before .if2 .taken) (c .conditional2 .ensures)
 
 same-requires : tie.Need-same-requires
 same-requires c κs = search needs
 
 returns-3 : tie.Need-returns-3
-returns-3 c = join-same (c .before .before .before .before .before .before .args .self) (c .before .before .before .before .before .before .args .other) (c .before .before .before .before .before .before .pre .0) (c .before .before .before .before .before .before .pre .1) (c .before .before .before .if1 .left) (c .before .before .if2 .left) (sym (c .before .same .ensures) ∙ c .if3 .taken)
+returns-3 c = join-same (c .before .before .before .before .before .before .args .keeps) (c .before .before .before .before .before .before .args .self) (c .before .before .before .before .before .before .args .other) (c .before .before .before .before .before .before .pre .0) (c .before .before .before .before .before .before .pre .1) (c .before .before .before .if1 .left) (c .before .before .if2 .left) (sym (c .before .same .ensures) ∙ c .if3 .taken)
 
 combine-requires : tie.Need-combine-requires
 combine-requires c κs = search needs
@@ -36,7 +36,7 @@ family-requires : tie.Need-family-requires
 family-requires c κs = search needs
 
 returns-4 : tie.Need-returns-4
-returns-4 c = join-differ (c .before .before .before .before .before .before .before .before .before .args .self) (c .before .before .before .before .before .before .before .before .before .args .other) (c .before .before .before .before .before .before .before .before .before .pre .0) (c .before .before .before .before .before .before .before .before .before .pre .1) (c .before .before .before .before .before .before .if1 .left) (c .before .before .before .before .before .if2 .left) (sym (c .before .before .before .before .same .ensures) ∙ c .before .before .before .if3 .left) _ (c .family .ensures) (c .before .before .combine .result) (c .before .before .combine .ensures)
+returns-4 c = join-differ (c .before .before .before .before .before .before .before .before .before .args .keeps) (c .before .before .before .before .before .before .before .before .before .args .self) (c .before .before .before .before .before .before .before .before .before .args .other) (c .before .before .before .before .before .before .before .before .before .pre .0) (c .before .before .before .before .before .before .before .before .before .pre .1) (c .before .before .before .before .before .before .if1 .left) (c .before .before .before .before .before .if2 .left) (sym (c .before .before .before .before .same .ensures) ∙ c .before .before .before .if3 .left) _ (c .family .ensures) (c .before .before .combine .result) (c .before .before .combine .ensures)
 
 pub join-spec : {M : Type 1} → statement M
 join-spec =
