@@ -2,10 +2,12 @@
 use crate::answer::{Answer, Error, Outcome};
 use std::mem::{align_of, offset_of, size_of};
 
+// an entry that gives back the body, with what is before the image
 macro_rules! declare_pass {
-    ($name:ident) => {
+    ($name:ident $(, $first:ident: $ty:ty)?) => {
         unsafe extern "C" {
             fn $name(
+                $($first: $ty,)?
                 image: *const u8,
                 image_len: usize,
                 output: *mut u8,
@@ -22,23 +24,32 @@ macro_rules! declare_pass {
     };
 }
 
+// its call: the pointers and lengths are those of slices
+macro_rules! call_pass {
+    ($name:ident, $image:expr, $lent:expr $(, $first:expr)?) => {
+        unsafe {
+            $name(
+                $($first,)?
+                $image.as_ptr(),
+                $image.len(),
+                $lent.output.as_mut_ptr(),
+                $lent.output.len(),
+                $lent.errors.as_mut_ptr(),
+                $lent.errors.len(),
+                $lent.warnings.as_mut_ptr(),
+                $lent.warnings.len(),
+                $lent.left.as_mut_ptr(),
+                $lent.left.len(),
+                $lent.totals.as_mut_ptr(),
+            )
+        }
+    };
+}
+
 declare_pass!(ownership_pass);
+declare_pass!(ownership_pass_switched, switches: u32);
 
 unsafe extern "C" {
-    fn ownership_pass_switched(
-        switches: u32,
-        image: *const u8,
-        image_len: usize,
-        output: *mut u8,
-        output_len: usize,
-        errors: *mut u32,
-        errors_len: usize,
-        warnings: *mut u32,
-        warnings_len: usize,
-        left: *mut u32,
-        left_len: usize,
-        totals: *mut u64,
-    ) -> u32;
     fn ownership_room_switched(switches: u32, image: *const u8, image_len: usize, room: *mut u64) -> u32;
     fn ownership_page_switched(switches: u32, image: *const u8, image_len: usize, page: *mut u8, page_len: usize, written: *mut u64)
     -> u32;
@@ -113,27 +124,11 @@ pub struct Lent<'a> {
     pub totals: &'a mut [u64; 4],
 }
 
-type Pass = unsafe extern "C" fn(*const u8, usize, *mut u8, usize, *mut u32, usize, *mut u32, usize, *mut u32, usize, *mut u64) -> u32;
-
 /// 0 or the fault's number.
 pub fn pass(switches: Switches, image: &[u8], lent: Lent<'_>) -> u32 {
-    let Some(w) = switches else { return call(ownership_pass, image, lent) };
-    // the pointers and lengths are those of slices
-    unsafe {
-        ownership_pass_switched(
-            w,
-            image.as_ptr(),
-            image.len(),
-            lent.output.as_mut_ptr(),
-            lent.output.len(),
-            lent.errors.as_mut_ptr(),
-            lent.errors.len(),
-            lent.warnings.as_mut_ptr(),
-            lent.warnings.len(),
-            lent.left.as_mut_ptr(),
-            lent.left.len(),
-            lent.totals.as_mut_ptr(),
-        )
+    match switches {
+        Some(w) => call_pass!(ownership_pass_switched, image, lent, w),
+        None => call_pass!(ownership_pass, image, lent),
     }
 }
 
@@ -163,31 +158,12 @@ pub fn answer(switches: Switches, image: &[u8]) -> Outcome {
 /// The same of the earlier library.
 #[cfg(before)]
 pub fn pass_before(image: &[u8], lent: Lent<'_>) -> u32 {
-    call(before_pass, image, lent)
-}
-
-fn call(pass: Pass, image: &[u8], lent: Lent<'_>) -> u32 {
-    // the pointers and lengths are those of slices
-    unsafe {
-        pass(
-            image.as_ptr(),
-            image.len(),
-            lent.output.as_mut_ptr(),
-            lent.output.len(),
-            lent.errors.as_mut_ptr(),
-            lent.errors.len(),
-            lent.warnings.as_mut_ptr(),
-            lent.warnings.len(),
-            lent.left.as_mut_ptr(),
-            lent.left.len(),
-            lent.totals.as_mut_ptr(),
-        )
-    }
+    call_pass!(before_pass, image, lent)
 }
 
 /// 0 or the fault's number.
 pub fn room(switches: Switches, image: &[u8], room: &mut u64) -> u32 {
-    // as above
+    // the pointers and lengths are those of slices
     unsafe {
         match switches {
             Some(w) => ownership_room_switched(w, image.as_ptr(), image.len(), room),
