@@ -41,7 +41,7 @@ fn link_before() {
     // one object that exports nothing else, so that no name of the two libraries is the same
     let (object, archive) = (format!("{out}/before.o"), format!("{out}/libbefore.a"));
     tool("ld", &["-r", "--whole-archive", library.to_str().unwrap(), "-o", &object]);
-    tool("objcopy", &["--redefine-sym=ownership_pass_switched=before_pass", "--keep-global-symbol=before_pass", &object]);
+    tool("objcopy", &["--redefine-sym=ownership_pass=before_pass", "--keep-global-symbol=before_pass", &object]);
     let _ = std::fs::remove_file(&archive);
     tool("ar", &["rcs", &archive, &object]);
     println!("cargo:rustc-link-search=native={out}");

@@ -1,8 +1,7 @@
 /* The library over images of a file (bench images FILE), with heap buffers of exactly the lent sizes:
  *   memory check FILE   for valgrind's memcheck: roomy, exactly full, and one short of each kind
  *   memory stack FILE   the machine stack that each entry takes at most, by a thread whose stack is painted
- * Each image goes through the entries that take switches under all off, all on and 16, which is 17, and through those without, which must
- * answer as with 1; through ownership_pass and, with a fourth list, ownership_deletes.
+ * Each image goes through the entries without switches, and through those with them under all on and under 16, which is 17.
  * With REPORTS defined and liblent.a linked, each list of errors goes through ownership_reports too.
  */
 #define _GNU_SOURCE
@@ -13,7 +12,7 @@
 #include <string.h>
 #include <sys/mman.h>
 
-enum { PAINTED = 2 << 20, PAINT = 0xa5, KINDS = 5 };
+enum { PAINTED = 2 << 20, PAINT = 0xa5, KINDS = 4 };
 
 /* The header's record is 12 numbers in their order, as src/ours.rs has it. */
 #define STANDS(field, number) _Static_assert(offsetof(struct ownership_report, field) == 4 * (number), #field)
@@ -26,19 +25,15 @@ STANDS(count, 3);
 STANDS(places, 4);
 _Static_assert(sizeof((struct ownership_report *)0)->places == 8 * 4, "places");
 
-/* How many kinds are lent, and totals: without the list of deletes, with it. */
-static int kinds = OWNERSHIP_DELETES_TOTALS;
-_Static_assert(OWNERSHIP_TOTALS == KINDS - 1 && OWNERSHIP_DELETES_TOTALS == KINDS, "a total for each kind");
-
-/* What is lent: bytes, and numbers of errors, warnings, left-behind entries and deletes. */
+/* What is lent: bytes, and numbers of errors, warnings and left-behind entries. */
 struct lent {
     void *memory[KINDS];
     size_t size[KINDS]; /* in bytes */
     uint64_t *totals;
 };
 
-static const size_t WIDTH[KINDS] = {1, 4, 4, 4, 4};
-static const size_t NUMBERS[KINDS] = {1, OWNERSHIP_ERROR_NUMBERS, OWNERSHIP_WARNING_NUMBERS, OWNERSHIP_LEFT_NUMBERS, OWNERSHIP_DELETE_NUMBERS};
+static const size_t WIDTH[KINDS] = {1, 4, 4, 4};
+static const size_t NUMBERS[KINDS] = {1, OWNERSHIP_ERROR_NUMBERS, OWNERSHIP_WARNING_NUMBERS, OWNERSHIP_LEFT_NUMBERS};
 
 static void die(const char *what, const char *label) {
     printf("WRONG %s: %s\n", label, what);
@@ -47,36 +42,26 @@ static void die(const char *what, const char *label) {
 
 static struct lent lend(const size_t many[KINDS]) {
     struct lent l;
-    for (int k = 0; k < kinds; k++) {
+    for (int k = 0; k < KINDS; k++) {
         l.size[k] = many[k] * WIDTH[k];
         l.memory[k] = malloc(l.size[k]);
     }
-    l.totals = malloc(kinds * sizeof(uint64_t));
+    l.totals = malloc(OWNERSHIP_TOTALS * sizeof(uint64_t));
     return l;
 }
 
 static void give_back(struct lent *l) {
-    for (int k = 0; k < kinds; k++)
+    for (int k = 0; k < KINDS; k++)
         free(l->memory[k]);
     free(l->totals);
 }
 
-/* The switches, or PLAIN for the entries without, which have DEFAULT. */
-enum { PLAIN = -1, ALL_OFF = 0, DEFAULT = OWNERSHIP_DROP_AT_BARE_RETURNS, ALL_ON = 15, TOO_HIGH = 16 };
-static const int SETTINGS[] = {ALL_OFF, PLAIN, ALL_ON, TOO_HIGH};
+/* The switches, or PLAIN for the entries without. */
+enum { PLAIN = -1, ALL_ON = 15, TOO_HIGH = 16 };
+static const int SETTINGS[] = {PLAIN, ALL_ON, TOO_HIGH};
 static int switches;
 
-static uint32_t deletes(const uint8_t *image, size_t length, struct lent *l) {
-    if (switches == PLAIN)
-        return ownership_deletes(image, length, l->memory[0], l->size[0], l->memory[1], l->size[1] / 4, l->memory[2], l->size[2] / 4,
-                                 l->memory[3], l->size[3] / 4, l->memory[4], l->size[4] / 4, l->totals);
-    return ownership_deletes_switched(switches, image, length, l->memory[0], l->size[0], l->memory[1], l->size[1] / 4, l->memory[2],
-                                      l->size[2] / 4, l->memory[3], l->size[3] / 4, l->memory[4], l->size[4] / 4, l->totals);
-}
-
 static uint32_t pass(const uint8_t *image, size_t length, struct lent *l) {
-    if (kinds == OWNERSHIP_DELETES_TOTALS)
-        return deletes(image, length, l);
     if (switches == PLAIN)
         return ownership_pass(image, length, l->memory[0], l->size[0], l->memory[1], l->size[1] / 4, l->memory[2], l->size[2] / 4,
                               l->memory[3], l->size[3] / 4, l->totals);
@@ -97,18 +82,16 @@ static uint32_t page_of(const uint8_t *image, size_t length, uint8_t *page, size
 /* A sum over what was reported: memcheck sees it printed, so all of it must have been written. */
 static uint64_t sum_of(const struct lent *l) {
     uint64_t sum = 0;
-    for (int k = 0; k < kinds; k++) {
-        sum = sum * 31 + l->totals[k];
+    for (int k = 0; k < KINDS; k++)
         for (size_t i = 0; i < l->totals[k] * NUMBERS[k] * WIDTH[k]; i++)
             sum = sum * 31 + ((uint8_t *)l->memory[k])[i];
-    }
     return sum;
 }
 
 static void painted(struct lent *l) {
-    for (int k = 0; k < kinds; k++)
+    for (int k = 0; k < KINDS; k++)
         memset(l->memory[k], PAINT, l->size[k]);
-    memset(l->totals, PAINT, kinds * sizeof(uint64_t));
+    memset(l->totals, PAINT, OWNERSHIP_TOTALS * sizeof(uint64_t));
 }
 
 static int is_painted(const uint8_t *at, size_t length) {
@@ -127,11 +110,9 @@ static void one_short(const char *label, const uint8_t *image, size_t length, co
     painted(&l);
     if (pass(image, length, &l) != (kind == 0 ? 15 : 14))
         die("one short, and not 14 or 15", label);
-    for (int k = 0; k < kinds; k++)
+    for (int k = 0; k < KINDS; k++)
         if (!is_painted(l.memory[k], l.size[k]))
             die("changed on a refusal", label);
-    if (!is_painted((uint8_t *)l.totals, kinds * sizeof(uint64_t)))
-        die("totals changed on a refusal", label);
     give_back(&l);
 }
 
@@ -184,14 +165,6 @@ static uint64_t page(const char *label, const uint8_t *image, size_t length, uin
         die("page and room differ", label);
     if (!is_painted(lent + (answer == 0 ? *written : 0), room - (answer == 0 ? *written : 0)))
         die("changed past the page", label);
-    if (switches == PLAIN) {
-        uint8_t *named = malloc(room);
-        uint64_t bytes = 0;
-        if (ownership_page_switched(DEFAULT, image, length, named, room, &bytes) != answer
-            || (answer == 0 && (bytes != *written || memcmp(named, lent, bytes) != 0)))
-            die("page: without switches not as with 1", label);
-        free(named);
-    }
     free(lent);
     if (answer != 0) {
         free(written);
@@ -217,26 +190,23 @@ static uint64_t page(const char *label, const uint8_t *image, size_t length, uin
     return sum;
 }
 
-/* 1 if the image is accepted; *sum is over what was reported. The list of deletes is lent what the header says is always enough. */
-static int lists(const char *label, const uint8_t *image, size_t length, uint32_t fault, uint64_t room, uint64_t *sum) {
-    size_t many[KINDS] = {fault == 0 ? room : length, 12 * 4096, 2 * 4096, 3 * 4096, 2 * ((fault == 0 ? room - length : length) / 7)};
-    size_t needed[KINDS] = {0};
+/* 1 if the image is accepted; *sum is over what was reported. */
+static int check(const char *label, const uint8_t *image, size_t length, uint64_t *sum) {
+    uint64_t *room = malloc(sizeof *room);
+    uint32_t fault = room_of(image, length, room);
+    if ((fault == 17) != (switches == TOO_HIGH))
+        die("17 is for a value above 15", label);
+    size_t many[KINDS] = {fault == 0 ? *room : length, 12 * 4096, 2 * 4096, 3 * 4096}, needed[KINDS];
+    free(room);
+    *sum += page(label, image, length, fault);
     struct lent l = lend(many);
     uint32_t answer = pass(image, length, &l);
     if (answer != fault && !(fault == 0 && answer == 15))
         die("pass and room differ", label);
     if (answer == 0) {
         *sum += sum_of(&l);
-        for (int k = 0; k < kinds; k++)
+        for (int k = 0; k < KINDS; k++)
             needed[k] = l.totals[k] * NUMBERS[k];
-    }
-    if (switches == PLAIN) {
-        struct lent named = lend(many);
-        switches = DEFAULT;
-        if (pass(image, length, &named) != answer || (answer == 0 && sum_of(&named) != sum_of(&l)))
-            die("pass or deletes: without switches not as with 1", label);
-        switches = PLAIN;
-        give_back(&named);
     }
     give_back(&l);
     if (answer != 0)
@@ -249,35 +219,14 @@ static int lists(const char *label, const uint8_t *image, size_t length, uint32_
     records(label, l.memory[1], l.totals[1]);
 #endif
     give_back(&l);
-    for (int k = 0; k < kinds; k++)
+    for (int k = 0; k < KINDS; k++)
         if (needed[k] > 0)
             one_short(label, image, length, needed, k);
     return 1;
 }
 
-/* The same for all entries. */
-static int check(const char *label, const uint8_t *image, size_t length, uint64_t *sum) {
-    uint64_t *room = malloc(sizeof *room);
-    uint32_t fault = room_of(image, length, room);
-    if ((fault == 17) != (switches == TOO_HIGH))
-        die("17 is for a value above 15", label);
-    uint64_t named = 0;
-    if (switches == PLAIN && (ownership_room_switched(DEFAULT, image, length, &named) != fault || (fault == 0 && named != *room)))
-        die("room: without switches not as with 1", label);
-    *sum += page(label, image, length, fault);
-    int accepted[2];
-    for (int k = 0; k < 2; k++) {
-        kinds = k == 0 ? OWNERSHIP_TOTALS : OWNERSHIP_DELETES_TOTALS;
-        accepted[k] = lists(label, image, length, fault, *room, sum);
-    }
-    free(room);
-    if (accepted[0] != accepted[1])
-        die("pass and deletes differ", label);
-    return accepted[0];
-}
-
 struct job {
-    int entry; /* 0 none, 1 pass, 2 room, 3 page, 4 deletes */
+    int entry; /* 0 none, 1 pass, 2 room, 3 page */
     const uint8_t *image;
     size_t length;
     struct lent *lent;
@@ -286,8 +235,7 @@ struct job {
 
 static void *work(void *given) {
     struct job *j = given;
-    kinds = j->entry == 1 ? OWNERSHIP_TOTALS : OWNERSHIP_DELETES_TOTALS;
-    if (j->entry == 1 || j->entry == 4)
+    if (j->entry == 1)
         pass(j->image, j->length, j->lent);
     if (j->entry == 2)
         room_of(j->image, j->length, &j->room);
@@ -329,15 +277,15 @@ static uint8_t *file_of(const char *path, size_t *length) {
 
 /* What was seen of the images so far. */
 struct seen {
-    size_t images, accepted, most[5];
-    char label[5][256];
+    size_t images, accepted, most[4];
+    char label[4][256];
     uint64_t sum;
     uint8_t *stack;
     struct lent roomy;
 };
 
 static void measure(struct seen *s, const char *label, const uint8_t *image, size_t length) {
-    for (int entry = s->images > 0; entry < 5; entry++) {
+    for (int entry = s->images > 0; entry < 4; entry++) {
         struct job j = {entry, image, length, &s->roomy, 0};
         size_t bytes = stack_of(s->stack, &j);
         if (bytes > s->most[entry]) {
@@ -351,7 +299,7 @@ int main(int words, char **word) {
     if (words != 3)
         return 2;
     int stack = strcmp(word[1], "stack") == 0;
-    size_t length, roomy[KINDS] = {4 << 20, 12 * 4096, 2 * 4096, 3 * 4096, 2 << 20};
+    size_t length, roomy[KINDS] = {4 << 20, 12 * 4096, 2 * 4096, 3 * 4096};
     uint8_t *file = file_of(word[2], &length);
     struct seen s = {0};
     s.stack = mmap(NULL, PAINTED, PROT_READ | PROT_WRITE, MAP_PRIVATE | MAP_ANONYMOUS, -1, 0);
@@ -378,9 +326,8 @@ int main(int words, char **word) {
         at += 4 + size;
     }
     if (stack)
-        printf("stack over %zu images: pass %zu bytes (%s), room %zu bytes (%s), page %zu bytes (%s), deletes %zu bytes (%s); besides %zu of the thread itself\n",
-               s.images, s.most[1] - s.most[0], s.label[1], s.most[2] - s.most[0], s.label[2], s.most[3] - s.most[0], s.label[3],
-               s.most[4] - s.most[0], s.label[4], s.most[0]);
+        printf("stack over %zu images: pass %zu bytes (%s), room %zu bytes (%s), page %zu bytes (%s); besides %zu of the thread itself\n",
+               s.images, s.most[1] - s.most[0], s.label[1], s.most[2] - s.most[0], s.label[2], s.most[3] - s.most[0], s.label[3], s.most[0]);
     else
         printf("%zu images under %zu settings, %zu accepted, exact fits and one short of each kind; sum %016llx\n", s.images, sizeof SETTINGS / sizeof *SETTINGS, s.accepted,
                (unsigned long long)s.sum);
@@ -388,7 +335,6 @@ int main(int words, char **word) {
     if (!stack)
         printf("%zu errors as records, exact fits, a record and a number short\n", recorded);
 #endif
-    kinds = OWNERSHIP_DELETES_TOTALS;
     give_back(&s.roomy);
     munmap(s.stack, PAINTED);
     free(file);

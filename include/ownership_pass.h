@@ -7,35 +7,25 @@
  *    8  body: unknown byte, number outside its table, a Delete's type not 0, or bytes run out
  *    9  block deeper than 12 or expression deeper than 24    10  bytes left over    11  generic receiver
  *   12  a 65th local registered at one time    13  a joined state needs a 9th place
- *   14  errors, warnings, left-behind entries or deletes outnumber those lent
+ *   14  errors, warnings or left-behind entries outnumber those lent
  *   15  the image does not fit the output lent, or a block would count over 65,535 statements
  *   16  the page does not fit its buffer
  *   17  a switch value above 15; this comes before every other
  * On a fault nothing at all is changed, *room, *totals and *written included.
- *
- * Which drop rules hold (the switches, below; docs/REPORTS.md, "Switches"):
- *   ownership_pass, ownership_deletes,     no switches named: OWNERSHIP_DROP_AT_BARE_RETURNS is on and the rest are off. On a plain body a bare
- *   ownership_room, ownership_page         return deletes what every run that comes to it holds, and nothing is listed there; in other bodies
- *                                          it may delete what a run no longer holds.
- *   the same with _switched, and a value   that value alone: 0 is all off, as the Rust and the programs do it; 9 adds OWNERSHIP_DROP_PARAMETERS
- *                                          to the default, 8 would turn the default's drops off.
- * Before document 02's request (g) the first four had all of them off; the declarations are what they were.
  *
  * Any bytes may be submitted as an image. Every pointer must be non-null and aligned for its type, also where its length is 0, and
  * valid for its length; what is written to must overlap neither the image nor any other memory lent in the same call. The calls hold
  * no state, allocate nothing and keep no pointer: threads may call them at one time, each with memory of its own to write to.
  *
  * Machine stack: give a thread that calls them 1 MB. Measured (bench/memory.c), ownership_pass takes up to 238,680 bytes,
- * ownership_room 136,440, ownership_page 189,672 and ownership_deletes 239,128, with switches and without. Nothing proves a bound, and a stack that is too small ends the process.
+ * ownership_room 136,440 and ownership_page 189,672, with switches and without. Nothing proves a bound, and a stack that is too small ends the process.
  *
  * An image of n bytes without faults 1 to 13 has, with m = n - 28 and rounded down, at most m / 7 errors, m / 21 warnings and
- * 64 * (m / 5) left-behind entries, and with switch 1 on and 2 off, as where none is named, n + 168 * m bytes of output; for 65,536 bytes
- * 9,358, 3,119, 838,464 and 11,070,880. With switches 1 and 2 off it has at most n + 90 * m bytes of output, with switch 2 on n + 269 * m. At least 28
+ * 64 * (m / 5) left-behind entries, and n + 90 * m bytes of output; for 65,536 bytes 9,358, 3,119, 838,464 and 5,961,256. With switch 1
+ * on (and 2 off) it has at most n + 168 * m bytes of output, with switch 2 on n + 269 * m. At least 28
  * bytes stand before the first statement; an error needs an Ident (9 bytes), a ThisLiteral (7) or an Intrinsic (11) of its own, a warning
  * a statement, a call and a callee (5 + 9 + 7); a break, a continue (5) or a bare return (8) leaves at most 64 locals or gains as many
- * deletes, a return with a value (15) gains at most 64 deletes of 21 bytes. It has at most 64 * (m / 8) inserted deletes with switch
- * 1 on and 2 off, with both off 64 * (m / 15), with switch 2 on 64 * (m / 5), and with OWNERSHIP_DROP_PARAMETERS 17 more. This follows from the widths of the
- * image and is not proved.
+ * deletes, a return with a value (15) gains at most 64 deletes of 21 bytes. This follows from the widths of the image and is not proved.
  */
 #ifndef OWNERSHIP_PASS_H
 #define OWNERSHIP_PASS_H
@@ -50,11 +40,9 @@ extern "C" {
 /* The numbers of one entry of each list, and of totals. Lists are lent as numbers: room for n errors is an errors_len of 12 * n. */
 #define OWNERSHIP_ERROR_NUMBERS 12  /* kind 1 to 8, place, hint, count of other places, 8 other places (unused ones 0) */
 #define OWNERSHIP_WARNING_NUMBERS 2 /* the statement's span, the byte offset of the callee's tag in the submitted image */
-#define OWNERSHIP_LEFT_NUMBERS 3    /* the span of the break or continue (switch 1 off: or bare return), the local's name, the span of the Let or Const that
+#define OWNERSHIP_LEFT_NUMBERS 3    /* the span of the return, break or continue, the local's name, the span of the Let or Const that
                                      * registered it; 0 for a parameter and `this` */
-#define OWNERSHIP_DELETE_NUMBERS 2  /* the offset of the Delete node's tag in the output, the number of the struct whose destructor deletes */
 #define OWNERSHIP_TOTALS 4          /* bytes written, errors, warnings, left-behind entries */
-#define OWNERSHIP_DELETES_TOTALS 5  /* those, and deletes */
 
 /* The switches of the drop rules, to be added up; docs/REPORTS.md shows what each does. A drop that is made is not listed as left behind.
  * Errors' places, warnings and faults 12 and 13 are the same with any of them. */
@@ -75,7 +63,7 @@ uint32_t ownership_pass(const uint8_t *image, size_t image_len,
                         uint32_t *left, size_t left_len,
                         uint64_t *totals /* OWNERSHIP_TOTALS of them */);
 
-/* The same with switches: 0 to 15, any other value is fault 17. ownership_pass is this with 1, and so is each entry without switches. */
+/* The same with switches: 0 to 15, any other value is fault 17. The entries without switches have all of them off. */
 uint32_t ownership_pass_switched(uint32_t switches, const uint8_t *image, size_t image_len,
                                  uint8_t *output, size_t output_len,
                                  uint32_t *errors, size_t errors_len,
@@ -83,35 +71,7 @@ uint32_t ownership_pass_switched(uint32_t switches, const uint8_t *image, size_t
                                  uint32_t *left, size_t left_len,
                                  uint64_t *totals /* OWNERSHIP_TOTALS of them */);
 
-/* The same with a fourth list: what was put in, for code generation (docs/IMAGE.md). An entry is of one Delete node that was put in: the offset of
- * its tag, counted from the first byte of output, and the number, from 0, in the image's table of structs, of the struct that was found to
- * have a destructor for the type tested there: the local's, of an unused result the statement's expression's; of an inline array the struct of
- * what is in it. Entries are in output order, so the offsets rise. The deletes put round unused results are among them, submitted deletes are not.
- * Output, the three other lists and the first four totals are those of ownership_pass. Faults 1 to 15: 14 if any of the four lists is too short,
- * before 15. deletes_len counts numbers, as the other lengths do: (room - image_len) / 7 entries, with the room that ownership_room answers
- * for the same switches, are always enough.
- * The list is a certificate, which a caller can check by itself: at each offset stands the tag of the Delete of an expression statement. Where
- * that deletes an Ident, the statement is struck out; otherwise it deletes a call, perhaps behind operator-less unaries, and the 7 bytes of the
- * Delete are. With the blocks' counts and the length lowered by what was struck out, that gives the submitted image again, byte for byte
- * (tools/image-text --deletes). */
-uint32_t ownership_deletes(const uint8_t *image, size_t image_len,
-                           uint8_t *output, size_t output_len,
-                           uint32_t *errors, size_t errors_len,
-                           uint32_t *warnings, size_t warnings_len,
-                           uint32_t *left, size_t left_len,
-                           uint32_t *deletes, size_t deletes_len,
-                           uint64_t *totals /* OWNERSHIP_DELETES_TOTALS of them */);
-
-/* The same with switches, as ownership_pass_switched; with the room of the same switches. */
-uint32_t ownership_deletes_switched(uint32_t switches, const uint8_t *image, size_t image_len,
-                                    uint8_t *output, size_t output_len,
-                                    uint32_t *errors, size_t errors_len,
-                                    uint32_t *warnings, size_t warnings_len,
-                                    uint32_t *left, size_t left_len,
-                                    uint32_t *deletes, size_t deletes_len,
-                                    uint64_t *totals /* OWNERSHIP_DELETES_TOTALS of them */);
-
-/* The bytes of output that ownership_pass needs for this image, switch 1 on for both: no fewer than it writes, at most
+/* The bytes of output that ownership_pass needs for this image: no fewer than it writes, at most
  * image_len + 21 * (statements in all blocks + 1) * (registrations + 1), a registration being a Let, a Const, a parameter or `this`.
  * Faults 1 to 13. */
 uint32_t ownership_room(const uint8_t *image, size_t image_len, uint64_t *room);

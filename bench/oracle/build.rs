@@ -64,7 +64,7 @@ fn place_of(path: &str) -> String {
 }
 
 // mod.rs with a note of each registration and each join, of the states at the end, with the file answered from memory, with what is left behind
-// as drops before breaks and continues, and with births; or else with the drops of document 02, (e), and a note of each delete put in, (f).
+// as drops before breaks and continues, and with births; or else with the drops of document 02, (e).
 fn probed(pass: String) -> String {
     let pass = replace(
         pass,
@@ -97,7 +97,7 @@ fn probed(pass: String) -> String {
     let drops = "drops.push(self.delete_stmt_for(\n                        crate::atlas_c::utils::Span::default(),\n                        local.name,\n                        local.ty,\n                    ));";
     let born = format!("{drops} if crate::probe::listing() {{ born_at(drops.last_mut(), local.born); }}");
     let pass = replace(pass, 1, drops, &born);
-    let pass = noted(switched(pass));
+    let pass = switched(pass);
     replace(pass, 7, "utils::get_file_content(", "crate::probe::file_content(")
 }
 
@@ -123,27 +123,6 @@ fn switched(pass: String) -> String {
                 }
             }";
     replace(pass, 1, tail, &format!("{given} {tail}"))
-}
-
-// document 02, (f): `should_auto_delete`, answering with the struct that has the destructor; and a note of it at each Delete that is put in, by
-// the address of what is deleted, which stays the same in the body given back
-fn noted(pass: String) -> String {
-    let (from, to) = (pass.find("    fn should_auto_delete(").unwrap(), pass.find("    fn should_auto_delete_local(").unwrap());
-    let question = replace(pass[from..to].to_string(), 1, "-> bool", "-> Option<&'hir str>");
-    let question = replace(question, 2, "should_auto_delete(", "destructor_struct(");
-    let question = replace(question, 2, "=> false", "=> None");
-    let question =
-        replace(question, 2, "is_some_and(|sig| sig.destructor.is_some())", "and_then(|sig| sig.destructor.is_some().then_some(sig.name))");
-    let number = "    fn struct_number(&self, ty: &'hir HirTy<'hir>) -> usize {
-        let name = self.destructor_struct(ty).unwrap();
-        self.signature.structs.keys().position(|of| *of == name).unwrap()
-    }\n\n";
-    let pass = format!("{}{question}{number}{}", &pass[..from], &pass[from..]);
-    let local = "Box::new(HirExpr::Ident(HirIdentExpr { name, span, ty }))";
-    let pass = replace(pass, 1, local, &format!("crate::probe::put_in({local}, || self.struct_number(ty))"));
-    let result = "expr: Box::new(expr_stmt.expr),";
-    let noted = "expr: { let ty = expr_stmt.expr.ty(); crate::probe::put_in(Box::new(expr_stmt.expr), || self.struct_number(ty)) },";
-    replace(pass, 1, result, noted)
 }
 
 fn replace(text: String, times: usize, old: &str, new: &str) -> String {

@@ -25,9 +25,6 @@ pub type State = (u8, Vec<SpanNo>);
 /// A left-behind entry: the span of the return, break or continue, the name, the birth.
 pub type Left = (SpanNo, Name, SpanNo);
 
-/// A delete put in: where the tag of the Delete stands in the output, the struct.
-pub type Deleted = (usize, usize);
-
 #[derive(Debug, Clone, PartialEq, Eq)]
 pub struct Answer {
     pub output: Vec<u8>,
@@ -37,8 +34,6 @@ pub struct Answer {
     /// the statement's span, where the callee's tag stands
     pub warnings: Vec<(SpanNo, usize)>,
     pub lefts: Vec<Left>,
-    /// in output order
-    pub deletes: Vec<Deleted>,
     /// of the parameters and `this`, newest first
     pub states: Vec<State>,
 }
@@ -95,42 +90,30 @@ pub fn of_image(image: &Image) -> Outcome {
     of_switched(image, 0)
 }
 
-/// What a call that names no switches has on (document 02, (g)).
-pub const DEFAULT: u32 = 1;
-
-/// The same under switches: with all off the published pass, else its copy with the drops of document 02, (e). What was put in, (f), is of that
-/// copy.
+/// The same under switches: with all off the published pass, else its copy with the drops of document 02, (e).
 pub fn of_switched(image: &Image, switches: u32) -> Outcome {
-    of(image, switches, switches == 0)
-}
-
-/// All of that copy.
-#[cfg(ours)]
-pub fn of_copy(image: &Image, switches: u32) -> Outcome {
-    of(image, switches, false)
-}
-
-fn of(image: &Image, switches: u32, published: bool) -> Outcome {
     let names = texts(image);
     let arena = HirArena::new();
     let mut numbers = Numbers::of(image, &names, &arena);
     let setting = Setting { image, numbers: &numbers, arena: &arena };
 
     let mut marking = ToHir { numbers: &numbers, marks: Marks { on: true, ..Marks::default() } };
-    let Probed { fault, body: marked, errors: again, warnings: marks, .. } = setting.probe(&mut marking);
+    let Probed { fault, states, body: marked, errors: again, warnings: marks } = setting.probe(&mut marking);
     if fault != 0 {
         return Err(fault);
     }
     let mut plain = ToHir { numbers: &numbers, marks: Marks::default() };
-    probe::switch(Some(switches));
-    let run = setting.probe(&mut plain);
-    probe::switch(None);
-    assert_eq!(run.fault, 0, "switches change no fault");
-    let put_in = put_in(&run.body);
-    let (errors, spans, states) = (run.errors, run.warnings, run.states);
-    if switches == 0 {
+    let (body, errors, spans, states) = if switches == 0 {
+        let (body, errors, spans) = setting.run(&mut plain);
         assert_eq!(errors, again, "marks change no error");
-    }
+        (body, errors, spans, states)
+    } else {
+        probe::switch(Some(switches));
+        let run = setting.probe(&mut plain);
+        probe::switch(None);
+        assert_eq!(run.fault, 0, "switches change no fault");
+        (run.body, run.errors, run.warnings, run.states)
+    };
     let marked_at = |span: &Span| marking.marks.marked[mark_of(*span).expect("a submitted statement")];
     let warnings: Vec<_> = marks.iter().map(|m| (marked_at(m).span, marked_at(m).callee.expect("a call"))).collect();
     let warned: Vec<_> = spans.iter().map(|s| span_number(*s)).collect();
@@ -138,46 +121,9 @@ fn of(image: &Image, switches: u32, published: bool) -> Outcome {
     let marks = marking.marks;
     let mut lefts = vec![];
     left_behind(&marked, &marks, switches, &mut numbers, &mut lefts);
-    let written = image::write_with(image, &ToImage { numbers: &mut numbers }.block(&run.body));
-    if published {
-        let setting = Setting { image, numbers: &numbers, arena: &arena };
-        let (body, said, warned) = setting.run(&mut ToHir { numbers: &numbers, marks: Marks::default() });
-        let output = image::write_with(image, &ToImage { numbers: &mut numbers }.block(&body)).bytes;
-        assert!(output == written.bytes && said == errors && warned == spans, "the published pass and its copy");
-    }
-    assert_eq!(written.run_at.len(), put_in.len());
-    let deletes = written.run_at.iter().zip(put_in).filter_map(|(at, by)| Some((*at, by?))).collect();
+    let written = image::write_with(image, &ToImage { numbers: &mut numbers }.block(&body));
 
-    Ok(Answer { output: written.bytes, counts_fit: written.counts_fit, errors, warnings, lefts, deletes, states })
-}
-
-/// Of each Expr statement of a body, in order, the struct if its Delete was put in.
-fn put_in(body: &HirBlock<'_>) -> Vec<Option<usize>> {
-    let mut all = probe::all_put_in();
-    let mut list = vec![];
-    run_statements(body, &mut |e| {
-        list.push(match e {
-            HirExpr::Delete(d) => all.remove(&(&raw const *d.expr as usize)),
-            _ => None,
-        });
-    });
-    assert!(all.is_empty(), "what is put in is a statement of the body");
-    list
-}
-
-fn run_statements<'a, 'hir>(block: &'a HirBlock<'hir>, f: &mut impl FnMut(&'a HirExpr<'hir>)) {
-    for s in &block.statements {
-        match s {
-            HirStatement::Expr(e) => f(&e.expr),
-            HirStatement::Block(b) => run_statements(b, f),
-            HirStatement::IfElse(i) => {
-                run_statements(&i.then_branch, f);
-                i.else_branch.iter().for_each(|b| run_statements(b, f));
-            }
-            HirStatement::While(w) => run_statements(&w.body, f),
-            _ => {}
-        }
-    }
+    Ok(Answer { output: written.bytes, counts_fit: written.counts_fit, errors, warnings, lefts, states })
 }
 
 pub struct Setting<'a, 'hir> {

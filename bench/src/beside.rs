@@ -1,4 +1,4 @@
-//! How long the library's entries take with all switches off, in one run beside the Rust as published and the Rust with its file answered from memory.
+//! How long the library's entries take, in one run beside the Rust as published and the Rust with its file answered from memory.
 use crate::adapter::{self, Marks, Numbers, ToHir};
 use crate::answer;
 use crate::boundaries;
@@ -18,7 +18,6 @@ struct Times {
     pass: f64,
     room: f64,
     page: f64,
-    deletes: f64,
     published: f64,
     memory: f64,
 }
@@ -27,9 +26,7 @@ struct Times {
 const BODIES: u64 = 3;
 
 pub fn beside(runs: usize) {
-    println!(
-        "ours with all switches off beside the Rust, {BODIES} bodies of each kind, {runs} runs of each; nanoseconds for each statement, medians"
-    );
+    println!("ours beside the Rust, {BODIES} bodies of each kind, {runs} runs of each; nanoseconds for each statement, medians");
     let columns = [
         "locals",
         "bytes",
@@ -38,13 +35,11 @@ pub fn beside(runs: usize) {
         "pass",
         "room",
         "page",
-        "deletes",
         "published",
         "from memory",
         "published/pass",
         "memory/pass",
         "page/pass",
-        "deletes/pass",
     ];
     println!("{}", columns.map(|c| format!("{c:>16}")).concat());
     let mut all = vec![];
@@ -60,12 +55,11 @@ pub fn beside(runs: usize) {
     let over = |f: fn(&Times) -> f64| median(all.iter().map(f).collect());
     let least = |f: fn(&Times) -> f64| all.iter().map(f).fold(f64::INFINITY, f64::min);
     println!(
-        "over all {} bodies, medians: published/pass {:.1}, memory/pass {:.1}, room/pass {:.2}, deletes/pass {:.2}; least published/pass {:.1}, memory/pass {:.1}",
+        "over all {} bodies, medians: published/pass {:.1}, memory/pass {:.1}, room/pass {:.2}; least published/pass {:.1}, memory/pass {:.1}",
         all.len(),
         over(|t| t.published / t.pass),
         over(|t| t.memory / t.pass),
         over(|t| t.room / t.pass),
-        over(|t| t.deletes / t.pass),
         least(|t| t.published / t.pass),
         least(|t| t.memory / t.pass),
     );
@@ -207,18 +201,16 @@ fn line(locals: usize, bodies: &[Image], runs: usize) -> Vec<Times> {
     let each = |f: fn(&Times) -> f64| format!("{:>16.0}", sum(f) / count as f64);
     let (pass, published, memory) = (sum(|t| t.pass), sum(|t| t.published), sum(|t| t.memory));
     println!(
-        "{locals:>16}{bytes:>16}{out:>16}{:>16}{}{}{}{}{}{}{:>16.1}{:>16.1}{:>16.2}{:>16.2}",
+        "{locals:>16}{bytes:>16}{out:>16}{:>16}{}{}{}{}{}{:>16.1}{:>16.1}{:>16.2}",
         count / bodies.len(),
         each(|t| t.pass),
         each(|t| t.room),
         each(|t| t.page),
-        each(|t| t.deletes),
         each(|t| t.published),
         each(|t| t.memory),
         published / pass,
         memory / pass,
-        sum(|t| t.page) / pass,
-        sum(|t| t.deletes) / pass
+        sum(|t| t.page) / pass
     );
     all
 }
@@ -229,7 +221,7 @@ fn lengths(i: &Image) -> [usize; 2] {
     [bytes.len(), answer::of_bytes(&bytes).unwrap().unwrap().output.len()]
 }
 
-// Each run takes all in turn.
+// Each run takes all four in turn.
 fn times(image: &Image, runs: usize) -> Times {
     let names = answer::texts(image);
     let arena = HirArena::new();
@@ -238,12 +230,11 @@ fn times(image: &Image, runs: usize) -> Times {
     let params = adapter::params(image, &numbers);
     let hir = || ToHir { numbers: &numbers, marks: Marks::default() }.block(&image.body);
     let mut lent = Memory::new(image);
-    let mut lists = [const { vec![] }; 6];
+    let mut lists = [const { vec![] }; 5];
     for _ in 0..runs {
         lists[0].push(lent.pass());
         lists[1].push(lent.room());
         lists[4].push(lent.page());
-        lists[5].push(lent.deletes());
         let (mut pass, mut body) = (HirOwnershipPass::new(&arena, &signature), hir());
         let start = Instant::now();
         pass.body(&mut body, &params);
@@ -254,8 +245,8 @@ fn times(image: &Image, runs: usize) -> Times {
         lists[3].push(start.elapsed().as_nanos() as f64);
         probe::taken();
     }
-    let [pass, room, published, memory, page, deletes] = lists.map(median);
-    Times { pass, room, page, deletes, published, memory }
+    let [pass, room, published, memory, page] = lists.map(median);
+    Times { pass, room, page, published, memory }
 }
 
 fn median(mut list: Vec<f64>) -> f64 {
@@ -267,7 +258,7 @@ fn median(mut list: Vec<f64>) -> f64 {
 struct Memory {
     image: Vec<u8>,
     output: Vec<u8>,
-    lists: [Vec<u32>; 4],
+    lists: [Vec<u32>; 3],
     page: Vec<u8>,
 }
 
@@ -275,17 +266,17 @@ impl Memory {
     fn new(tree: &Image) -> Self {
         let image = image::write(tree).bytes;
         let mut room = 0;
-        assert_eq!(ours::room(ours::OFF, &image, &mut room), 0);
-        Memory { image, output: vec![0; room as usize], lists: [1 << 20; 4].map(|n| vec![0; n]), page: vec![0; 1 << 26] }
+        assert_eq!(ours::room(None, &image, &mut room), 0);
+        Memory { image, output: vec![0; room as usize], lists: [1 << 20; 3].map(|n| vec![0; n]), page: vec![0; 1 << 26] }
     }
 
     fn pass(&mut self) -> f64 {
-        self.timed(|image, lent| ours::pass(ours::OFF, image, lent))
+        self.timed(|image, lent| ours::pass(None, image, lent))
     }
 
     fn timed(&mut self, pass: fn(&[u8], Lent<'_>) -> u32) -> f64 {
         let mut totals = [0; 4];
-        let [errors, warnings, left, _] = &mut self.lists;
+        let [errors, warnings, left] = &mut self.lists;
         let lent = Lent { output: &mut self.output, errors, warnings, left, totals: &mut totals };
         let start = Instant::now();
         let answer = pass(&self.image, lent);
@@ -294,21 +285,10 @@ impl Memory {
         time
     }
 
-    fn deletes(&mut self) -> f64 {
-        let mut totals = [0; 5];
-        let [errors, warnings, left, deletes] = &mut self.lists;
-        let lent = Lent { output: &mut self.output, errors, warnings, left, totals: &mut totals };
-        let start = Instant::now();
-        let answer = ours::deletes(ours::OFF, &self.image, lent, deletes);
-        let time = start.elapsed().as_nanos() as f64;
-        assert_eq!(answer, 0);
-        time
-    }
-
     fn page(&mut self) -> f64 {
         let mut written = 0;
         let start = Instant::now();
-        let answer = ours::page(ours::OFF, &self.image, &mut self.page, &mut written);
+        let answer = ours::page(None, &self.image, &mut self.page, &mut written);
         let time = start.elapsed().as_nanos() as f64;
         assert_eq!(answer, 0);
         time
@@ -317,7 +297,7 @@ impl Memory {
     fn room(&mut self) -> f64 {
         let mut room = 0;
         let start = Instant::now();
-        let answer = ours::room(ours::OFF, &self.image, &mut room);
+        let answer = ours::room(None, &self.image, &mut room);
         let time = start.elapsed().as_nanos() as f64;
         assert_eq!(answer, 0);
         time

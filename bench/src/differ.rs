@@ -15,19 +15,17 @@ const SHARE: usize = 4;
 const GUARD: usize = 32;
 
 /// The numbers that the entry must answer.
-pub struct Expected {
-    pub fault: u8,
+struct Expected {
+    fault: u8,
     /// some block counts too many statements: fault 15 whatever is lent
-    pub uncountable: bool,
-    pub output: Vec<u8>,
-    pub errors: Vec<u32>,
+    uncountable: bool,
+    output: Vec<u8>,
+    errors: Vec<u32>,
     /// the errors as records
     reports: Vec<Report>,
-    pub warnings: Vec<u32>,
-    pub left: Vec<u32>,
-    /// of the entry that lists what was put in
-    pub deletes: Vec<u32>,
-    pub totals: [u64; 4],
+    warnings: Vec<u32>,
+    left: Vec<u32>,
+    totals: [u64; 4],
     page: Vec<u8>,
     /// the least and the most that the room may be
     room: (usize, usize),
@@ -37,13 +35,12 @@ pub struct Expected {
 type Sizes = [usize; 4];
 
 impl Expected {
-    pub fn refused(fault: u8) -> Self {
-        let (output, errors, reports, warnings, left, deletes) = (vec![], vec![], vec![], vec![], vec![], vec![]);
-        let (uncountable, totals, page, room) = (false, [0; 4], vec![], (0, 0));
-        Expected { fault, uncountable, output, errors, reports, warnings, left, deletes, totals, page, room }
+    fn refused(fault: u8) -> Self {
+        let (output, errors, reports, warnings, left) = (vec![], vec![], vec![], vec![], vec![]);
+        Expected { fault, uncountable: false, output, errors, reports, warnings, left, totals: [0; 4], page: vec![], room: (0, 0) }
     }
 
-    pub fn accepted(a: Answer, most: usize) -> Self {
+    fn accepted(a: Answer, most: usize) -> Self {
         let mut errors = vec![];
         for e in &a.errors {
             errors.extend([e.kind, e.place, e.hint, e.others.len() as u32]);
@@ -61,7 +58,6 @@ impl Expected {
             reports: a.errors.iter().map(Report::of).collect(),
             warnings: a.warnings.iter().flat_map(|w| [w.0, w.1 as u32]).collect(),
             left: a.lefts.iter().flat_map(|l| [l.0, l.1 as u32, l.2]).collect(),
-            deletes: a.deletes.iter().flat_map(|d| [d.0 as u32, d.1 as u32]).collect(),
         }
     }
 
@@ -105,18 +101,6 @@ impl<T: Copy + Eq + std::fmt::Debug> Memory<T> {
         &mut self.cells[self.start..self.start + size]
     }
 
-    /// The same cells with the same pattern once more, of which so many are lent.
-    pub fn again(&mut self, size: usize) -> &mut [T] {
-        let all = self.cells.len();
-        self.cells.copy_from_slice(&self.pattern[self.from..self.from + all]);
-        &mut self.cells[self.start..self.start + size]
-    }
-
-    /// All of it, with what stands before and after the memory lent.
-    pub fn cells(&self) -> &[T] {
-        &self.cells
-    }
-
     /// The cells lent, of which there are so many.
     pub fn lent(&self, size: usize) -> &[T] {
         &self.cells[self.start..self.start + size]
@@ -141,7 +125,7 @@ impl<T: Copy + Eq + std::fmt::Debug> Memory<T> {
 
 /// A run, and what it counts.
 pub struct Differ {
-    /// the entries that are called: those that take a value, or the plain ones
+    /// the entries that are called
     switches: Switches,
     random: Random,
     output: Memory<u8>,
@@ -159,8 +143,6 @@ pub struct Differ {
     short: usize,
     /// entries of what is left behind
     left: usize,
-    /// calls of ownership_pass beside ownership_pass_switched
-    named: usize,
 }
 
 impl Differ {
@@ -169,7 +151,7 @@ impl Differ {
         let random = Random::new(seed ^ 0x5eed);
         let (output, reports, pages) = (Memory::new(), Reports::new(seed), Pages::new(seed));
         Differ {
-            switches: ours::OFF,
+            switches: None,
             random,
             output,
             lists,
@@ -184,7 +166,6 @@ impl Differ {
             exact: 0,
             short: 0,
             left: 0,
-            named: 0,
         }
     }
 
@@ -225,10 +206,10 @@ impl Differ {
 
     fn outcome(&mut self, tree: &Image) -> Outcome {
         if answer::in_domain(tree) {
-            return answer::of_switched(tree, self.switches.unwrap_or(ours::DEFAULT));
+            return answer::of_switched(tree, self.switches.unwrap_or(0));
         }
         self.outside += 1;
-        rules::of_switched(tree, self.switches.unwrap_or(ours::DEFAULT))
+        rules::of_switched(tree, self.switches.unwrap_or(0))
     }
 
     // What the program lends, or more than is needed; of a refused image anything, also nothing.
@@ -285,9 +266,6 @@ impl Differ {
         if totals != said {
             found += &format!("totals {totals:?}, not {said:?} (before {before:?}); ");
         }
-        if self.switches.is_none() {
-            found += &self.as_named(bytes, lent, answer, before, totals);
-        }
         found += &self.output.difference("output", &want.output);
         for (what, memory, want) in
             [("errors", &self.lists[0], &want.errors), ("warnings", &self.lists[1], &want.warnings), ("left", &self.lists[2], &want.left)]
@@ -302,29 +280,10 @@ impl Differ {
         if found.is_empty() { Ok(fault) } else { Err(format!("{found}with {lent:?} lent")) }
     }
 
-    // A plain entry's namesake with the default named, and with the same memory: what it answers and leaves is the same.
-    fn as_named(&mut self, bytes: &[u8], lent: Sizes, answer: u32, before: [u64; 4], totals: [u64; 4]) -> String {
-        self.named += 1;
-        let cells = |d: &Self| (d.output.cells().to_vec(), [0, 1, 2].map(|k| d.lists[k].cells().to_vec()));
-        let (left_there, mut said) = (cells(self), before);
-        let [errors, warnings, left] = &mut self.lists;
-        let (errors, warnings, left) = (errors.again(lent[1]), warnings.again(lent[2]), left.again(lent[3]));
-        let memory = Lent { output: self.output.again(lent[0]), errors, warnings, left, totals: &mut said };
-        let named = ours::pass(Some(ours::DEFAULT), bytes, memory);
-        if (named, said) == (answer, totals) && cells(self) == left_there {
-            return String::new();
-        }
-        format!("ownership_pass answers {answer}, {totals:?}, ownership_pass_switched with {} {named}, {said:?}; ", ours::DEFAULT)
-    }
-
     fn room(&mut self, bytes: &[u8], expected: &Expected) -> Result<(), String> {
         let before = self.random.next();
         let mut room = before;
         let answer = ours::room(self.switches, bytes, &mut room);
-        let mut named = before;
-        if self.switches.is_none() && (ours::room(Some(ours::DEFAULT), bytes, &mut named), named) != (answer, room) {
-            return Err(format!("room {room}, and {named} by ownership_room_switched with {}", ours::DEFAULT));
-        }
         let (least, most) = expected.room;
         if answer != expected.fault as u32 {
             return Err(format!("room answers {answer}, not {}", expected.fault));
@@ -364,7 +323,7 @@ pub fn differ(images: u64, damaged: u64, seed: u64) -> i32 {
     0
 }
 
-/// The same under every setting of the switches, each image under all of them, under values above 15 and with none named. Images made by hand are lent
+/// The same under every setting of the switches, each image under all of them, and under values above 15. Images made by hand are lent
 /// every length of a page under all settings in long runs, in short ones under one that differs from image to image.
 pub fn switched(images: u64, seed: u64) -> i32 {
     let start = Instant::now();
@@ -402,7 +361,7 @@ pub fn switched(images: u64, seed: u64) -> i32 {
 }
 
 // Corners, boundaries, and the stored images of crates/programs_faults.
-pub fn by_hand() -> Vec<(String, Vec<u8>)> {
+fn by_hand() -> Vec<(String, Vec<u8>)> {
     let rows = corners::rows().into_iter().map(|r| (r.label.to_string(), r.image));
     let trees = rows.chain([("example".to_string(), corners::example())]).chain(corners::others());
     let trees = trees.chain(boundaries::all()).chain(boundaries::own_memory()).chain(boundaries::deepest());
@@ -422,10 +381,10 @@ impl Differ {
     fn settings(&mut self, label: &str, bytes: &[u8], lengths: Lengths) -> bool {
         let above = [16, 17, 31, 1 << 31, u32::MAX][self.random.below(5)];
         let once = self.random.below(16) as u32;
-        (0..16).chain([above]).map(Some).chain([None]).all(|w| {
-            self.switches = w;
-            let all = lengths == Lengths::All || lengths == Lengths::Once && w.is_none_or(|w| w == once);
-            self.step(&format!("{label} under {w:?}"), bytes, all)
+        (0..16).chain([above]).all(|w| {
+            self.switches = Some(w);
+            let all = lengths == Lengths::All || lengths == Lengths::Once && w == once;
+            self.step(&format!("{label} under {w}"), bytes, all)
         })
     }
 
@@ -444,9 +403,6 @@ impl Differ {
             self.calls,
             self.left
         );
-        if self.named > 0 {
-            println!("  {} calls without switches, each as with {} named", self.named, ours::DEFAULT);
-        }
         self.reports.print();
         self.pages.print();
         println!(

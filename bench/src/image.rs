@@ -129,11 +129,10 @@ impl Expr {
     }
 }
 
-/// The bytes of an image, whether each of its counts fits its two bytes, and where the expressions of its Expr statements have their tags.
+/// The bytes of an image, and whether each of its counts fits its two bytes.
 pub struct Written {
     pub bytes: Vec<u8>,
     pub counts_fit: bool,
-    pub run_at: Vec<usize>,
 }
 
 pub fn write(image: &Image) -> Written {
@@ -142,7 +141,7 @@ pub fn write(image: &Image) -> Written {
 
 /// With another body.
 pub fn write_with(image: &Image, body: &Block) -> Written {
-    let mut out = Written { bytes: vec![0, 0, 0, 0, 1], counts_fit: true, run_at: vec![] };
+    let mut out = Written { bytes: vec![0, 0, 0, 0, 1], counts_fit: true };
     tables(&mut out, image);
     entry(&mut out, &image.entry);
     block(&mut out, body);
@@ -256,7 +255,6 @@ fn stmt(out: &mut Written, s: &Stmt) {
         }
         Stmt::Expr { span, expr: e } => {
             head(out, 3, *span);
-            out.run_at.push(out.bytes.len());
             expr(out, e);
         }
         Stmt::Variable { constant, span, name, ty, value } => {

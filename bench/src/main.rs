@@ -9,8 +9,6 @@ mod build;
 mod compare;
 mod corners;
 #[cfg(ours)]
-mod deletes;
-#[cfg(ours)]
 mod differ;
 mod generator;
 mod image;
@@ -52,14 +50,11 @@ fn command() -> i32 {
         ["differ", images, damaged, seed] => differ::differ(images.parse().unwrap(), damaged.parse().unwrap(), seed.parse().unwrap()),
         #[cfg(ours)]
         ["switched", images, seed] => differ::switched(images.parse().unwrap(), seed.parse().unwrap()),
-        #[cfg(ours)]
-        ["deletes", images, seed] => deletes::deletes(images.parse().unwrap(), seed.parse().unwrap()),
         #[cfg(not(ours))]
-        ["differ" | "switched" | "deletes", ..] => not_run(NO_LIBRARY),
+        ["differ" | "switched", ..] => not_run(NO_LIBRARY),
         ["brute", bodies, seed] => brute::brute(bodies.parse().unwrap(), seed.parse().unwrap()),
         ["answer"] => print_answer(),
-        ["show", "plain"] => show(None),
-        ["show", switches] => show(Some(switches.parse().unwrap())),
+        ["show", switches] => show(switches.parse().unwrap()),
         ["image", label] => print_image(label),
         ["images", path, many] => stored::write_images(&files.from.join(path), many.parse().unwrap()),
         ["store", path] => stored::store(&files.from.join(path)),
@@ -83,7 +78,7 @@ fn not_run(why: &str) -> i32 {
     2
 }
 
-const USAGE: &str = "bench compare IMAGES DAMAGED SEED | differ IMAGES DAMAGED SEED | switched IMAGES SEED | deletes IMAGES SEED | brute BODIES SEED | answer < IMAGE | show SWITCHES | show plain < IMAGE | image LABEL | images FILE MANY | store FILE | replay FILE | records FOLDER BYTES SEED | bodies FOLDER | speed RUNS | before RUNS";
+const USAGE: &str = "bench compare IMAGES DAMAGED SEED | differ IMAGES DAMAGED SEED | switched IMAGES SEED | brute BODIES SEED | answer < IMAGE | show SWITCHES < IMAGE | image LABEL | images FILE MANY | store FILE | replay FILE | records FOLDER BYTES SEED | bodies FOLDER | speed RUNS | before RUNS";
 
 #[cfg(not(ours))]
 const NO_LIBRARY: &str =
@@ -141,7 +136,7 @@ fn compare(images: u64, damaged: u64, seed: u64) -> i32 {
     let mut parts = vec![];
 
     let mut seen = Seen::default();
-    for (label, tree) in corners::others().into_iter().chain(corners::destructors()) {
+    for (label, tree) in corners::others() {
         seen.check(&label, &image::write(&tree).bytes, 1..16);
     }
     for row in corners::rows() {
@@ -312,10 +307,8 @@ fn print_image(label: &str) -> i32 {
     0
 }
 
-/// The answers of the image on standard input under a switch value or with none named, of the library if there is one; 1 if they differ.
-fn show(named: Option<u32>) -> i32 {
-    let switches = named.unwrap_or(answer::DEFAULT);
-    let said = named.map_or("no switches named".to_string(), |w| format!("switches {w}"));
+/// The answers of the image on standard input under a switch value, of the library if there is one; 1 if they differ.
+fn show(switches: u32) -> i32 {
     let mut bytes = vec![];
     std::io::stdin().read_to_end(&mut bytes).unwrap();
     let rust = match reader::read(&bytes) {
@@ -325,10 +318,8 @@ fn show(named: Option<u32>) -> i32 {
     };
     let shown = |of: &str, outcome: Option<&Outcome>| {
         let hex = outcome.and_then(|o| o.as_ref().ok()).map(|a| a.output.iter().map(|b| format!("{b:02x}")).collect::<String>());
-        let listed = outcome.and_then(|o| o.as_ref().ok()).map_or(&[][..], |a| &a.deletes);
-        let listed: String = listed.iter().map(|(at, by)| format!("delete {at} {by}\n")).collect();
-        let text = format!("{}{}{listed}", answer_text(outcome), hex.map_or(String::new(), |hex| format!("image {hex}\n")));
-        print!("{of}, {said}:\n{text}");
+        let text = format!("{}{}", answer_text(outcome), hex.map_or(String::new(), |hex| format!("image {hex}\n")));
+        print!("{of}, switches {switches}:\n{text}");
         text
     };
     let rust = rust.as_ref().map(|outcome| shown("the Rust with document 02 (e)", Some(outcome)));
@@ -337,7 +328,7 @@ fn show(named: Option<u32>) -> i32 {
     }
     #[cfg(ours)]
     {
-        let ours = shown("the library", Some(&ours::answer(named, &bytes)));
+        let ours = shown("the library", Some(&ours::answer(Some(switches), &bytes)));
         return rust.is_some_and(|rust| rust != ours) as i32;
     }
     #[cfg(not(ours))]

@@ -1,11 +1,10 @@
 //! The entries of the static libraries, called as C calls them (include/ownership_pass.h).
-pub use crate::answer::DEFAULT;
 use crate::answer::{Answer, Error, Outcome};
 use std::mem::{align_of, offset_of, size_of};
 
-// an entry that gives back the body, with what is before the image and a further list
+// an entry that gives back the body, with what is before the image
 macro_rules! declare_pass {
-    ($name:ident $(, $first:ident: $ty:ty)? $(; $list:ident)?) => {
+    ($name:ident $(, $first:ident: $ty:ty)?) => {
         unsafe extern "C" {
             fn $name(
                 $($first: $ty,)?
@@ -19,7 +18,6 @@ macro_rules! declare_pass {
                 warnings_len: usize,
                 left: *mut u32,
                 left_len: usize,
-                $($list: *mut u32, _: usize,)?
                 totals: *mut u64,
             ) -> u32;
         }
@@ -28,7 +26,7 @@ macro_rules! declare_pass {
 
 // its call: the pointers and lengths are those of slices
 macro_rules! call_pass {
-    ($name:ident, $image:expr, $lent:expr $(, $first:expr)? $(; $list:expr)?) => {
+    ($name:ident, $image:expr, $lent:expr $(, $first:expr)?) => {
         unsafe {
             $name(
                 $($first,)?
@@ -42,7 +40,6 @@ macro_rules! call_pass {
                 $lent.warnings.len(),
                 $lent.left.as_mut_ptr(),
                 $lent.left.len(),
-                $($list.as_mut_ptr(), $list.len(),)?
                 $lent.totals.as_mut_ptr(),
             )
         }
@@ -51,8 +48,6 @@ macro_rules! call_pass {
 
 declare_pass!(ownership_pass);
 declare_pass!(ownership_pass_switched, switches: u32);
-declare_pass!(ownership_deletes; deletes);
-declare_pass!(ownership_deletes_switched, switches: u32; deletes);
 
 unsafe extern "C" {
     fn ownership_room_switched(switches: u32, image: *const u8, image_len: usize, room: *mut u64) -> u32;
@@ -60,15 +55,12 @@ unsafe extern "C" {
     -> u32;
 }
 
-/// A switch value for the entries that take one, or none: the plain entries.
+/// A switch value for the entries that take one, or the plain entries.
 pub type Switches = Option<u32>;
 
-/// With all of them off the Rust is the measure, and the stored answers are.
-pub const OFF: Switches = Some(0);
-
-// the entry of an earlier library, under another name: the one that takes a value, whatever the default was
+// the entry of an earlier library, under another name
 #[cfg(before)]
-declare_pass!(before_pass, switches: u32);
+declare_pass!(before_pass);
 
 unsafe extern "C" {
     fn ownership_room(image: *const u8, image_len: usize, room: *mut u64) -> u32;
@@ -129,24 +121,14 @@ pub struct Lent<'a> {
     pub errors: &'a mut [u32],
     pub warnings: &'a mut [u32],
     pub left: &'a mut [u32],
-    pub totals: &'a mut [u64],
+    pub totals: &'a mut [u64; 4],
 }
 
 /// 0 or the fault's number.
 pub fn pass(switches: Switches, image: &[u8], lent: Lent<'_>) -> u32 {
-    assert_eq!(lent.totals.len(), 4);
     match switches {
         Some(w) => call_pass!(ownership_pass_switched, image, lent, w),
         None => call_pass!(ownership_pass, image, lent),
-    }
-}
-
-/// The same with the list of what was put in, and five totals.
-pub fn deletes(switches: Switches, image: &[u8], lent: Lent<'_>, list: &mut [u32]) -> u32 {
-    assert_eq!(lent.totals.len(), 5);
-    match switches {
-        Some(w) => call_pass!(ownership_deletes_switched, image, lent, w; list),
-        None => call_pass!(ownership_deletes, image, lent; list),
     }
 }
 
@@ -154,14 +136,13 @@ pub fn deletes(switches: Switches, image: &[u8], lent: Lent<'_>, list: &mut [u32
 pub fn answer(switches: Switches, image: &[u8]) -> Outcome {
     let mut output = vec![0; 16 * image.len() + 4096];
     let [mut errors, mut warnings, mut left] = [12, 2, 3].map(|width| vec![0; width * image.len()]);
-    let mut list = vec![0; output.len()];
-    let mut totals = [0; 5];
+    let mut totals = [0; 4];
     let lent = Lent { output: &mut output, errors: &mut errors, warnings: &mut warnings, left: &mut left, totals: &mut totals };
-    match deletes(switches, image, lent, &mut list) {
+    match pass(switches, image, lent) {
         0 => {}
         fault => return Err(fault as u8),
     }
-    let [bytes, errors_found, warnings_found, left_found, deletes_found] = totals.map(|n| n as usize);
+    let [bytes, errors_found, warnings_found, left_found] = totals.map(|n| n as usize);
     output.truncate(bytes);
     let error = |e: &[u32]| Error { kind: e[0], place: e[1], hint: e[2], others: e[4..4 + e[3] as usize].to_vec() };
     Ok(Answer {
@@ -170,15 +151,14 @@ pub fn answer(switches: Switches, image: &[u8]) -> Outcome {
         errors: errors.chunks(12).take(errors_found).map(error).collect(),
         warnings: warnings.chunks(2).take(warnings_found).map(|w| (w[0], w[1] as usize)).collect(),
         lefts: left.chunks(3).take(left_found).map(|l| (l[0], l[1] as u16, l[2])).collect(),
-        deletes: list.chunks(2).take(deletes_found).map(|d| (d[0] as usize, d[1] as usize)).collect(),
         states: vec![],
     })
 }
 
-/// 0 or the fault's number, of the earlier library with all off.
+/// The same of the earlier library.
 #[cfg(before)]
 pub fn pass_before(image: &[u8], lent: Lent<'_>) -> u32 {
-    call_pass!(before_pass, image, lent, 0)
+    call_pass!(before_pass, image, lent)
 }
 
 /// 0 or the fault's number.

@@ -66,19 +66,10 @@ impl Pages {
         let mut written = before;
         let memory = self.memory.lend(lent, &mut self.random, |n| (n >> 32) as u8);
         let answer = ours::page(switches, image, memory, &mut written);
-        let mut found = String::new();
-        if switches.is_none() {
-            // the namesake with the default named, and with the same memory
-            let (left_there, mut named) = (self.memory.cells().to_vec(), before);
-            let same = ours::page(Some(ours::DEFAULT), image, self.memory.again(lent), &mut named) == answer;
-            if !same || named != written || self.memory.cells() != left_there {
-                found += &format!("page of {written} bytes, and {named} by ownership_page_switched with {}; ", ours::DEFAULT);
-            }
-        }
         let want = if fault == 0 && lent < page.len() { 16 } else { fault };
         self.refused += (want == 16) as usize;
         let (shown, said) = if want == 0 { (page, page.len() as u64) } else { (&[][..], before) };
-        found += &self.memory.difference("page", shown);
+        let mut found = self.memory.difference("page", shown);
         if answer != want as u32 {
             found += &format!("page answers {answer}, not {want}; ");
         }

@@ -5,18 +5,8 @@ use std::collections::HashSet;
 pub type Read<T> = Result<T, u8>;
 
 pub fn read(bytes: &[u8]) -> Read<Image> {
-    read_within(bytes, 65_536, 24)
-}
-
-/// What an entry gave back: it may be longer, and a result that was unused one deeper.
-#[cfg(ours)]
-pub fn read_returned(bytes: &[u8]) -> Read<Image> {
-    read_within(bytes, usize::MAX, 25)
-}
-
-fn read_within(bytes: &[u8], longest: usize, deepest: usize) -> Read<Image> {
     // Head
-    if bytes.len() < 5 || bytes.len() > longest {
+    if bytes.len() < 5 || bytes.len() > 65_536 {
         return Err(1);
     }
     let said = u32::from_be_bytes([bytes[0], bytes[1], bytes[2], bytes[3]]);
@@ -27,7 +17,7 @@ fn read_within(bytes: &[u8], longest: usize, deepest: usize) -> Read<Image> {
         return Err(2);
     }
     // Tables
-    let mut r = Reader { bytes, at: 5, fault: 3, deepest, image: Image::default(), generic: vec![] };
+    let mut r = Reader { bytes, at: 5, fault: 3, image: Image::default(), generic: vec![] };
     r.names()?;
     r.fault = 4;
     r.types()?;
@@ -51,8 +41,6 @@ struct Reader<'a> {
     at: usize,
     /// the number of a broken rule, or of missing bytes, in the part that is read
     fault: u8,
-    /// how deep an expression may be
-    deepest: usize,
     image: Image,
     /// of each type: is it generic, perhaps behind pointers
     generic: Vec<bool>,
@@ -227,7 +215,7 @@ impl Reader<'_> {
     }
 
     fn expr(&mut self, depth: usize) -> Read<Expr> {
-        if depth > self.deepest {
+        if depth > 24 {
             return Err(9);
         }
         let at = self.at;

@@ -1,7 +1,7 @@
 //! A third reading of the rules: the definitions of crates/rules/specs and crates/tables_lookup/specs, clause by clause and under their names,
 //! so that they can be run beside the Rust. Lists are newest first. A `Code` is a slice of statements, the rest of a list its tail.
 #![allow(non_snake_case)]
-use crate::answer::{Answer, Deleted, Error, Left, Outcome};
+use crate::answer::{Answer, Error, Left, Outcome};
 use crate::image::{self, Image, Name, Node, SpanNo, Ty, TyNo};
 
 // ---- lookup: First, Ty, Signature, Name ----
@@ -636,67 +636,6 @@ impl Tables<'_> {
     }
 }
 
-// ---- Deletes ----
-
-impl Tables<'_> {
-    fn structFor(&self, t: TyNo) -> usize {
-        self.structOf(t).unwrap_or(0)
-    }
-
-    fn listed(&self, drops: &[Drop], to: &mut usize, out: &mut Vec<Deleted>) {
-        for (_, _, t) in drops.iter() {
-            out.push((*to + 5, self.structFor(*t)));
-            *to += 21;
-        }
-    }
-
-    /// what is put into the statements of a block; `to` is where the output has come to
-    fn deletedIn(&self, c: &[Stmt<'_>], p: SpanNo, d: usize, l: Option<usize>, mut s: Stack, to: &mut usize, out: &mut Vec<Deleted>) {
-        for stmt in c {
-            match stmt {
-                ExprStmt(_, e) if self.auto(e.head.ty) && isCall(e) => {
-                    out.push((*to + 5, self.structFor(e.head.ty)));
-                    *to += 7;
-                }
-                Assign(span, e, v, _) => self.listed(&self.assignDrops(*span, e, &self.beforeAssign(e, v, s.clone())), to, out),
-                Return(_, e, _) => self.listed(&self.returnDrops(nameIn(e), &self.evaluate(e, s.clone())), to, out),
-                BareReturn(..) => self.listed(&self.collect(&|_| self.bareReturns(), 0, &s), to, out),
-                Jump(..) => self.listed(&self.jumpDrops(l, &s), to, out),
-                _ => {}
-            }
-            let mut inner = |e: &Expr<'_>, t: &[Stmt<'_>], ts: SpanNo, l, to: &mut usize| {
-                self.deletedIn(t, ts, d + 1, l, self.evaluate(e, s.clone()), to, out);
-            };
-            match stmt {
-                Block(span, c) => {
-                    *to += 7;
-                    self.deletedIn(c, *span, d + 1, l, s.clone(), to, out);
-                }
-                IfElse(_, e, ts, t, us, u) => {
-                    *to += 11 + exprBytes(e);
-                    inner(e, t, *ts, l, to);
-                    *to += 7;
-                    inner(e, u, *us, l, to);
-                }
-                IfThen(_, e, ts, t) => {
-                    *to += 11 + exprBytes(e);
-                    inner(e, t, *ts, l, to);
-                    *to += 1;
-                }
-                While(_, e, ts, t) => {
-                    *to += 11 + exprBytes(e);
-                    inner(e, t, *ts, Some(d + 1), to);
-                }
-                _ => *to += codeBytes(std::slice::from_ref(stmt)),
-            }
-            s = self.after(stmt, d, s);
-        }
-        if !sureFrom(c, false) {
-            self.listed(&self.endDrops(d, p, &s), to, out);
-        }
-    }
-}
-
 fn deleteNode(span: SpanNo, e: image::Expr) -> image::Expr {
     image::Expr { span, ty: 0, at: 0, node: Node::Delete(Box::new(e)) }
 }
@@ -836,20 +775,10 @@ pub fn of_switched(i: &Image, switches: u32) -> Outcome {
     let bodyStart = image::write(&Image { body: image::Block::default(), ..i.clone() }).bytes.len();
     let mut r = Reports::default();
     r.report(&T, &body, 1, None, bodyStart, start.clone());
-    let (mut to, mut deletes) = (bodyStart, vec![]);
-    T.deletedIn(&body, i.body.span, 1, None, start.clone(), &mut to, &mut deletes);
     let state = |a: &State| match a {
         Alive => (0, vec![]),
         Gone(c, k, ps) => (1 + *k as u8 + 3 * *c as u8, ps.clone()),
     };
     let states = T.exit(&body, 1, start).iter().map(|(_, a)| state(a)).collect();
-    Ok(Answer {
-        output: written.bytes,
-        counts_fit: written.counts_fit,
-        errors: r.errors,
-        warnings: r.warnings,
-        lefts: r.lefts,
-        deletes,
-        states,
-    })
+    Ok(Answer { output: written.bytes, counts_fit: written.counts_fit, errors: r.errors, warnings: r.warnings, lefts: r.lefts, states })
 }

@@ -1,8 +1,6 @@
-//! What the copy of mod.rs with probes notes down: the first fault of the walk, the states of the outermost frame at the end, and what it
-//! put in.
+//! What the copy of mod.rs with probes notes down: the first fault of the walk, and the states of the outermost frame at the end.
 use crate::atlas_c::utils::Span;
 use std::cell::{Cell, RefCell};
-use std::collections::HashMap;
 
 /// What the files of spans contain.
 pub const FILE: &str = "fun body() {}\n";
@@ -13,7 +11,6 @@ thread_local! {
     static FAULT: Cell<u8> = const { Cell::new(0) };
     static STATES: RefCell<States> = const { RefCell::new(Vec::new()) };
     static LOOPS: RefCell<Vec<usize>> = const { RefCell::new(Vec::new()) };
-    static PUT_IN: RefCell<HashMap<usize, usize>> = RefCell::new(HashMap::new());
     static SWITCHES: Cell<Option<u32>> = const { Cell::new(None) };
 }
 
@@ -28,20 +25,6 @@ pub fn listing() -> bool {
 
 pub fn switched(bit: u32) -> bool {
     SWITCHES.get().is_some_and(|w| w & bit != 0)
-}
-
-/// What a Delete put in deletes, and the number of the struct for it; none of it is noted where what is left behind is listed.
-pub fn put_in<T>(deleted: Box<T>, by: impl FnOnce() -> usize) -> Box<T> {
-    if !listing() {
-        let before = PUT_IN.with_borrow_mut(|all| all.insert(&raw const *deleted as usize, by()));
-        assert_eq!(before, None, "each is put in once");
-    }
-    deleted
-}
-
-/// By address, what was put in since the last call.
-pub fn all_put_in() -> HashMap<usize, usize> {
-    PUT_IN.take()
 }
 
 /// The body of a loop is the frame of this number.

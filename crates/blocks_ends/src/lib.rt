@@ -1,7 +1,7 @@
 // What stands before, between and behind the blocks of a body: a head, a flag, an end.
 // Throughout, pl has the place of a walk, its fault and whether it surely returns, and ln and lt are the names and types of the locals,
 // all lent.
-ghost use Rattle.std.specs.Prelude.{◌≡◌, true, false, ◌&&◌, List, ℕ, suc, ◌+◌, ◌-◌, ◌%◌, ◌≤◌, ◌<◌, leb, eqb, length};
+ghost use Rattle.std.specs.Prelude.{◌≡◌, true, false, ◌&&◌, List, ℕ, suc, ◌+◌, ◌-◌, ◌*◌, ◌%◌, ◌≤◌, ◌<◌, leb, eqb, length, get_or};
 ghost use Rattle.tables.specs.Tables.{Tables};
 ghost use Rattle.rules.specs.State.{State as Status};
 ghost use Rattle.rules.specs.Rules.{Switches, switches_of};

@@ -197,12 +197,6 @@ module _ (sw : Switches) (s : List ℕ) (small : Bytes s) (i : Image) (e : decod
     pub page-long : written ≡ body → q.written ≡ length (encode version1 (returned_image sw i))
     page-long e = let h = whole_length in let k = head-length in omega (arith, from-begin.long)
 
-    pub warned-long : b ≡ false → w ≡ 0 → q.warnings ≡ length (entries_of version1 (warnings (reports sw i)))
-    warned-long y e =
-        let h = (from-begin.warnings y).place in
-        let k = ap (λ rs. length (entries_of version1 (warnings rs))) same-reports in
-        omega arith
-
 -- the numbers of faults of a walk
 real-low : (x : Option ℕ) → Real x → number_of x < 14
 real-low none r = omega arith
@@ -371,9 +365,6 @@ module _ (s tb : List ℕ) (small : Bytes s) (env : Env) (entry body : ℕ) (h :
     pub page-walked : b ≡ true → length m.out ≤ written → PageWalks (switches_of env.switches) s rows (cursors 0 w l) m.out r m'.out
     page-walked y k = record { short = g.short; walks = λ z i e. ((g.walks z i e).0, λ f. lined-in y k z i e f) }
 
-  short-head : (b : Bool) → p ≡ begins body body 0 0 b → p.written ≤ 65536
-  short-head b ep = let n = head-inside s tb small env entry body h in let k = ap (λ (x : Place). x.written) ep in omega arith
-
   pub measured : (b : Bool) → p ≡ begins body body 0 0 b → m.out ≡ [] → MeasuresIn (switches_of env.switches) s rows b r
   measured b ep none_lent = record {
     short = g.short;
@@ -386,9 +377,6 @@ module _ (s tb : List ℕ) (small : Bytes s) (env : Env) (entry body : ℕ) (h :
           λ y. (lined-in body 0 0 b ep y (let l = ap length none_lent in omega arith) z i e f).cursors,
         ),
       );
-      warned = λ y i e f. subst (λ (j : Image). r.place.warnings ≡ length (entries_of version1 (warnings (reports (switches_of env.switches) j)))) (one-image s h.read e)
-          (warned-long (switches_of env.switches) s small h.i h.read body h.walked p m m' r.place body 0 0 b ep (wrote-in body 0 0 b ep z i e f) y refl);
-      low = λ e. let a = g.written e in let n = short-head b ep in omega arith;
       few = λ e.
           let a = g.errors e in
           let c = g.warnings e in

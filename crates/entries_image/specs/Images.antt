@@ -1,5 +1,5 @@
 -- The walk of a whole image: what it stores, of whatever image was read.
-use Rattle.std.specs.Prelude.{ℕ, ◌+◌, ◌%◌, ◌≤◌, ◌<◌, ◌≡◌, Bool, true, false, List, [], length}
+use Rattle.std.specs.Prelude.{ℕ, ◌+◌, ◌%◌, ◌≤◌, ◌<◌, ◌≡◌, Bool, true, List, [], length}
 use Rattle.std.proofs.Math.Option.{none}
 use Rattle.image_fields.specs.Parsed.{ok}
 use Rattle.image_fields.specs.Bytes.{four_bytes}
@@ -89,14 +89,11 @@ pub record PageWalks (sw : Switches) (s : List ℕ) (rows : ℕ) (c : Cursors) (
   pub walks : (r.fault ≡ 254 → ⊥) → (i : Image) → decode version1 s ≡ accepted i
       → (r.fault ≡ number_of (image_fault version1 sw i)) × (image_fault version1 sw i ≡ none → Lined c (reports sw i) page (cursors_at r.place) page')
 
--- without what is stored: the length of the image given back, and how many numbers its warnings have, or, where a page is made, the bytes
--- of its lists
+-- without what is stored: the length of the image given back, and, where a page is made, the bytes of its lists
 pub record Measures (sw : Switches) (s : List ℕ) (paged : Bool) (r : Seen) : Type 0 where
   pub walks : (i : Image) → decode version1 s ≡ accepted i
       → (r.fault ≡ number_of (image_fault version1 sw i)) × (image_fault version1 sw i ≡ none → (r.place.written ≡ length (encode version1 (returned_image sw i)))
       × (paged ≡ true → cursors_at r.place ≡ onward_all (cursors 0 0 0) (reports sw i)))
-  pub warned : paged ≡ false → (i : Image) → decode version1 s ≡ accepted i → image_fault version1 sw i ≡ none → r.place.warnings ≡ length (entries_of version1 (warnings (reports sw i)))
-  pub low : r.fault ≡ 0 → r.place.written ≤ 65601536
   pub few : r.fault ≡ 0 → (r.place.errors ≤ 65536000) × (r.place.warnings ≤ 65536000) × (r.place.lefts ≤ 65536000)
 
 pub record MeasuresIn (sw : Switches) (s : List ℕ) (rows : ℕ) (paged : Bool) (r : Seen) : Type 0 where

@@ -62,7 +62,7 @@ error-numbers (error k p h ps ∷ rs) =
 error-numbers (warning s o ∷ rs) = error-numbers rs
 error-numbers (left s n b ∷ rs) = error-numbers rs
 
-pub warning-numbers : (rs : List Report) → length (entries_of version1 (warnings rs)) ≡ 2 * length (warnings rs)
+warning-numbers : (rs : List Report) → length (entries_of version1 (warnings rs)) ≡ 2 * length (warnings rs)
 warning-numbers [] = refl
 warning-numbers (error k p h ps ∷ rs) = warning-numbers rs
 warning-numbers (warning s o ∷ rs) = let a = warning-numbers rs in omega arith

@@ -1,6 +1,5 @@
 -- The outcome of a verdict, and what it leaves in the memory lent (document 01, "Faults" and "What is reported").
 use Rattle.std.specs.Prelude.{ℕ, ◌/◌, ◌≡◌, List, ◌++◌, length, drop}
-use Rattle.std.proofs.Math.Option.{none}
 use Rattle.tables.specs.Limits.{version1}
 use Rattle.rules.specs.Verdict.{Lent, Verdict, refuses, answers, pass_verdict}
 use Rattle.image_writing.specs.Memory.{Memory, memory}
@@ -9,7 +8,7 @@ use Rattle.entries_verdict.specs.declared.Outcome.TheVariants.{Accepted, Refused
 
 -- the memory lent, in what is counted: bytes, and entries of 12, 2 (document 01) and 3 numbers (document 02, (d))
 abbrev pub lent_of : Memory → Lent
-lent_of m = record { bytes = length m.out; errors = length m.errs / 12; warnings = length m.warns / 2; lefts = length m.lefts / 3; deletes = none }
+lent_of m = record { bytes = length m.out; errors = length m.errs / 12; warnings = length m.warns / 2; lefts = length m.lefts / 3 }
 
 -- the outcome of a verdict
 abbrev pub outcome_of : Verdict → Outcome

@@ -1,9 +1,10 @@
 // The verdict on an image that was read: the walk of the whole image into memory of our own first.
 // Throughout, tb has the tables of the image s, rows the places of joined states, both lent.
-ghost use Rattle.std.specs.Prelude.{◌≡◌, true, ◌+◌, ◌≤◌, ◌<◌, length};
+ghost use Rattle.std.specs.Prelude.{◌≡◌, true, false, ◌+◌, ◌≤◌, ◌<◌, length};
 ghost use Rattle.std.proofs.lemmas.List.Edits.{sets};
 ghost use Rattle.std.proofs.Math.Seq.{slice};
 ghost use Rattle.image_writing.specs.Memory.{memory};
+ghost use Rattle.entries_verdict.specs.Passes.{Passes};
 ghost use Rattle.entries_image.specs.Images.{ImageThere};
 ghost use Rattle.entries_verdict.specs.Verdicts.{lack_of, Fits, CopiesAll, Judges};
 

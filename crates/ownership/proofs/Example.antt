@@ -1,6 +1,7 @@
 -- Document 01's example as text, by computation.
 use mathlib.Core.Path.{◌≡◌, refl}
-use mathlib.Core.List.{[], ◌∷◌}
+use mathlib.Core.List.{List, [], ◌∷◌}
+use Prim.Native.Nat.{ℕ}
 use Rattle.image_writing.specs.Memory.{memory}
 use Rattle.entries_verdict.specs.declared.Outcome.TheVariants.{Accepted, Refused}
 use Rattle.programs_text.specs.Text.{spell, numbers}

@@ -1,6 +1,6 @@
 // Reads one image from standard input and writes in decimals what the pass answers, as document 01 shows: the totals and a line for each
 // entry of the lists, or the fault.
-ghost use Rattle.std.specs.Prelude.{◌≡◌, [], ◌∷◌, ◌+◌, ◌-◌, ◌*◌, ◌≤◌, ◌<◌, min, length};
+ghost use Rattle.std.specs.Prelude.{◌≡◌, List, [], ◌∷◌, ◌++◌, ◌+◌, ◌-◌, ◌*◌, ◌≤◌, ◌<◌, min, length};
 ghost use Rattle.std.proofs.Math.Seq.{slice};
 ghost use Rattle.image_writing.specs.Stored.{Stored};
 ghost use Rattle.programs_text.specs.Text.{numbers, line};
@@ -124,7 +124,7 @@ fn report(s: &[u8], out: &mut [u8]) -> usize
     let mut errs = [0u32; 3072];
     let mut warns = [0u32; 512];
     let mut lefts = [0u32; 768];
-    match ownership_pass::pass_switched(0, s, &mut bytes, &mut errs, &mut warns, &mut lefts) {
+    match ownership_pass::pass(s, &mut bytes, &mut errs, &mut warns, &mut lefts) {
         Outcome::Refused(fault) => programs_text::put_refused(out, fault),
         Outcome::Accepted(t) => {
             let totals = put_totals(out, t);

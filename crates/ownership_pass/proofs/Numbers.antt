@@ -7,17 +7,17 @@ use mathlib.Core.Bool.{Bool, cond}
 use borrow.Author.Tests.{lt-ltb}
 use mathlib.Core.Logic.{◌↔◌, ◌⊎◌, inl, inr, ⊎_elim}
 use mathlib.Core.List.{List}
-use mathlib.Core.Option.{none, some}
+use mathlib.Core.Option.{Option, none, some}
 use lib.ListN.{length}
 use Rattle.tables.specs.Limits.{version1}
 use Rattle.image.specs.Image.{decode}
 use Rattle.image_fields.proofs.Tests.{less}
 use Rattle.rules.specs.Rules.{switches_of}
-use Rattle.rules.specs.Verdict.{Lent, Answer, Verdict, refuses, answers, decided, too_high, pass_verdict, room_fault_of, room_fault}
+use Rattle.rules.specs.Verdict.{Answer, Verdict, refuses, answers, decided, too_high, pass_verdict, room_fault_of, room_fault}
 use Rattle.rules.proofs.Numbers.{Number, high, low, verdict-numbers, room-numbers}
 use Rattle.image_writing.specs.Memory.{Memory}
 use Rattle.entries_verdict.specs.declared.Outcome.{Outcome}
-use Rattle.entries_verdict.specs.declared.Outcome.TheVariants.{Refused}
+use Rattle.entries_verdict.specs.declared.Outcome.TheVariants.{Accepted, Refused}
 use Rattle.entries_verdict.specs.Passes.{Passes, lent_of, outcome_of, verdict_on}
 use Rattle.ownership_pass.specs.declared.Answer.{Answer as Room}
 use Rattle.ownership_pass.specs.declared.Answer.TheVariants.{Needed, Denied}
@@ -25,7 +25,7 @@ use Rattle.rules_page.specs.Verdict.{PageVerdict, refuses_page, writes, page_dec
 use Rattle.entries_verdict.proofs.Rooms.{not-high}
 use Rattle.rules_page.proofs.Numbers.{page-numbers}
 use Rattle.entries_page.specs.Pages.{paged_of, page_on}
-use Rattle.ownership_pass.specs.Entries.{outcome_number, answer_number, PassLeaves, RoomIs, RoomLeaves, paged_number, PageLeaves, deletes_on, lent_with, deleting_of, deletes_number, DeletesLeaves}
+use Rattle.ownership_pass.specs.Entries.{outcome_number, answer_number, PassLeaves, RoomIs, RoomLeaves, paged_number, PageLeaves}
 
 never : {C : Type 0} → ◌≡◌ {A = ℕ} 0 1 → C
 never z = absurd (omega arith)
@@ -59,41 +59,29 @@ refused-numbers value s m m' r g n e = go (verdict_on value s m) refl
         let h : outcome_of (answers a) ≡ Refused n = sym (g.outcome ∙ ap outcome_of z) ∙ e in
         never (cc)
 
--- the number of a verdict is at most 15, or 17, and 0 exactly if the image is accepted
-pub record VerdictNumber (value : ℕ) (v : Verdict) (r : ℕ) : Type 0 where
+-- `ownership_pass_switched` answers at most 15, or 17, and 0 exactly if the image is accepted
+pub record PassNumber (value : ℕ) (s : List ℕ) (m : Memory) (r : ℕ) : Type 0 where
   pub known : Answered value 16 r
-  pub zero : (r ≡ 0) ↔ ((a : Answer) × (v ≡ answers a))
+  pub zero : (r ≡ 0) ↔ ((a : Answer) × (verdict_on value s m ≡ answers a))
 
-module _ (value : ℕ) (s : List ℕ) (lent : Lent) (r : ℕ) where
-  numbered : ((n : ℕ) → pass_verdict version1 lent value s ≡ refuses n → r ≡ n) → ((a : Answer) → pass_verdict version1 lent value s ≡ answers a → r ≡ 0) → VerdictNumber value (pass_verdict version1 lent value s) r
-  unfolding pass_verdict
-  numbered refusal acceptance = go (pass_verdict version1 lent value s) refl
-    where
-      go : (v : Verdict) → pass_verdict version1 lent value s ≡ v → VerdictNumber value (pass_verdict version1 lent value s) r
-      go (refuses n) z =
-          let k = answered (verdict-numbers version1 lent value s n z) r (refusal n z) in
-          record {
-            known = k.0;
-            zero = (λ e. absurd (omega (arith, k.1, e)), λ a. let y : refuses n ≡ answers a.0 = sym z ∙ a.1 in never (cc));
-          }
-      go (answers a) z =
-          let h = acceptance a z in
-          let l = taken value (refuses 17) (decided version1 (switches_of value) lent (decode version1 s)) (answers a) (λ y. never (cc)) z in
-          record { known = inl (l, omega (arith, h)); zero = (λ e. (a, z), λ b. h) }
-
--- that of `ownership_pass_switched`
-pub pass-number : (value : ℕ) (s : List ℕ) (m m' : Memory) (old new : List ℕ) (r : ℕ) → PassLeaves value s m old r m' new → VerdictNumber value (verdict_on value s m) r
-pass-number value s m m' old new r g = numbered value s (lent_of m) r (λ n z. number (refuses n) z) (λ a z. number (answers a) z)
+pub pass-number : (value : ℕ) (s : List ℕ) (m m' : Memory) (old new : List ℕ) (r : ℕ) → PassLeaves value s m old r m' new → PassNumber value s m r
+unfolding pass_verdict
+pass-number value s m m' old new r g = go (verdict_on value s m) refl
   where
     number : (v : Verdict) → verdict_on value s m ≡ v → r ≡ outcome_number (outcome_of v)
     number v z = g.number ∙ ap outcome_number (g.is.outcome ∙ ap outcome_of z)
 
--- and of `ownership_deletes_switched`
-pub deletes-number : (value : ℕ) (s : List ℕ) (m m' : Memory) (list list' old new : List ℕ) (r : ℕ) → DeletesLeaves value s m list old r m' list' new → VerdictNumber value (deletes_on value s m list) r
-deletes-number value s m m' list list' old new r g = numbered value s (lent_with m list) r (λ n z. number (refuses n) z) (λ a z. number (answers a) z)
-  where
-    number : (v : Verdict) → deletes_on value s m list ≡ v → r ≡ deletes_number (deleting_of v)
-    number v z = g.number ∙ ap deletes_number (g.is.outcome ∙ ap deleting_of z)
+    go : (v : Verdict) → verdict_on value s m ≡ v → PassNumber value s m r
+    go (refuses n) z =
+        let k = answered (verdict-numbers version1 (lent_of m) value s n z) r (number (refuses n) z) in
+        record {
+          known = k.0;
+          zero = (λ e. absurd (omega (arith, k.1, e)), λ a. let y : refuses n ≡ answers a.0 = sym z ∙ a.1 in never (cc));
+        }
+    go (answers a) z =
+        let h = number (answers a) z in
+        let l = taken value (refuses 17) (decided version1 (switches_of value) (lent_of m) (decode version1 s)) (answers a) (λ y. never (cc)) z in
+        record { known = inl (l, omega (arith, h)); zero = (λ e. (a, z), λ b. h) }
 
 -- `ownership_room_switched` answers at most 13, or 17, and 0 exactly if there is no fault
 pub record RoomNumber (value : ℕ) (s : List ℕ) (r : ℕ) : Type 0 where

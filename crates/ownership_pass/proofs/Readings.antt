@@ -40,7 +40,7 @@ use Rattle.entries_image.specs.Images.{ImageThere, Measures}
 use Rattle.entries_verdict.proofs.Rooms.{not-high, fault-some}
 
 module _ (s tb : List ℕ) (r : ImageRead) (g : Reads s tb r) (z : 0 < r.fault → ⊥) where
-  pub found : (i : Image) × (decode version1 s ≡ accepted i)
+  found : (i : Image) × (decode version1 s ≡ accepted i)
   found = zero-accepted version1 s (sym g.fault ∙ omega (arith, z))
 
   abbrev laid : Laid s found.0 tb r

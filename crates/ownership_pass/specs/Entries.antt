@@ -1,14 +1,14 @@
 -- What the entries answer, and what they leave in the memory lent (document 01, "Faults" and "What is reported"), given the value of the
--- switches (document 02, (e)), and of the list of deletes ((f)).
-use Rattle.std.specs.Prelude.{ℕ, ◌/◌, ◌≤◌, ◌≡◌, List, [], ◌∷◌, length}
+-- switches (document 02, (e)).
+use Rattle.std.specs.Prelude.{ℕ, ◌≤◌, ◌≡◌, List, [], ◌∷◌}
 use Rattle.std.proofs.Math.Option.{none, some}
 use Rattle.tables.specs.Limits.{version1}
 use Rattle.image.specs.Image.{Image, accepted, decode}
 use Rattle.rules.specs.Rules.{switches_of}
 use Rattle.rules.specs.Walk.{image_fault}
-use Rattle.rules.specs.Verdict.{Lent, Verdict, refuses, answers, pass_verdict, room_fault, RoomFor}
+use Rattle.rules.specs.Verdict.{room_fault, RoomFor}
 use Rattle.image_writing.specs.Memory.{Memory}
-use Rattle.entries_verdict.specs.Passes.{lent_of, over, memory_after, Passes}
+use Rattle.entries_verdict.specs.Passes.{Passes}
 use Rattle.entries_verdict.specs.declared.Outcome.{Outcome}
 use Rattle.entries_verdict.specs.declared.Outcome.TheVariants.{Accepted, Refused}
 use Rattle.entries_page.specs.Pages.{Pages}
@@ -17,13 +17,6 @@ use Rattle.entries_page.specs.declared.Paged.TheVariants.{Written}
 use Rattle.entries_page.specs.declared.Paged.TheVariants as paged
 use Rattle.ownership_pass.specs.declared.Answer.{Answer}
 use Rattle.ownership_pass.specs.declared.Answer.TheVariants.{Needed, Denied}
-use Rattle.ownership_pass.specs.declared.Deleting.{Deleting}
-use Rattle.ownership_pass.specs.declared.Deleting.TheVariants.{Listed}
-use Rattle.ownership_pass.specs.declared.Deleting.TheVariants as deleting
-
--- a call that names no switches has 1 on and the rest off (02, g)
-abbrev pub unnamed : ℕ
-unnamed = 1
 
 -- as a number, 0 for accepted, and the four totals, on a fault unchanged
 abbrev pub outcome_number : Outcome → ℕ
@@ -40,48 +33,6 @@ pub record PassLeaves (value : ℕ) (s : List ℕ) (m : Memory) (old : List ℕ)
   pub is : Passes value s m outcome m'
   pub number : r ≡ outcome_number outcome
   pub leaves : new ≡ totals_after outcome old
-
--- The entry that also lists the deletes (02, f). What it is lent: an entry of that list has two numbers
-abbrev pub lent_with : Memory → List ℕ → Lent
-lent_with m list =
-    record { bytes = (lent_of m).bytes; errors = (lent_of m).errors; warnings = (lent_of m).warnings; lefts = (lent_of m).lefts; deletes = some (length list / 2) }
-
--- the verdict on an image with that memory and that list lent: the same rule as without the list, 14 for it too
-abbrev pub deletes_on : ℕ → List ℕ → Memory → List ℕ → Verdict
-deletes_on value s m list = pass_verdict version1 (lent_with m list) value s
-
-abbrev pub deleting_of : Verdict → Deleting
-deleting_of (refuses n) = deleting.Refused n
-deleting_of (answers a) = Listed (record {
-  totals = record { written = length a.output; errors = a.error_count; warnings = a.warning_count; lefts = a.left_count };
-  deletes = a.delete_count;
-})
-
--- the list after a verdict: on a fault nothing is changed
-abbrev pub list_after : Verdict → List ℕ → List ℕ
-list_after (refuses n) old = old
-list_after (answers a) old = over a.delete_numbers old
-
--- its outcome, and memory and list after it
-pub record DeletesPass (value : ℕ) (s : List ℕ) (m : Memory) (list : List ℕ) (r : Deleting) (m' : Memory) (list' : List ℕ) : Type 0 where
-  pub outcome : r ≡ deleting_of (deletes_on value s m list)
-  pub leaves : m' ≡ memory_after (deletes_on value s m list) m
-  pub listed : list' ≡ list_after (deletes_on value s m list) list
-
--- as a number, 0 for accepted, and the five totals, on a fault unchanged
-abbrev pub deletes_number : Deleting → ℕ
-deletes_number (Listed l) = 0
-deletes_number (deleting.Refused n) = n
-
-abbrev pub five_after : Deleting → List ℕ → List ℕ
-five_after (Listed l) old = l.totals.written ∷ l.totals.errors ∷ l.totals.warnings ∷ l.totals.lefts ∷ l.deletes ∷ []
-five_after (deleting.Refused n) old = old
-
-pub record DeletesLeaves (value : ℕ) (s : List ℕ) (m : Memory) (list old : List ℕ) (r : ℕ) (m' : Memory) (list' new : List ℕ) : Type 0 where
-  pub outcome : Deleting
-  pub is : DeletesPass value s m list outcome m' list'
-  pub number : r ≡ deletes_number outcome
-  pub leaves : new ≡ five_after outcome old
 
 -- the entry that answers the room: 17, the first fault of 1 to 13, or a number within document 01's bounds
 abbrev pub RoomIs : ℕ → List ℕ → Answer → Type 0

@@ -2,7 +2,7 @@
 -- Assumes nothing.
 use mathlib.Core.Path.{◌≡◌, subst}
 use mathlib.Core.List.{List}
-use Prim.Native.Nat.{ℕ, ◌<◌}
+use Prim.Native.Nat.{ℕ, ◌+◌, ◌≤◌, ◌<◌}
 use Rattle.programs_replay.specs.declared.Record.{Record}
 use Rattle.programs_replay.specs.declared.Found.{Found}
 use Rattle.programs_replay.specs.declared.Found.TheVariants.{Whole, Short}

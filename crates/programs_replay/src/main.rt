@@ -316,8 +316,7 @@ fn usual_agrees(s: &[u8], q: Record) -> bool
     let mut warns = [0u32; 512];
     let mut lefts = [0u32; 768];
     let outcome = image_fields::peek(s, answer);
-    match ownership_pass::pass_switched(
-        0,
+    match ownership_pass::pass(
         &s[image..answer],
         &mut out,
         &mut errs,
@@ -344,14 +343,7 @@ fn lavish_agrees(s: &[u8], q: Record, out: &mut [u8]) -> bool
     let mut warns = [0u32; 1024];
     let mut lefts = [0u32; 1536];
     let outcome = image_fields::peek(s, answer + 1);
-    match ownership_pass::pass_switched(
-        0,
-        &s[image..answer],
-        out,
-        &mut errs,
-        &mut warns,
-        &mut lefts,
-    ) {
+    match ownership_pass::pass(&s[image..answer], out, &mut errs, &mut warns, &mut lefts) {
         Outcome::Refused(fault) => image_fields::wide(fault) == outcome,
         Outcome::Accepted(t) => {
             if 0 < outcome {
@@ -376,7 +368,7 @@ fn room_agrees(s: &[u8], q: Record) -> bool
     let image = q.label + 4;
     let answer = q.answer;
     let outcome = image_fields::peek(s, answer);
-    match ownership_pass::room_switched(0, &s[image..answer]) {
+    match ownership_pass::room(&s[image..answer]) {
         Answer::Denied(fault) => image_fields::wide(fault) == outcome,
         Answer::Needed(bytes) => {
             if 0 < outcome {

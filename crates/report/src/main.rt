@@ -10,7 +10,7 @@ fn show(s: &[u8], out: &mut [u8]) -> usize
     requires { length out.old ≡ 2097152 }
     ensures { Shows s.now out.new result }
 {
-    match ownership_pass::page_switched(0, s, out) {
+    match ownership_pass::page(s, out) {
         Paged::Refused(fault) => programs_text::put_refused(out, fault),
         Paged::Written(bytes) => bytes,
     }

@@ -7,7 +7,7 @@ use mathlib.Core.Option.{some}
 use Rattle.tables.specs.Name.{same_bytes, starts_with}
 use Rattle.tables.specs.Signature.{Entry}
 use Rattle.tables_lookup.specs.First.{first_from, and_then, or_else}
-use Rattle.tables_lookup.specs.Ty.{inside, struct_named, struct_shaped, struct_of_generic, struct_of_ty, struct_of, with_destructor, destructor_of, should_auto_delete, class_of_ty, class_of}
+use Rattle.tables_lookup.specs.Ty.{inside, struct_named, struct_shaped, struct_of_generic, struct_of_ty, struct_of, has_destructor, should_auto_delete, class_of_ty, class_of}
 use Rattle.tables_lookup.specs.Signature.{modifier_in, modifier_of, is_consuming, global_of}
 use Rattle.image_body.specs.Expr.{Expr, count_width, through, none}
 use Rattle.image_body.specs.Stmt.{Tree, Block, variable, assign, return, bare_return, block, if_else, if_then, while, jump, expr_stmt}
@@ -56,11 +56,11 @@ body = record { span = 10; code = first (loop (branch (if_then 34 literal 35 ret
 
 -- `this` is deleted at the return, `w` at the end; `v`, moved by some runs, at neither
 pub example-returned : flatten (decide_body off tables consuming body) ≡ first (loop (branch (if_then 34 literal 35 (deletion 0 0 return_w) (last (deletion 10 2 end)))))
-unfolding same_bytes starts_with first_from and_then or_else inside struct_named struct_shaped struct_of_generic struct_of_ty struct_of with_destructor destructor_of should_auto_delete class_of_ty class_of modifier_in modifier_of is_consuming global_of count_width through auto is_temp_of is_move_of consumes global_in takes handed finish effects expr_stmt_effects take_over assign_effects assign_takes
+unfolding same_bytes starts_with first_from and_then or_else inside struct_named struct_shaped struct_of_generic struct_of_ty struct_of has_destructor should_auto_delete class_of_ty class_of modifier_in modifier_of is_consuming global_of count_width through auto is_temp_of is_move_of consumes global_in takes handed finish effects expr_stmt_effects take_over assign_effects assign_takes
 example-returned = refl
 
 pub example-plain : PlainBody off tables consuming body
-unfolding same_bytes starts_with first_from and_then or_else inside struct_named struct_shaped struct_of_generic struct_of_ty struct_of with_destructor destructor_of should_auto_delete class_of_ty class_of modifier_in modifier_of is_consuming global_of count_width through auto is_temp_of is_move_of consumes global_in takes handed finish effects expr_stmt_effects take_over assign_effects assign_takes
+unfolding same_bytes starts_with first_from and_then or_else inside struct_named struct_shaped struct_of_generic struct_of_ty struct_of has_destructor should_auto_delete class_of_ty class_of modifier_in modifier_of is_consuming global_of count_width through auto is_temp_of is_move_of consumes global_in takes handed finish effects expr_stmt_effects take_over assign_effects assign_takes
 example-plain = ((tt, tt), (tt, (tt, (tt, ((λ x. x), ((λ x. x), ((λ x. x), tt))), (tt, (tt, (tt, tt)))))))
 
 pub example-demand : Demand3 (concerns off) tables (locals_of consuming) (decide_body off tables consuming body)
@@ -81,7 +81,7 @@ at_its_end b = record {
 
 -- past the loop and both ifs: `v` is held at the end
 pub example-kept : Reached tables (locals_of consuming) (decide_body off tables consuming body) (at_its_end true)
-unfolding same_bytes starts_with first_from and_then or_else inside struct_named struct_shaped struct_of_generic struct_of_ty struct_of with_destructor destructor_of should_auto_delete class_of_ty class_of modifier_in modifier_of is_consuming global_of count_width through auto is_temp_of is_move_of consumes global_in takes handed finish effects expr_stmt_effects take_over assign_effects assign_takes
+unfolding same_bytes starts_with first_from and_then or_else inside struct_named struct_shaped struct_of_generic struct_of_ty struct_of has_destructor should_auto_delete class_of_ty class_of modifier_in modifier_of is_consuming global_of count_width through auto is_temp_of is_move_of consumes global_in takes handed finish effects expr_stmt_effects take_over assign_effects assign_takes
 example-kept =
     let choices : List Bool = false ∷ false ∷ false ∷ [] in
     let c = start tables (locals_of consuming) (decide_body off tables consuming body) choices in
@@ -89,7 +89,7 @@ example-kept =
 
 -- once through the loop, then into the branch that moves: `v` is not held at the end
 pub example-lost : Reached tables (locals_of consuming) (decide_body off tables consuming body) (at_its_end false)
-unfolding same_bytes starts_with first_from and_then or_else inside struct_named struct_shaped struct_of_generic struct_of_ty struct_of with_destructor destructor_of should_auto_delete class_of_ty class_of modifier_in modifier_of is_consuming global_of count_width through auto is_temp_of is_move_of consumes global_in takes handed finish effects expr_stmt_effects take_over assign_effects assign_takes
+unfolding same_bytes starts_with first_from and_then or_else inside struct_named struct_shaped struct_of_generic struct_of_ty struct_of has_destructor should_auto_delete class_of_ty class_of modifier_in modifier_of is_consuming global_of count_width through auto is_temp_of is_move_of consumes global_in takes handed finish effects expr_stmt_effects take_over assign_effects assign_takes
 example-lost =
     let choices : List Bool = true ∷ false ∷ true ∷ false ∷ [] in
     let c = start tables (locals_of consuming) (decide_body off tables consuming body) choices in
@@ -105,14 +105,14 @@ at_its_return b = record {
 }
 
 pub return_kept : Reached tables (locals_of consuming) (decide_body off tables consuming body) (at_its_return true)
-unfolding same_bytes starts_with first_from and_then or_else inside struct_named struct_shaped struct_of_generic struct_of_ty struct_of with_destructor destructor_of should_auto_delete class_of_ty class_of modifier_in modifier_of is_consuming global_of count_width through auto is_temp_of is_move_of consumes global_in takes handed finish effects expr_stmt_effects take_over assign_effects assign_takes
+unfolding same_bytes starts_with first_from and_then or_else inside struct_named struct_shaped struct_of_generic struct_of_ty struct_of has_destructor should_auto_delete class_of_ty class_of modifier_in modifier_of is_consuming global_of count_width through auto is_temp_of is_move_of consumes global_in takes handed finish effects expr_stmt_effects take_over assign_effects assign_takes
 return_kept =
     let choices : List Bool = false ∷ false ∷ true ∷ [] in
     let c = start tables (locals_of consuming) (decide_body off tables consuming body) choices in
     record { choices = choices; config = after tables 6 c; steps = after-steps tables 6 c; stands = refl }
 
 pub return-lost : Reached tables (locals_of consuming) (decide_body off tables consuming body) (at_its_return false)
-unfolding same_bytes starts_with first_from and_then or_else inside struct_named struct_shaped struct_of_generic struct_of_ty struct_of with_destructor destructor_of should_auto_delete class_of_ty class_of modifier_in modifier_of is_consuming global_of count_width through auto is_temp_of is_move_of consumes global_in takes handed finish effects expr_stmt_effects take_over assign_effects assign_takes
+unfolding same_bytes starts_with first_from and_then or_else inside struct_named struct_shaped struct_of_generic struct_of_ty struct_of has_destructor should_auto_delete class_of_ty class_of modifier_in modifier_of is_consuming global_of count_width through auto is_temp_of is_move_of consumes global_in takes handed finish effects expr_stmt_effects take_over assign_effects assign_takes
 return-lost =
     let choices : List Bool = false ∷ true ∷ true ∷ [] in
     let c = start tables (locals_of consuming) (decide_body off tables consuming body) choices in
@@ -131,7 +131,7 @@ assigns = record {
 }
 
 pub assigns-plain : PlainBody off tables plain_entry assigns
-unfolding same_bytes starts_with first_from and_then or_else inside struct_named struct_shaped struct_of_generic struct_of_ty struct_of with_destructor destructor_of should_auto_delete class_of_ty class_of modifier_in modifier_of is_consuming global_of count_width through auto is_temp_of is_move_of consumes global_in takes handed finish effects expr_stmt_effects take_over assign_effects assign_takes
+unfolding same_bytes starts_with first_from and_then or_else inside struct_named struct_shaped struct_of_generic struct_of_ty struct_of has_destructor should_auto_delete class_of_ty class_of modifier_in modifier_of is_consuming global_of count_width through auto is_temp_of is_move_of consumes global_in takes handed finish effects expr_stmt_effects take_over assign_effects assign_takes
 assigns-plain = (tt, (tt, (tt, (tt, tt, (λ x. absurd x), (tt, (λ x. tt), tt)))))
 
 -- where `v` is assigned it is passed over, held or not; where `w` is assigned it is held and deleted
@@ -152,21 +152,21 @@ at_second = record {
 }
 
 pub assign-kept : Reached tables [] (decide_body off tables plain_entry assigns) (at_assignment true)
-unfolding same_bytes starts_with first_from and_then or_else inside struct_named struct_shaped struct_of_generic struct_of_ty struct_of with_destructor destructor_of should_auto_delete class_of_ty class_of modifier_in modifier_of is_consuming global_of count_width through auto is_temp_of is_move_of consumes global_in takes handed finish effects expr_stmt_effects take_over assign_effects assign_takes
+unfolding same_bytes starts_with first_from and_then or_else inside struct_named struct_shaped struct_of_generic struct_of_ty struct_of has_destructor should_auto_delete class_of_ty class_of modifier_in modifier_of is_consuming global_of count_width through auto is_temp_of is_move_of consumes global_in takes handed finish effects expr_stmt_effects take_over assign_effects assign_takes
 assign-kept =
     let choices : List Bool = false ∷ [] in
     let c = start tables [] (decide_body off tables plain_entry assigns) choices in
     record { choices = choices; config = after tables 8 c; steps = after-steps tables 8 c; stands = refl }
 
 pub assign-lost : Reached tables [] (decide_body off tables plain_entry assigns) (at_assignment false)
-unfolding same_bytes starts_with first_from and_then or_else inside struct_named struct_shaped struct_of_generic struct_of_ty struct_of with_destructor destructor_of should_auto_delete class_of_ty class_of modifier_in modifier_of is_consuming global_of count_width through auto is_temp_of is_move_of consumes global_in takes handed finish effects expr_stmt_effects take_over assign_effects assign_takes
+unfolding same_bytes starts_with first_from and_then or_else inside struct_named struct_shaped struct_of_generic struct_of_ty struct_of has_destructor should_auto_delete class_of_ty class_of modifier_in modifier_of is_consuming global_of count_width through auto is_temp_of is_move_of consumes global_in takes handed finish effects expr_stmt_effects take_over assign_effects assign_takes
 assign-lost =
     let choices : List Bool = true ∷ [] in
     let c = start tables [] (decide_body off tables plain_entry assigns) choices in
     record { choices = choices; config = after tables 9 c; steps = after-steps tables 9 c; stands = refl }
 
 pub assign-deletes : Reached tables [] (decide_body off tables plain_entry assigns) at_second
-unfolding same_bytes starts_with first_from and_then or_else inside struct_named struct_shaped struct_of_generic struct_of_ty struct_of with_destructor destructor_of should_auto_delete class_of_ty class_of modifier_in modifier_of is_consuming global_of count_width through auto is_temp_of is_move_of consumes global_in takes handed finish effects expr_stmt_effects take_over assign_effects assign_takes
+unfolding same_bytes starts_with first_from and_then or_else inside struct_named struct_shaped struct_of_generic struct_of_ty struct_of has_destructor should_auto_delete class_of_ty class_of modifier_in modifier_of is_consuming global_of count_width through auto is_temp_of is_move_of consumes global_in takes handed finish effects expr_stmt_effects take_over assign_effects assign_takes
 assign-deletes =
     let choices : List Bool = false ∷ [] in
     let c = start tables [] (decide_body off tables plain_entry assigns) choices in
@@ -183,7 +183,7 @@ abbrev leaving_decided : Decided
 leaving_decided = decide_body (switches_of 9) tables two_params leaving
 
 pub leaving-plain : PlainBody off tables two_params leaving
-unfolding same_bytes starts_with first_from and_then or_else inside struct_named struct_shaped struct_of_generic struct_of_ty struct_of with_destructor destructor_of should_auto_delete class_of_ty class_of modifier_in modifier_of is_consuming global_of count_width through auto is_temp_of is_move_of consumes global_in takes handed finish effects expr_stmt_effects take_over assign_effects assign_takes
+unfolding same_bytes starts_with first_from and_then or_else inside struct_named struct_shaped struct_of_generic struct_of_ty struct_of has_destructor should_auto_delete class_of_ty class_of modifier_in modifier_of is_consuming global_of count_width through auto is_temp_of is_move_of consumes global_in takes handed finish effects expr_stmt_effects take_over assign_effects assign_takes
 leaving-plain = ((tt, (tt, tt)), (tt, (tt, tt)))
 
 -- it is plain under every setting, so demand 3 holds under every setting
@@ -202,7 +202,7 @@ runs choices k m = moment (after tables k (start tables (locals_of two_params) l
 
 leaving-runs : runs (false ∷ true ∷ []) 3 (at_its_bare_return true) × runs (true ∷ true ∷ []) 7 (at_its_bare_return false)
     × runs (false ∷ false ∷ []) 2 (at_its_last true) × runs (true ∷ false ∷ []) 6 (at_its_last false)
-unfolding same_bytes starts_with first_from and_then or_else inside struct_named struct_shaped struct_of_generic struct_of_ty struct_of with_destructor destructor_of should_auto_delete class_of_ty class_of modifier_in modifier_of is_consuming global_of count_width through auto is_temp_of is_move_of consumes global_in takes handed finish effects expr_stmt_effects take_over assign_effects assign_takes
+unfolding same_bytes starts_with first_from and_then or_else inside struct_named struct_shaped struct_of_generic struct_of_ty struct_of has_destructor should_auto_delete class_of_ty class_of modifier_in modifier_of is_consuming global_of count_width through auto is_temp_of is_move_of consumes global_in takes handed finish effects expr_stmt_effects take_over assign_effects assign_takes
 leaving-runs = (refl, refl, refl, refl)
 
 reached : (choices : List Bool) (k : ℕ) (m : Moment) → runs choices k m → Reached tables (locals_of two_params) leaving_decided m
@@ -238,5 +238,5 @@ breaking = while 20 literal 21 (variable false 22 1 1 literal (jump false 23 tt 
 pub leaks-closed : (ends off no_params returning [] (known 1 1 21 true) × ends (switches_of 1) no_params returning [] (known 1 1 21 false))
     × (ends off no_params breaking (true ∷ []) (known 1 2 22 true) × ends (switches_of 2) no_params breaking (true ∷ []) (known 1 2 22 false))
     × (ends off one_param end [] (known 1 0 0 true) × ends (switches_of 8) one_param end [] (known 1 0 0 false))
-unfolding same_bytes starts_with first_from and_then or_else inside struct_named struct_shaped struct_of_generic struct_of_ty struct_of with_destructor destructor_of should_auto_delete class_of_ty class_of modifier_in modifier_of is_consuming global_of count_width through auto is_temp_of is_move_of consumes global_in takes handed finish effects expr_stmt_effects take_over assign_effects assign_takes
+unfolding same_bytes starts_with first_from and_then or_else inside struct_named struct_shaped struct_of_generic struct_of_ty struct_of has_destructor should_auto_delete class_of_ty class_of modifier_in modifier_of is_consuming global_of count_width through auto is_temp_of is_move_of consumes global_in takes handed finish effects expr_stmt_effects take_over assign_effects assign_takes
 leaks-closed = ((refl, refl), (refl, refl), (refl, refl))

@@ -9,10 +9,10 @@ use Rattle.tables.specs.Limits.{Limits, version1}
 use Rattle.tables.specs.Name.{same_bytes, starts_with}
 use Rattle.tables.specs.Signature.{Param}
 use Rattle.tables_lookup.specs.First.{first_from, and_then, or_else}
-use Rattle.tables_lookup.specs.Ty.{inside, struct_named, struct_shaped, struct_of_generic, struct_of_ty, struct_of, with_destructor, destructor_of, should_auto_delete, class_of_ty, class_of}
+use Rattle.tables_lookup.specs.Ty.{inside, struct_named, struct_shaped, struct_of_generic, struct_of_ty, struct_of, has_destructor, should_auto_delete, class_of_ty, class_of}
 use Rattle.tables_lookup.specs.Signature.{modifier_in, modifier_of, is_consuming, global_of}
 use Rattle.image_body.specs.Expr.{Expr, count_width, through}
-use Rattle.image_body.specs.Stmt.{Tree, variable, bare_return, block, if_else, if_then, while}
+use Rattle.image_body.specs.Stmt.{Tree, variable, assign, return, bare_return, block, if_else, if_then, while}
 use Rattle.image_encoding.specs.Body.{size}
 use Rattle.image.specs.Image.{Image, accepted, refused, decode, outcome, image_at}
 use Rattle.rules.proofs.Nodes.{one, ident, literal, move, moving, end, tables, param}
@@ -82,19 +82,15 @@ bodies =
 
 pub walk-faults : map (image_fault small off) bodies
     ≡ Option.none ∷ some 12 ∷ some 12 ∷ some 12 ∷ Option.none ∷ some 12 ∷ some 13 ∷ some 13 ∷ Option.none ∷ Option.none ∷ some 13 ∷ Option.none ∷ some 13 ∷ some 13 ∷ some 12 ∷ some 13 ∷ some 12 ∷ []
-unfolding member same_bytes starts_with first_from and_then or_else inside struct_named struct_shaped struct_of_generic struct_of_ty struct_of with_destructor destructor_of should_auto_delete class_of_ty class_of modifier_in modifier_of is_consuming global_of count_width through auto is_temp_of is_move_of consumes global_in takes handed finish effects expr_stmt_effects take_over assign_effects assign_takes crowded walk_fault image_fault
+unfolding member same_bytes starts_with first_from and_then or_else inside struct_named struct_shaped struct_of_generic struct_of_ty struct_of has_destructor should_auto_delete class_of_ty class_of modifier_in modifier_of is_consuming global_of count_width through auto is_temp_of is_move_of consumes global_in takes handed finish effects expr_stmt_effects take_over assign_effects assign_takes crowded walk_fault image_fault
 walk-faults = refl
 
 -- one entry of each list and three bytes
 abbrev some3 : Answer
-some3 = record { output = 1 ∷ 2 ∷ 3 ∷ []; error_count = 1; warning_count = 1; left_count = 1; delete_count = 1; error_numbers = []; warning_numbers = []; left_numbers = []; delete_numbers = [] }
+some3 = record { output = 1 ∷ 2 ∷ 3 ∷ []; error_count = 1; warning_count = 1; left_count = 1; error_numbers = []; warning_numbers = []; left_numbers = [] }
 
 abbrev lent : ℕ → ℕ → ℕ → ℕ → Lent
-lent b e w l = record { bytes = b; errors = e; warnings = w; lefts = l; deletes = Option.none }
-
--- a list of deletes too
-abbrev also : ℕ → Lent → Lent
-also d x = record { bytes = x.bytes; errors = x.errors; warnings = x.warnings; lefts = x.lefts; deletes = some d }
+lent b e w l = record { bytes = b; errors = e; warnings = w; lefts = l }
 
 abbrev fitting : Lent → Verdict
 fitting x = fitted off x (with [] end) some3
@@ -102,14 +98,8 @@ fitting x = fitted off x (with [] end) some3
 -- lists before output, and exactly enough is enough
 pub last-rows : map fitting (lent 3 1 1 1 ∷ lent 2 1 1 1 ∷ lent 3 0 1 1 ∷ lent 3 1 0 1 ∷ lent 3 1 1 0 ∷ lent 2 0 1 1 ∷ [])
     ≡ answers some3 ∷ refuses 15 ∷ refuses 14 ∷ refuses 14 ∷ refuses 14 ∷ refuses 14 ∷ []
-unfolding member same_bytes starts_with first_from and_then or_else inside struct_named struct_shaped struct_of_generic struct_of_ty struct_of with_destructor destructor_of should_auto_delete class_of_ty class_of modifier_in modifier_of is_consuming global_of count_width through auto is_temp_of is_move_of consumes global_in takes handed finish effects expr_stmt_effects take_over assign_effects assign_takes size counts_fit
+unfolding member same_bytes starts_with first_from and_then or_else inside struct_named struct_shaped struct_of_generic struct_of_ty struct_of has_destructor should_auto_delete class_of_ty class_of modifier_in modifier_of is_consuming global_of count_width through auto is_temp_of is_move_of consumes global_in takes handed finish effects expr_stmt_effects take_over assign_effects assign_takes size counts_fit
 last-rows = refl
-
--- the list of deletes, if one is lent, as the others
-pub list-rows : map fitting (also 1 (lent 3 1 1 1) ∷ also 0 (lent 3 1 1 1) ∷ also 0 (lent 2 1 1 1) ∷ also 1 (lent 2 1 1 1) ∷ also 1 (lent 3 1 1 0) ∷ [])
-    ≡ answers some3 ∷ refuses 14 ∷ refuses 14 ∷ refuses 15 ∷ refuses 14 ∷ []
-unfolding member same_bytes starts_with first_from and_then or_else inside struct_named struct_shaped struct_of_generic struct_of_ty struct_of with_destructor destructor_of should_auto_delete class_of_ty class_of modifier_in modifier_of is_consuming global_of count_width through auto is_temp_of is_move_of consumes global_in takes handed finish effects expr_stmt_effects take_over assign_effects assign_takes size counts_fit
-list-rows = refl
 
 -- faults 12 and 13 before both
 pub walk_first : walked small off (lent 0 0 0 0) (with [] end) (some 13) ≡ refuses 13
@@ -117,7 +107,7 @@ walk_first = refl
 
 -- the room entry gives the reader's faults and those of the walk
 pub room-faults : (room_fault_of small off (refused 7) ≡ some 7) × (room_fault_of small off (accepted (with [] (new 1 (new 2 (new 5 end))))) ≡ some 12)
-unfolding member same_bytes starts_with first_from and_then or_else inside struct_named struct_shaped struct_of_generic struct_of_ty struct_of with_destructor destructor_of should_auto_delete class_of_ty class_of modifier_in modifier_of is_consuming global_of count_width through auto is_temp_of is_move_of consumes global_in takes handed finish effects expr_stmt_effects take_over assign_effects assign_takes crowded walk_fault image_fault
+unfolding member same_bytes starts_with first_from and_then or_else inside struct_named struct_shaped struct_of_generic struct_of_ty struct_of has_destructor should_auto_delete class_of_ty class_of modifier_in modifier_of is_consuming global_of count_width through auto is_temp_of is_move_of consumes global_in takes handed finish effects expr_stmt_effects take_over assign_effects assign_takes crowded walk_fault image_fault
 room-faults = (refl, refl)
 
 -- an error has room for as many other places as the limit says; a warning has span and offset, a left-behind entry span, name and birth

@@ -35,6 +35,3 @@ pub mod Numbers
 pub mod Examples
 pub mod ByTag
 pub mod Pieces
-pub mod Deletes
-pub mod Many
-pub mod DeleteRows

@@ -5,7 +5,7 @@ use mathlib.Core.Option.{Option, none, some}
 use Rattle.tables.specs.Name.{same_bytes, starts_with}
 use Rattle.tables.specs.Signature.{Entry}
 use Rattle.tables_lookup.specs.First.{first_from, and_then, or_else}
-use Rattle.tables_lookup.specs.Ty.{inside, struct_named, struct_shaped, struct_of_generic, struct_of_ty, struct_of, with_destructor, destructor_of, should_auto_delete, class_of_ty, class_of}
+use Rattle.tables_lookup.specs.Ty.{inside, struct_named, struct_shaped, struct_of_generic, struct_of_ty, struct_of, has_destructor, should_auto_delete, class_of_ty, class_of}
 use Rattle.tables_lookup.specs.Signature.{modifier_in, modifier_of, is_consuming, global_of}
 use Rattle.image_body.specs.Expr.{Expr, count_width, through}
 use Rattle.image_body.specs.Stmt.{Tree, Block, variable, assign, bare_return, if_then, while, jump}
@@ -46,12 +46,12 @@ abbrev pub loop : Tree
 loop = while 22 literal 23 (assign 24 (v 25) literal 1 tt (moving 26 (v 27) end)) end
 
 pub loop-lacks : Keeps (states off) declared (exit (states off) tables (assign 24 (v 25) literal 1 tt (moving 26 (v 27) end)) 2 (evaluate (states off) tables literal declared)) → PlainBody off tables entry (body loop)
-unfolding same_bytes starts_with first_from and_then or_else inside struct_named struct_shaped struct_of_generic struct_of_ty struct_of with_destructor destructor_of should_auto_delete class_of_ty class_of modifier_in modifier_of is_consuming global_of count_width through auto is_temp_of is_move_of consumes global_in takes handed finish effects expr_stmt_effects take_over assign_effects assign_takes
+unfolding same_bytes starts_with first_from and_then or_else inside struct_named struct_shaped struct_of_generic struct_of_ty struct_of has_destructor should_auto_delete class_of_ty class_of modifier_in modifier_of is_consuming global_of count_width through auto is_temp_of is_move_of consumes global_in takes handed finish effects expr_stmt_effects take_over assign_effects assign_takes
 loop-lacks k = (tt, (tt, (tt, k, tt)))
 
 -- the second turn comes to the inserted delete of what it no longer holds
 pub loop-breaks : Broken loop
-unfolding same_bytes starts_with first_from and_then or_else inside struct_named struct_shaped struct_of_generic struct_of_ty struct_of with_destructor destructor_of should_auto_delete class_of_ty class_of modifier_in modifier_of is_consuming global_of count_width through auto is_temp_of is_move_of consumes global_in takes handed finish effects expr_stmt_effects take_over assign_effects assign_takes
+unfolding same_bytes starts_with first_from and_then or_else inside struct_named struct_shaped struct_of_generic struct_of_ty struct_of has_destructor should_auto_delete class_of_ty class_of modifier_in modifier_of is_consuming global_of count_width through auto is_temp_of is_move_of consumes global_in takes handed finish effects expr_stmt_effects take_over assign_effects assign_takes
 loop-breaks d = d.held_at_delete (true ∷ true ∷ []) _ _ _ _ _ _ _ (after-steps tables 14 (begin loop (true ∷ true ∷ [])))
 
 -- A name registered while a frame holds it: let v: T again
@@ -59,12 +59,12 @@ abbrev pub twice : Tree
 twice = variable false 22 1 1 literal end
 
 pub twice-lacks : So (not (has 1 (shape declared))) → PlainBody off tables entry (body twice)
-unfolding same_bytes starts_with first_from and_then or_else inside struct_named struct_shaped struct_of_generic struct_of_ty struct_of with_destructor destructor_of should_auto_delete class_of_ty class_of modifier_in modifier_of is_consuming global_of count_width through auto is_temp_of is_move_of consumes global_in takes handed finish effects expr_stmt_effects take_over assign_effects assign_takes
+unfolding same_bytes starts_with first_from and_then or_else inside struct_named struct_shaped struct_of_generic struct_of_ty struct_of has_destructor should_auto_delete class_of_ty class_of modifier_in modifier_of is_consuming global_of count_width through auto is_temp_of is_move_of consumes global_in takes handed finish effects expr_stmt_effects take_over assign_effects assign_takes
 twice-lacks k = (tt, (tt, (k, tt)))
 
 -- K4: the second of two deletes of one name
 pub twice-breaks : Broken twice
-unfolding same_bytes starts_with first_from and_then or_else inside struct_named struct_shaped struct_of_generic struct_of_ty struct_of with_destructor destructor_of should_auto_delete class_of_ty class_of modifier_in modifier_of is_consuming global_of count_width through auto is_temp_of is_move_of consumes global_in takes handed finish effects expr_stmt_effects take_over assign_effects assign_takes
+unfolding same_bytes starts_with first_from and_then or_else inside struct_named struct_shaped struct_of_generic struct_of_ty struct_of has_destructor should_auto_delete class_of_ty class_of modifier_in modifier_of is_consuming global_of count_width through auto is_temp_of is_move_of consumes global_in takes handed finish effects expr_stmt_effects take_over assign_effects assign_takes
 twice-breaks d = d.held_at_delete [] _ _ _ _ _ _ _ (after-steps tables 4 (begin twice []))
 
 -- A moment, if there is one, at which `v` is held
@@ -90,11 +90,11 @@ leaves = if_then 22 literal 23 (jump false 24 tt (moving 25 (v 26) end)) end
 
 -- without the Break it is plain
 pub leaves-lacks : PlainBody off tables entry (body (if_then 22 literal 23 (moving 25 (v 26) end) end))
-unfolding same_bytes starts_with first_from and_then or_else inside struct_named struct_shaped struct_of_generic struct_of_ty struct_of with_destructor destructor_of should_auto_delete class_of_ty class_of modifier_in modifier_of is_consuming global_of count_width through auto is_temp_of is_move_of consumes global_in takes handed finish effects expr_stmt_effects take_over assign_effects assign_takes
+unfolding same_bytes starts_with first_from and_then or_else inside struct_named struct_shaped struct_of_generic struct_of_ty struct_of has_destructor should_auto_delete class_of_ty class_of modifier_in modifier_of is_consuming global_of count_width through auto is_temp_of is_move_of consumes global_in takes handed finish effects expr_stmt_effects take_over assign_effects assign_takes
 leaves-lacks = (tt, (tt, (tt, tt)))
 
 leaves-held : (cs : List Bool) (k : ℕ) → Holding (moment (after tables k (begin leaves cs)))
-unfolding same_bytes starts_with first_from and_then or_else inside struct_named struct_shaped struct_of_generic struct_of_ty struct_of with_destructor destructor_of should_auto_delete class_of_ty class_of modifier_in modifier_of is_consuming global_of count_width through auto is_temp_of is_move_of consumes global_in takes handed finish effects expr_stmt_effects take_over assign_effects assign_takes
+unfolding same_bytes starts_with first_from and_then or_else inside struct_named struct_shaped struct_of_generic struct_of_ty struct_of has_destructor should_auto_delete class_of_ty class_of modifier_in modifier_of is_consuming global_of count_width through auto is_temp_of is_move_of consumes global_in takes handed finish effects expr_stmt_effects take_over assign_effects assign_takes
 leaves-held cs zero = tt
 leaves-held cs (suc zero) = tt
 leaves-held [] (suc (suc k)) = ended k _ []
@@ -108,7 +108,7 @@ leaves-held (false ∷ cs) (suc (suc (suc (suc (suc k))))) = ended k _ cs
 
 -- `v` is passed over at the end, where every run holds it
 pub leaves-breaks : Broken leaves
-unfolding same_bytes starts_with first_from and_then or_else inside struct_named struct_shaped struct_of_generic struct_of_ty struct_of with_destructor destructor_of should_auto_delete class_of_ty class_of modifier_in modifier_of is_consuming global_of count_width through auto is_temp_of is_move_of consumes global_in takes handed finish effects expr_stmt_effects take_over assign_effects assign_takes
+unfolding same_bytes starts_with first_from and_then or_else inside struct_named struct_shaped struct_of_generic struct_of_ty struct_of has_destructor should_auto_delete class_of_ty class_of modifier_in modifier_of is_consuming global_of count_width through auto is_temp_of is_move_of consumes global_in takes handed finish effects expr_stmt_effects take_over assign_effects assign_takes
 leaves-breaks d =
     let c = begin leaves (false ∷ []) in
     let r : Reached tables [] (decided leaves) (record { path = _; place = _; drops = _; held = _ }) = record { choices = false ∷ []; config = after tables 2 c; steps = after-steps tables 2 c; stands = refl } in
@@ -120,11 +120,11 @@ late = if_then 22 literal 23 (bare_return 24 0 tt (moving 25 (v 26) end)) end
 
 -- with nothing after the return it is plain
 pub late-lacks : PlainBody off tables entry (body (if_then 22 literal 23 (bare_return 24 0 tt end) end))
-unfolding same_bytes starts_with first_from and_then or_else inside struct_named struct_shaped struct_of_generic struct_of_ty struct_of with_destructor destructor_of should_auto_delete class_of_ty class_of modifier_in modifier_of is_consuming global_of count_width through auto is_temp_of is_move_of consumes global_in takes handed finish effects expr_stmt_effects take_over assign_effects assign_takes
+unfolding same_bytes starts_with first_from and_then or_else inside struct_named struct_shaped struct_of_generic struct_of_ty struct_of has_destructor should_auto_delete class_of_ty class_of modifier_in modifier_of is_consuming global_of count_width through auto is_temp_of is_move_of consumes global_in takes handed finish effects expr_stmt_effects take_over assign_effects assign_takes
 late-lacks = (tt, (tt, (tt, tt)))
 
 late-held : (cs : List Bool) (k : ℕ) → Holding (moment (after tables k (begin late cs)))
-unfolding same_bytes starts_with first_from and_then or_else inside struct_named struct_shaped struct_of_generic struct_of_ty struct_of with_destructor destructor_of should_auto_delete class_of_ty class_of modifier_in modifier_of is_consuming global_of count_width through auto is_temp_of is_move_of consumes global_in takes handed finish effects expr_stmt_effects take_over assign_effects assign_takes
+unfolding same_bytes starts_with first_from and_then or_else inside struct_named struct_shaped struct_of_generic struct_of_ty struct_of has_destructor should_auto_delete class_of_ty class_of modifier_in modifier_of is_consuming global_of count_width through auto is_temp_of is_move_of consumes global_in takes handed finish effects expr_stmt_effects take_over assign_effects assign_takes
 late-held cs zero = tt
 late-held cs (suc zero) = tt
 late-held [] (suc (suc k)) = ended k _ []
@@ -139,7 +139,7 @@ late-held (false ∷ cs) (suc (suc (suc (suc (suc k))))) = ended k _ cs
 
 -- `v` is passed over at the end, where every run holds it
 pub late-breaks : Broken late
-unfolding same_bytes starts_with first_from and_then or_else inside struct_named struct_shaped struct_of_generic struct_of_ty struct_of with_destructor destructor_of should_auto_delete class_of_ty class_of modifier_in modifier_of is_consuming global_of count_width through auto is_temp_of is_move_of consumes global_in takes handed finish effects expr_stmt_effects take_over assign_effects assign_takes
+unfolding same_bytes starts_with first_from and_then or_else inside struct_named struct_shaped struct_of_generic struct_of_ty struct_of has_destructor should_auto_delete class_of_ty class_of modifier_in modifier_of is_consuming global_of count_width through auto is_temp_of is_move_of consumes global_in takes handed finish effects expr_stmt_effects take_over assign_effects assign_takes
 late-breaks d =
     let c = begin late (false ∷ []) in
     let r : Reached tables [] (decided late) (record { path = _; place = _; drops = _; held = _ }) = record { choices = false ∷ []; config = after tables 2 c; steps = after-steps tables 2 c; stands = refl } in

@@ -1,18 +1,19 @@
 -- The claim of the returned body is no empty one: of the body `return ..;` with a parameter `v: T`, given back as it was submitted, it
 -- does not hold, whatever marks are put on it.
 -- Assumes nothing.
-use Rattle.std.proofs.Common.{◌≡◌, ℕ, Bool, not, T as So, List, [], ◌∷◌, sym, refl, ap, ◌∙◌, subst, arith}
-use mathlib.Core.Option.{some, map, some-injective, none-ne-some}
+use Rattle.std.proofs.Common.{◌≡◌, ℕ, Bool, true, false, not, T as So, List, [], ◌∷◌, sym, refl, ap, ◌∙◌, subst, arith}
+use mathlib.Core.Option.{Option, none, some, map, bind, some-injective, none-ne-some}
 use Rattle.tables.specs.Name.{same_bytes, starts_with}
-use Rattle.tables.specs.Signature.{Entry}
+use Rattle.tables.specs.Signature.{Param, Entry}
 use Rattle.tables_lookup.specs.First.{first_from, and_then, or_else}
-use Rattle.tables_lookup.specs.Ty.{inside, struct_named, struct_shaped, struct_of_generic, struct_of_ty, struct_of, with_destructor, destructor_of, should_auto_delete, class_of_ty, class_of}
-use Rattle.image_body.specs.Expr.{count_width, through}
-use Rattle.image_body.specs.Stmt.{Block, done, expr_stmt, variable, assign, return, bare_return, block, if_else, if_then, while, jump}
+use Rattle.tables_lookup.specs.Ty.{inside, struct_named, struct_shaped, struct_of_generic, struct_of_ty, struct_of, has_destructor, should_auto_delete, class_of_ty, class_of}
+use Rattle.tables_lookup.specs.Signature.{modifier_in, modifier_of, is_consuming, global_of}
+use Rattle.image_body.specs.Expr.{Expr, count_width, through}
+use Rattle.image_body.specs.Stmt.{Tree, Block, done, expr_stmt, variable, assign, return, bare_return, block, if_else, if_then, while, jump}
 use Rattle.rules.specs.Questions.{auto, is_temp_of, is_move_of, consumes, global_in}
 use Rattle.rules.specs.Expr.{nobody, called}
 use Rattle.rules.specs.Stack.{Stack}
-use Rattle.rules.specs.Effects.{takes, handed, finish, effects}
+use Rattle.rules.specs.Effects.{takes, handed, finish, effects, expr_stmt_effects, take_over, assign_effects, assign_takes}
 use Rattle.rules.specs.Rules.{holding, drop_of, Decided, Switches, at_return, concerns, entered}
 use Rattle.rules.specs.Report.{forget}
 use Rattle.rules.specs.Run.{returning, deleting, Config, at, Steps, arrived, onward, start, Moment, moment, Reached, holds, Lost, Demand3}
@@ -97,7 +98,7 @@ come =
     record { choices = []; config = after tables 1 c; steps = after-steps tables 1 c; stands = refl }
 
 not-demanded : (w : Switches) → Demand3 (concerns w) tables (param 1 ∷ []) nothing → ⊥
-unfolding same_bytes starts_with first_from and_then or_else inside struct_named struct_shaped struct_of_generic struct_of_ty struct_of with_destructor destructor_of should_auto_delete class_of_ty class_of auto
+unfolding same_bytes starts_with first_from and_then or_else inside struct_named struct_shaped struct_of_generic struct_of_ty struct_of has_destructor should_auto_delete class_of_ty class_of auto
 not-demanded w d =
     let l : Lost tables (param 1 ∷ []) nothing at_it 1 = (d.passed_over at_it come 1 tt tt).0 tt in
     subst (λ (m : Moment). So (not (holds 1 m.held))) (one-moment l.reached.choices l.there l.reached.steps l.reached.stands) l.not_held
@@ -113,7 +114,7 @@ abbrev deletes-returned : Decided
 deletes-returned = return 11 (ident 12 1 1) 1 (drop_of 0 1 1 ∷ []) (done [])
 
 pub returned-kept : (w : Switches) → Demand3 (concerns w) tables (param 1 ∷ []) deletes-returned → ⊥
-unfolding same_bytes starts_with first_from and_then or_else inside struct_named struct_shaped struct_of_generic struct_of_ty struct_of with_destructor destructor_of should_auto_delete class_of_ty class_of auto count_width through is_temp_of is_move_of consumes global_in takes handed finish effects
+unfolding same_bytes starts_with first_from and_then or_else inside struct_named struct_shaped struct_of_generic struct_of_ty struct_of has_destructor should_auto_delete class_of_ty class_of auto count_width through is_temp_of is_move_of consumes global_in takes handed finish effects
 returned-kept w d =
     let c = start tables (param 1 ∷ []) deletes-returned [] in
     d.concerned_only (record { path = []; place = at_return (called 1 12); drops = drop_of 0 1 1 ∷ []; held = held })

@@ -11,4 +11,3 @@ pub mod Room
 pub mod Walk
 pub mod Verdict
 pub mod Pieces
-pub mod Deletes

@@ -7,28 +7,26 @@ use Rattle.image_encoding.specs.Tables.{encode_tables, encode_entry}
 use Rattle.image_encoding.specs.Body.{encode_expr, size}
 use Rattle.image.specs.Image.{Image}
 use Rattle.rules.specs.Rules.{Drop, drop_of, Decided}
-use Rattle.rules.specs.Expr.{ty_of}
 use Rattle.rules.specs.Report.{delete_node, ident_node}
 
--- bytes of the submitted image; bytes put in, with where in them the tag of their Delete stands and the type that was tested; and a
--- block's count with the number of statements put into it
+-- bytes of the submitted image, bytes put in, and a block's count with the number of statements put into it
 pub data Piece : Type 0 where
   kept : List ℕ → Piece
-  put : ℕ → ℕ → List ℕ → Piece
+  put : List ℕ → Piece
   counted : ℕ → ℕ → Piece
 
 -- all pieces, or (false) what is left with the insertions struck out and the counts lowered
 abbrev pub bytes_of : Bool → List Piece → List ℕ
 bytes_of b [] = []
 bytes_of b (kept bs ∷ ps) = bs ++ bytes_of b ps
-bytes_of true (put k t bs ∷ ps) = bs ++ bytes_of true ps
-bytes_of false (put k t bs ∷ ps) = bytes_of false ps
+bytes_of true (put bs ∷ ps) = bs ++ bytes_of true ps
+bytes_of false (put bs ∷ ps) = bytes_of false ps
 bytes_of b (counted n k ∷ ps) = two_bytes (n + cond b k 0) ++ bytes_of b ps
 
 -- inserted delete statements
 abbrev pub deletes : List Drop → List Piece → List Piece
 deletes [] ps = ps
-deletes (drop_of p n t ∷ x) ps = put 5 t (3 ∷ (four_bytes p ++ encode_expr (delete_node p (ident_node p t n)))) ∷ deletes x ps
+deletes (drop_of p n t ∷ x) ps = put (3 ∷ (four_bytes p ++ encode_expr (delete_node p (ident_node p t n)))) ∷ deletes x ps
 
 -- statements put into a block itself
 abbrev pub put_in : Decided → ℕ
@@ -44,15 +42,15 @@ put_in (if_then s e ts t r) = put_in r
 put_in (while s e ts t r) = put_in r
 put_in (jump k s x r) = length x + put_in r
 
--- the delete round an unused result: its tag, span and type; the result's type was tested
-abbrev pub wrapping : Bool → ℕ → ℕ → List Piece → List Piece
-wrapping true s t ps = put 0 t (10 ∷ (four_bytes s ++ two_bytes 0)) ∷ ps
-wrapping false s t ps = ps
+-- the delete round an unused result: its tag, span and type
+abbrev pub wrapping : Bool → ℕ → List Piece → List Piece
+wrapping true s ps = put (10 ∷ (four_bytes s ++ two_bytes 0)) ∷ ps
+wrapping false s ps = ps
 
 -- the statements of a decided body
 abbrev pub pieces : Decided → List Piece → List Piece
 pieces (done x) ps = deletes x ps
-pieces (expr_stmt s e y r) ps = kept (3 ∷ four_bytes s) ∷ wrapping y s (ty_of e) (kept (encode_expr e) ∷ pieces r ps)
+pieces (expr_stmt s e y r) ps = kept (3 ∷ four_bytes s) ∷ wrapping y s (kept (encode_expr e) ∷ pieces r ps)
 pieces (variable k s n t e r) ps = kept (cond k 5 4 ∷ (four_bytes s ++ (two_bytes n ++ two_bytes t))) ∷ kept (encode_expr e) ∷ pieces r ps
 pieces (assign s e v t x r) ps = deletes x (kept (6 ∷ four_bytes s) ∷ kept (encode_expr e) ∷ kept (encode_expr v) ∷ kept (two_bytes t) ∷ pieces r ps)
 pieces (return s e t x r) ps = deletes x (kept (2 ∷ (four_bytes s ++ (1 ∷ []))) ∷ kept (encode_expr e) ∷ kept (two_bytes t) ∷ pieces r ps)

@@ -10,15 +10,13 @@ use Rattle.rules.specs.Rules.{Switches, switches_of}
 use Rattle.rules.specs.Report.{Report, error, warning, left, reports, errors, warnings, lefts, returned_image}
 use Rattle.rules.specs.Room.{room_bound}
 use Rattle.rules.specs.Walk.{image_fault}
-use Rattle.rules.specs.Deletes.{deleted_image, deleted_numbers}
 
--- what is lent: bytes of output, and entries of each list; a list of deletes only to the entry that makes one (02, f)
+-- what is lent: bytes of output, and entries of each list
 pub record Lent : Type 0 where
   pub bytes : ℕ
   pub errors : ℕ
   pub warnings : ℕ
   pub lefts : ℕ
-  pub deletes : Option ℕ
 
 -- an entry of a list as numbers. An error: kind, place, hint, how many other places, and these with zeros up to the limit
 abbrev pub entry_of : Limits → Report → List ℕ
@@ -36,11 +34,9 @@ pub record Answer : Type 0 where
   pub error_count : ℕ
   pub warning_count : ℕ
   pub left_count : ℕ
-  pub delete_count : ℕ
   pub error_numbers : List ℕ
   pub warning_numbers : List ℕ
   pub left_numbers : List ℕ
-  pub delete_numbers : List ℕ
 
 abbrev pub answer_of : Limits → Switches → Image → Answer
 answer_of L w i = record {
@@ -48,11 +44,9 @@ answer_of L w i = record {
   error_count = length (errors (reports w i));
   warning_count = length (warnings (reports w i));
   left_count = length (lefts (reports w i));
-  delete_count = length (deleted_image L w i);
   error_numbers = entries_of L (errors (reports w i));
   warning_numbers = entries_of L (warnings (reports w i));
   left_numbers = entries_of L (lefts (reports w i));
-  delete_numbers = deleted_numbers (deleted_image L w i);
 }
 
 -- every block counts at most so many statements
@@ -76,14 +70,9 @@ pub data Verdict : Type 0 where
   refuses : ℕ → Verdict
   answers : Answer → Verdict
 
--- a list that is not lent is not asked for
-abbrev pub asked : Option ℕ → ℕ → Bool
-asked Option.none c = true
-asked (some n) c = nat_le c n
-
--- 14: deletes, errors, warnings or left-behind entries outnumber those lent
+-- 14: errors, warnings or left-behind entries outnumber those lent
 abbrev pub lists_fit : Lent → Answer → Bool
-lists_fit lent a = asked lent.deletes a.delete_count && (nat_le a.error_count lent.errors && nat_le a.warning_count lent.warnings && nat_le a.left_count lent.lefts)
+lists_fit lent a = nat_le a.error_count lent.errors && nat_le a.warning_count lent.warnings && nat_le a.left_count lent.lefts
 
 -- 15: the image does not fit the bytes lent, or a block would count over 65,535 statements
 abbrev pub output_fits : Switches → Lent → Image → Answer → Bool
@@ -106,7 +95,7 @@ decided L w lent (accepted i) = walked L w lent i (image_fault L w i)
 abbrev pub too_high : ℕ → Bool
 too_high v = nat_lt 15 v
 
--- the entries that give back the body, with or without a list of deletes, given the value of the switches
+-- the entry that gives back the body, given the value of the switches
 unfoldable pub pass_verdict : Limits → Lent → ℕ → List ℕ → Verdict
 pass_verdict L lent v s = cond (too_high v) (refuses 17) (decided L (switches_of v) lent (decode L s))
 

@@ -1,6 +1,6 @@
 // The scope stack of the ownership pass in two structs by value: locals, which only registrations change, and their states, which marks
 // and joins change. The places of a state that has several stand in lent rows. Every operation equals its rule, through `view`.
-ghost use Rattle.std.specs.Prelude.{◌≡◌, ℕ, ◌-◌, ◌^◌, ◌<◌, ◌≤◌, Bool, false, cond, not, ◌&&◌, [], ◌∷◌, ◌==◌, nat_le, slice_index};
+ghost use Rattle.std.specs.Prelude.{◌≡◌, ℕ, ◌-◌, ◌^◌, ◌<◌, ◌≤◌, Bool, false, cond, not, ◌&&◌, [], ◌∷◌, length, ◌==◌, nat_le, slice_index};
 ghost use Rattle.tables.specs.Tables.{Tables};
 ghost use Rattle.rules.specs.State.{State as Status};
 ghost use Rattle.scope_state.specs.Kinds.{said, put};

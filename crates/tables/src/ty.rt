@@ -1,5 +1,5 @@
 // The table of types.
-ghost use Rattle.std.specs.Prelude.{◌≡◌, ℕ, ◌+◌, ◌-◌, ◌<◌, ◌≤◌, ◌||◌, List, [], length, take, if◌then◌else◌, ◌==◌, nat_eq, nat_lt, slice_index};
+ghost use Rattle.std.specs.Prelude.{◌≡◌, ℕ, ◌+◌, ◌-◌, ◌<◌, ◌≤◌, ◌||◌, List, [], map, length, take, if◌then◌else◌, ◌==◌, nat_eq, nat_lt, slice_index};
 ghost use Rattle.image_fields.specs.Parsed.{ok};
 ghost use Rattle.image_fields.specs.Table.{table_from};
 ghost use Rattle.image_fields.specs.Answer.{table_of};

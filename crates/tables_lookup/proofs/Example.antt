@@ -4,7 +4,7 @@ use mathlib.Core.Option.{Option, none, some}
 use Rattle.tables.specs.Ty.{Ty}
 use Rattle.tables.specs.Signature.{Struct}
 use Rattle.tables_lookup.specs.First.{first_from, and_then, or_else}
-use Rattle.tables_lookup.specs.Ty.{inside, struct_named, struct_shaped, struct_of_generic, struct_of_ty, struct_of, with_destructor, destructor_of, should_auto_delete, class_of_ty, class_of}
+use Rattle.tables_lookup.specs.Ty.{inside, struct_named, struct_shaped, struct_of_generic, struct_of_ty, struct_of, has_destructor, should_auto_delete, class_of_ty, class_of}
 use Rattle.tables_lookup.specs.Signature.{modifier_in, modifier_of}
 
 abbrev ty : ℕ → ℕ → ℕ → Ty
@@ -52,5 +52,5 @@ table =
     ∷ []
 
 answers : map (λ r. row r.ty (struct_of types structs r.ty) (should_auto_delete types structs r.ty) (modifier_of types structs r.ty 20)) table ≡ table
-unfolding first_from and_then or_else inside struct_named struct_shaped struct_of_generic struct_of_ty struct_of with_destructor destructor_of should_auto_delete class_of_ty class_of modifier_in modifier_of
+unfolding first_from and_then or_else inside struct_named struct_shaped struct_of_generic struct_of_ty struct_of has_destructor should_auto_delete class_of_ty class_of modifier_in modifier_of
 answers = refl

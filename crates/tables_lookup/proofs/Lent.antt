@@ -1,8 +1,6 @@
 -- The tables that are lent: how many entries there are, what is answered past them, and that all below 840 says what they are.
 -- Assumes nothing.
-use Rattle.std.proofs.Common.{◌≡◌, ℕ, zero, suc, ◌+◌, ◌-◌, ◌<◌, ◌≤◌, false, ltb, List, [], ◌∷◌, map, length, get_or, take, drop, set, sym, refl, ap, ◌∙◌, subst, ⊎_elim, arith, length-set, get_or-set_other, get_or-take, get_or-set_same, take-take, lt-ltb}
-use mathlib.Core.Option.{Option, none, some}
-use lib.ListN.{length-map}
+use Rattle.std.proofs.Common.{◌≡◌, ℕ, zero, suc, ◌+◌, ◌-◌, ◌<◌, ◌≤◌, false, eqb, List, [], ◌∷◌, map, length, get_or, take, drop, set, sym, refl, ap, ◌∙◌, subst, ⊎_elim, arith, length-set, get_or-set_other, get_or-take, get_or-set_same, take-take}
 use lib.Seq.{length-slice, slice, take-nil, take-set-le}
 use Rattle.tables.specs.Tables.{Tables}
 use Rattle.image_fields.specs.Table.{entries}
@@ -11,13 +9,9 @@ use Rattle.tables.specs.Ty.{type_in}
 use Rattle.tables.specs.Signature.{struct_in, global_in}
 use Rattle.image_fields.proofs.Tests.{less}
 use Rattle.tables_lookup.specs.First.{AllWithin}
-use Rattle.tables_lookup.specs.Ty.{Lower, destructor_of, is_found, should_auto_delete}
-use Rattle.tables_lookup.specs.Lent.{names_in, types_in, structs_in, kept_as, Filled, Lent, Says}
-use Rattle.tables_lookup.specs.Answer.{found_of, Small}
-use Rattle.tables_lookup.specs.declared.Found.{Found}
-use Rattle.tables_lookup.specs.declared.Found.TheVariants.{At, Nothing}
-use Rattle.tables_lookup.proofs.First.{was-found, was-missing}
-use Rattle.tables_lookup.proofs.Ty.{past-struct, not-deleted, small-found}
+use Rattle.tables_lookup.specs.Ty.{Lower, should_auto_delete}
+use Rattle.tables_lookup.specs.Lent.{names_in, types_in, structs_in, Filled, Lent, Says}
+use Rattle.tables_lookup.proofs.Ty.{past-struct, keeps}
 
 -- a part, as the code borrows it
 pub part-is : (from to : ℕ) (l : List ℕ) → from ≤ to → take (to - from) (drop from l) ≡ slice from to l
@@ -58,10 +52,6 @@ module _ {s tb : List ℕ} where
   pub structs-said : {T : Tables} → Says s tb T → map (struct_in s) (take (776 + get_or tb 2 0 - 776) (drop 776 tb)) ≡ T.structs
   structs-said h = ap (map (struct_in s)) (structs-lent tb) ∙ h.structs
 
-positive : (o : Option ℕ) → ltb 0 (kept_as o) ≡ is_found o
-positive none = refl
-positive (some i) = lt-ltb 0 (suc i) (omega arith)
-
 -- a part of so many numbers
 part-many : (from n : ℕ) (tb : List ℕ) → from + n ≤ length tb → length (slice from (from + n) tb) ≡ n
 part-many from n tb le = let e = length-slice from (from + n) tb le in omega arith
@@ -78,19 +68,14 @@ module _ (tb : List ℕ) (size : length tb ≡ 1096) where
 
   -- what is answered below the number of types, and past them
   module _ (s : List ℕ) (T : Tables) (says : Says s tb T) where
-    pub drops-there : Lent s tb → (t : ℕ) → t < get_or tb 1 0 → get_or tb (840 + t) 0 ≡ kept_as (destructor_of T.types T.structs t)
-    drops-there lent t lt =
-        lent.drops t lt ∙ ap (λ ts. kept_as (destructor_of ts (map (struct_in s) (structs_in tb)) t)) says.types ∙ ap (λ xs. kept_as (destructor_of T.types xs t)) says.structs
-
-    pub deleted-there : Lent s tb → (t : ℕ) → t < get_or tb 1 0 → ltb 0 (get_or tb (840 + t) 0) ≡ should_auto_delete T.types T.structs t
-    unfolding should_auto_delete
-    deleted-there lent t lt = ap (ltb 0) (drops-there lent t lt) ∙ positive (destructor_of T.types T.structs t)
+    pub drops-there : Lent s tb → (t : ℕ) → t < get_or tb 1 0 → eqb (get_or tb (840 + t) 0) 1 ≡ should_auto_delete T.types T.structs t
+    drops-there lent t lt = lent.drops t lt ∙ ap (λ ts. should_auto_delete ts (map (struct_in s) (structs_in tb)) t) says.types ∙ ap (λ xs. should_auto_delete T.types xs t) says.structs
 
     pub drops-past : get_or tb 1 0 ≤ 256 → (t : ℕ) → get_or tb 1 0 ≤ t → false ≡ should_auto_delete T.types T.structs t
     drops-past few t le =
         let m = types-many few in
         subst (λ ts. false ≡ should_auto_delete ts T.structs t) says.types
-        (not-deleted (map (type_in s) (types_in tb)) s (types_in tb) t T.structs (past-struct s (types_in tb) t T.structs (omega arith)))
+        (keeps (map (type_in s) (types_in tb)) s (types_in tb) t T.structs (past-struct s (types_in tb) t T.structs (omega arith)))
 
 -- some tables stand there
 abbrev pub tables_of : List ℕ → List ℕ → Tables
@@ -124,10 +109,10 @@ module _ (tb tb' : List ℕ) (e : take 840 tb' ≡ take 840 tb) where
     structs-kept : structs_in tb' ≡ structs_in tb
     structs-kept = part-kept 776 2 64 (omega arith) f.few_structs (omega arith)
 
-    pub asks-kept : (t : ℕ) → kept_as (destructor_of (map (type_in s) (types_in tb')) (map (struct_in s) (structs_in tb')) t) ≡ kept_as (destructor_of (map (type_in s) (types_in tb)) (map (struct_in s) (structs_in tb)) t)
+    pub asks-kept : (t : ℕ) → should_auto_delete (map (type_in s) (types_in tb')) (map (struct_in s) (structs_in tb')) t ≡ should_auto_delete (map (type_in s) (types_in tb)) (map (struct_in s) (structs_in tb)) t
     asks-kept t =
-        ap (λ ts. kept_as (destructor_of (map (type_in s) ts) (map (struct_in s) (structs_in tb')) t)) types-kept
-        ∙ ap (λ xs. kept_as (destructor_of (map (type_in s) (types_in tb)) (map (struct_in s) xs) t)) structs-kept
+        ap (λ ts. should_auto_delete (map (type_in s) ts) (map (struct_in s) (structs_in tb')) t) types-kept
+        ∙ ap (λ xs. should_auto_delete (map (type_in s) (types_in tb)) (map (struct_in s) xs) t) structs-kept
 
     pub filled-kept : length tb' ≡ 1096 → Filled s tb'
     filled-kept size = record {
@@ -154,7 +139,7 @@ module _ (tb tb' : List ℕ) (e : take 840 tb' ≡ take 840 tb) where
 pub record Asked (s tb tb' : List ℕ) (n : ℕ) : Type 0 where
   pub size : length tb' ≡ 1096
   pub kept : take 840 tb' ≡ take 840 tb
-  pub are : (t : ℕ) → t < n → get_or tb' (840 + t) 0 ≡ kept_as (destructor_of (map (type_in s) (types_in tb)) (map (struct_in s) (structs_in tb)) t)
+  pub are : (t : ℕ) → t < n → eqb (get_or tb' (840 + t) 0) 1 ≡ should_auto_delete (map (type_in s) (types_in tb)) (map (struct_in s) (structs_in tb)) t
 
 module _ (s tb : List ℕ) (f : Filled s tb) where
   pub none-asked : Asked s tb tb 0
@@ -164,24 +149,16 @@ module _ (s tb : List ℕ) (f : Filled s tb) where
     pub still-filled : Filled s tb'
     still-filled = filled-kept tb tb' a.kept s f a.size
 
-    pub small-asked : (t : ℕ) (r : Found) → r ≡ found_of (destructor_of (map (type_in s) (types_in tb')) (map (struct_in s) (structs_in tb')) t) → Small r
-    small-asked t r e =
-        let g = still-filled in
-        let m = structs-many tb' g.size g.few_structs in
-        let h : length (structs_in tb') ≤ 64 = let k = g.few_structs in omega arith in
-        let mapped : length (map (struct_in s) (structs_in tb')) ≤ 64 = simp length-map h in
-        small-found _ _ t mapped r e
-
-    pub one-asked : n < 256 → (v : ℕ) → v ≡ kept_as (destructor_of (map (type_in s) (types_in tb')) (map (struct_in s) (structs_in tb')) n) → Asked s tb (set tb' (840 + n) v) (n + 1)
+    pub one-asked : n < 256 → (v : ℕ) → eqb v 1 ≡ should_auto_delete (map (type_in s) (types_in tb')) (map (struct_in s) (structs_in tb')) n → Asked s tb (set tb' (840 + n) v) (n + 1)
     one-asked few v e = record {
       size = length-set tb' (840 + n) v ∙ a.size;
       kept = take-set-le 840 tb' (840 + n) v (omega arith) ∙ a.kept;
       are = λ t lt.
           ⊎_elim
-          (λ below. get_or-set_other tb' (840 + n) (840 + t) v 0 (λ z. omega arith) ∙ a.are t below)
+          (λ below. ap (λ x. eqb x 1) (get_or-set_other tb' (840 + n) (840 + t) v 0 (λ z. omega arith)) ∙ a.are t below)
           (λ past. let z : n ≡ t = omega arith in
-          subst (λ k. get_or (set tb' (840 + n) v) (840 + k) 0 ≡ kept_as (destructor_of (map (type_in s) (types_in tb)) (map (struct_in s) (structs_in tb)) k)) z
-          (get_or-set_same tb' (840 + n) v 0 (let k = a.size in omega arith) ∙ e ∙ asks-kept tb tb' a.kept s f n))
+          subst (λ k. eqb (get_or (set tb' (840 + n) v) (840 + k) 0) 1 ≡ should_auto_delete (map (type_in s) (types_in tb)) (map (struct_in s) (structs_in tb)) k) z
+          (ap (λ x. eqb x 1) (get_or-set_same tb' (840 + n) v 0 (let k = a.size in omega arith)) ∙ e ∙ asks-kept tb tb' a.kept s f n))
           (less t n);
     }
 
@@ -191,13 +168,3 @@ module _ (s tb : List ℕ) (f : Filled s tb) where
           filled = still-filled;
           drops = λ t lt. a.are t (let k = number-kept tb tb' a.kept 1 (omega arith) in omega arith) ∙ sym (asks-kept tb tb' a.kept s f t);
         }
-
--- an answer that was found, and none, as they are kept
-pub small_at : {r : Found} {i : ℕ} → Small r → r ≡ At i → i < 65536
-small_at h e = subst Small e h
-
-pub kept-found : (o : Option ℕ) {r : Found} {i v : ℕ} → r ≡ found_of o → r ≡ At i → v ≡ i + 1 → v ≡ kept_as o
-kept-found o {r} {i} {v} e f h = let z : v ≡ suc i = omega arith in z ∙ sym (ap kept_as (was-found e f))
-
-pub kept-none : (o : Option ℕ) {r : Found} → r ≡ found_of o → r ≡ Nothing → 0 ≡ kept_as o
-kept-none o e f = sym (ap kept_as (was-missing e f))

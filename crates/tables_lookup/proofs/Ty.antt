@@ -8,10 +8,7 @@ use Rattle.image_fields.proofs.Tests.{split}
 use Rattle.tables.specs.Ty.{Ty, of_width, shape_width, type_in}
 use Rattle.tables.specs.Signature.{Struct, struct_in}
 use Rattle.tables_lookup.specs.First.{first_from, or_else, is_number}
-use Rattle.tables_lookup.specs.Ty.{type_no, struct_no, Lower, inside, innermost, struct_named, struct_shaped, struct_of_generic, struct_of_ty, struct_of, with_destructor, destructor_of, is_found, should_auto_delete, class_of_ty, class_of}
-use Rattle.tables_lookup.specs.Answer.{found_of, Small}
-use Rattle.tables_lookup.specs.declared.Found.{Found}
-use Rattle.tables_lookup.specs.declared.Found.TheVariants.{At, Nothing}
+use Rattle.tables_lookup.specs.Ty.{type_no, struct_no, Lower, inside, innermost, struct_named, struct_shaped, struct_of_generic, struct_of_ty, struct_of, has_destructor, should_auto_delete, class_of_ty, class_of}
 use Rattle.tables_lookup.proofs.First.{first-map, first_below, viewed}
 
 -- inside types of a kind
@@ -228,59 +225,14 @@ module _ (types : List Ty) (s starts : List ℕ) (t : ℕ) where
   pub found_in : {i : ℕ} → struct_of types (map (struct_in s) starts) t ≡ some i → i < length starts
   found_in {i} e = let g : i < length (map (struct_in s) starts) = struct-below (map (struct_in s) starts) types t e in simp length-map at g
 
-  asked_of : {i k : ℕ} → struct_of types (map (struct_in s) starts) t ≡ some i → k ≡ get_or s (get_or starts i 0 + 2) 0
-      → destructor_of types (map (struct_in s) starts) t ≡ cond (eqb k 1) (some i) none
-  unfolding destructor_of with_destructor
-  asked_of {i} {k} e f = rw e (ap (λ x. cond (eqb x 1) (some i) none) (sym (f ∙ sym (ap (λ x. x.destructor) (viewed (struct_in s) starts i _ (found_in e))))))
+  pub deletes : {i k : ℕ} → struct_of types (map (struct_in s) starts) t ≡ some i → k ≡ get_or s (get_or starts i 0 + 2) 0
+      → eqb k 1 ≡ should_auto_delete types (map (struct_in s) starts) t
+  unfolding should_auto_delete has_destructor
+  deletes {i} {k} e f = rw e (ap (λ x. eqb x 1) (f ∙ sym (ap (λ x. x.destructor) (viewed (struct_in s) starts i _ (found_in e)))))
 
-  pub deletes : {i k : ℕ} → struct_of types (map (struct_in s) starts) t ≡ some i → k ≡ get_or s (get_or starts i 0 + 2) 0 → k ≡ 1
-      → At i ≡ found_of (destructor_of types (map (struct_in s) starts) t)
-  unfolding found_of
-  deletes {i} {k} e f h = sym (ap found_of (asked_of e f ∙ ap (λ (b : Bool). cond b (some i) none) (eq-eqb k 1 h)))
-
-  pub spares : {i k : ℕ} → struct_of types (map (struct_in s) starts) t ≡ some i → k ≡ get_or s (get_or starts i 0 + 2) 0 → (k ≡ 1 → ⊥)
-      → Nothing ≡ found_of (destructor_of types (map (struct_in s) starts) t)
-  unfolding found_of
-  spares {i} {k} e f h = sym (ap found_of (asked_of e f ∙ ap (λ (b : Bool). cond b (some i) none) (ne_eqb k 1 h)))
-
-  none-asked : (structs : List Struct) → struct_of types structs t ≡ none → destructor_of types structs t ≡ none
-  unfolding destructor_of with_destructor
-  none-asked structs e = rw e
-
-  pub keeps : (structs : List Struct) → struct_of types structs t ≡ none → Nothing ≡ found_of (destructor_of types structs t)
-  unfolding found_of
-  keeps structs e = sym (ap found_of (none-asked structs e))
-
-  pub not-deleted : (structs : List Struct) → struct_of types structs t ≡ none → false ≡ should_auto_delete types structs t
-  unfolding should_auto_delete
-  not-deleted structs e = sym (ap is_found (none-asked structs e))
-
--- the struct that is answered is in the table, and has a destructor
-pub record Answers (structs : List Struct) (i : ℕ) : Type 0 where
-  pub below : i < length structs
-  pub destructor : (struct_no structs i).destructor ≡ 1
-
-pub destructor-there : (types : List Ty) (structs : List Struct) (t i : ℕ) → destructor_of types structs t ≡ some i → Answers structs i
-unfolding destructor_of with_destructor
-destructor-there types structs t i = go (struct_of types structs t) refl
-  where
-    go : (o : Option ℕ) → struct_of types structs t ≡ o → with_destructor structs o ≡ some i → Answers structs i
-    go none e f = none-some f
-    go (some j) e f = had (eqb (struct_no structs j).destructor 1) refl f
-      where
-        had : (b : Bool) → eqb (struct_no structs j).destructor 1 ≡ b → cond b (some j) none ≡ some i → Answers structs i
-        had true z g =
-            let q : j ≡ i = cc in
-            subst (Answers structs) q (record { below = struct-below structs types t e; destructor = eqb-true _ _ z })
-        had false z g = none-some g
-
-pub small-found : (types : List Ty) (structs : List Struct) (t : ℕ) → length structs ≤ 64 → (r : Found) → r ≡ found_of (destructor_of types structs t) → Small r
-unfolding found_of
-small-found types structs t few r e = go (destructor_of types structs t) refl r e
-  where
-    go : (o : Option ℕ) → destructor_of types structs t ≡ o → (r : Found) → r ≡ found_of o → Small r
-    go none z r e = subst Small (sym e) tt
-    go (some i) z r e = let k = destructor-there types structs t i z in subst Small (sym e) (omega (arith, k.below, few))
+  pub keeps : (structs : List Struct) → struct_of types structs t ≡ none → false ≡ should_auto_delete types structs t
+  unfolding should_auto_delete has_destructor
+  keeps structs e = rw e
 
 -- shape 0 matches none
 pub shape-zero : (k : ℕ) (structs : List Struct) → k ≡ 0 → struct_shaped k structs ≡ none
@@ -290,7 +242,7 @@ shape-zero k structs e = rw e
 -- a generic type whose plain name's struct has no destructor is not deleted, whatever its shape
 pub no-destructor : (types : List Ty) (structs : List Struct) (t i : ℕ) → (type_no types t).kind ≡ 2
     → struct_named (type_no types t).of structs ≡ some i → (struct_no structs i).destructor ≡ 0 → should_auto_delete types structs t ≡ false
-unfolding should_auto_delete destructor_of with_destructor
+unfolding should_auto_delete has_destructor
 no-destructor types structs t i k e d =
     let f : struct_of types structs t ≡ some i =
     struct-here types t structs (λ z. absurd (omega arith)) ∙ generic-struct structs (type_no types t) k ∙ generic-named _ _ structs e
@@ -299,7 +251,7 @@ no-destructor types structs t i k e d =
 
 -- a pointer is not deleted
 pub pointer-kept : (types : List Ty) (structs : List Struct) (t : ℕ) → (type_no types t).kind ≡ 4 → should_auto_delete types structs t ≡ false
-unfolding should_auto_delete destructor_of with_destructor
+unfolding should_auto_delete has_destructor
 pointer-kept types structs t k =
     let f : struct_of types structs t ≡ none =
     struct-here types t structs (λ z. omega arith) ∙ no-struct structs (type_no types t) (λ z. omega arith) (λ z. omega arith)

@@ -1,5 +1,5 @@
 -- The code's answer for what the definitions say.
-use Rattle.std.specs.Prelude.{ℕ, ◌<◌}
+use Rattle.std.specs.Prelude.{ℕ}
 use Rattle.std.proofs.Math.Option.{Option, none, some}
 use Rattle.tables_lookup.specs.declared.Found.{Found}
 use Rattle.tables_lookup.specs.declared.Found.TheVariants.{At, Nothing}
@@ -7,8 +7,3 @@ use Rattle.tables_lookup.specs.declared.Found.TheVariants.{At, Nothing}
 unfoldable pub found_of : Option ℕ → Found
 found_of none = Nothing
 found_of (some n) = At n
-
--- a number that fits, or nothing
-abbrev pub Small : Found → Type 0
-Small Nothing = Unit {0}
-Small (At n) = n < 65536

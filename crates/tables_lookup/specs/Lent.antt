@@ -1,7 +1,6 @@
 -- The tables of an image as they are lent, 1,096 numbers: how many names, types, structs and globals there are and where the globals
--- stand; from 8, 520 and 776 on where each name, type and struct stands; from 840 on, for each type, which destructor deletes its values.
-use Rattle.std.specs.Prelude.{◌≡◌, ℕ, suc, ◌+◌, ◌*◌, ◌<◌, ◌≤◌, List, map, length, slice_index, slice_index_or}
-use Rattle.std.proofs.Math.Option.{Option, none, some}
+-- stand; from 8, 520 and 776 on where each name, type and struct stands; from 840 on, for each type, 1 if its values are deleted.
+use Rattle.std.specs.Prelude.{◌≡◌, ℕ, ◌+◌, ◌*◌, ◌<◌, ◌≤◌, List, map, length, ◌==◌, slice_index, slice_index_or}
 use Rattle.std.proofs.Math.Seq.{slice}
 use Rattle.image_fields.specs.Table.{entries}
 use Rattle.tables.specs.Tables.{Tables}
@@ -9,7 +8,7 @@ use Rattle.tables.specs.Name.{name_of}
 use Rattle.tables.specs.Ty.{type_in}
 use Rattle.tables.specs.Signature.{struct_in, global_in}
 use Rattle.tables_lookup.specs.First.{AllWithin}
-use Rattle.tables_lookup.specs.Ty.{Lower, destructor_of}
+use Rattle.tables_lookup.specs.Ty.{Lower, should_auto_delete}
 
 -- where the names, types and structs stand
 abbrev pub names_in : List ℕ → List ℕ
@@ -37,15 +36,10 @@ pub record Filled (s tb : List ℕ) : Type 0 where
 abbrev pub Sized : List ℕ → Type 0
 Sized tb = (length tb ≡ 1096) × (slice_index tb 1 ≤ 256)
 
--- as it is kept: 0 for none, else one more than the struct's number
-abbrev pub kept_as : Option ℕ → ℕ
-kept_as none = 0
-kept_as (some i) = suc i
-
 -- what the questions to the tables require of what is lent
 pub record Lent (s tb : List ℕ) : Type 0 where
   pub filled : Filled s tb
-  pub drops : (t : ℕ) → t < slice_index tb 1 → slice_index tb (840 + t) ≡ kept_as (destructor_of (map (type_in s) (types_in tb)) (map (struct_in s) (structs_in tb)) t)
+  pub drops : (t : ℕ) → t < slice_index tb 1 → (slice_index tb (840 + t) == 1) ≡ should_auto_delete (map (type_in s) (types_in tb)) (map (struct_in s) (structs_in tb)) t
 
 -- the tables that stand there
 pub record Says (s tb : List ℕ) (T : Tables) : Type 0 where

@@ -1,5 +1,5 @@
 -- What a type answers: its struct, whether its values are deleted, its class.
-use Rattle.std.specs.Prelude.{ℕ, zero, suc, ◌<◌, ◌≤◌, Bool, true, false, cond, List, [], ◌==◌, nat_eq, slice_index_or}
+use Rattle.std.specs.Prelude.{ℕ, zero, suc, ◌<◌, ◌≤◌, Bool, false, cond, List, [], ◌==◌, nat_eq, slice_index_or}
 use Rattle.std.proofs.Math.Option.{Option, none, some}
 use Rattle.tables.specs.Ty.{Ty}
 use Rattle.tables.specs.Signature.{Struct}
@@ -13,10 +13,10 @@ type_no types t = slice_index_or types t (record { kind = 0; of = 0; shape = 0 }
 abbrev pub struct_no : List Struct → ℕ → Struct
 struct_no structs i = slice_index_or structs i (record { name = 0; destructor = 0; shape = 0; methods = [] })
 
--- sig.is_some_and(|sig| sig.destructor.is_some()), the struct by its number: that number again if it has a destructor
-unfoldable pub with_destructor : List Struct → Option ℕ → Option ℕ
-with_destructor structs none = none
-with_destructor structs (some i) = cond ((struct_no structs i).destructor == 1) (some i) none
+-- sig.is_some_and(|sig| sig.destructor.is_some()), the struct by its number
+unfoldable pub has_destructor : List Struct → Option ℕ → Bool
+has_destructor structs none = false
+has_destructor structs (some i) = (struct_no structs i).destructor == 1
 
 -- an inline array or pointer has a lower type
 abbrev pub Lower : List Ty → Type 0
@@ -53,17 +53,9 @@ struct_of_ty structs t =
 unfoldable pub struct_of : List Ty → List Struct → ℕ → Option ℕ
 struct_of types structs t = struct_of_ty structs (innermost 3 types t)
 
--- should_auto_delete, answered with the number of the struct whose destructor it is (02, f)
-unfoldable pub destructor_of : List Ty → List Struct → ℕ → Option ℕ
-destructor_of types structs t = with_destructor structs (struct_of types structs t)
-
--- is there one
-abbrev pub is_found : Option ℕ → Bool
-is_found none = false
-is_found (some i) = true
-
+-- should_auto_delete
 unfoldable pub should_auto_delete : List Ty → List Struct → ℕ → Bool
-should_auto_delete types structs t = is_found (destructor_of types structs t)
+should_auto_delete types structs t = has_destructor structs (struct_of types structs t)
 
 -- class_name_from_receiver_ty: the name of a named type, behind pointers. A generic receiver is fault 11
 unfoldable pub class_of_ty : Ty → Option ℕ

@@ -1,14 +1,13 @@
 // What the tables of an image answer of types and structs: every answer equals what the definitions of specs/ say of the entries in
 // the bytes.
-ghost use Rattle.std.specs.Prelude.{◌≡◌, ℕ, ◌+◌, ◌*◌, ◌<◌, List, map, take};
-ghost use Rattle.std.proofs.Math.Option.{Option};
+ghost use Rattle.std.specs.Prelude.{◌≡◌, ℕ, ◌+◌, ◌*◌, ◌<◌, ◌≤◌, List, map, length, take};
 ghost use Rattle.tables.specs.Tables.{Tables};
 ghost use Rattle.tables.specs.Ty.{type_in};
 ghost use Rattle.tables.specs.Signature.{struct_in};
 ghost use Rattle.tables_lookup.specs.First.{first_from, is_number, positions, AllWithin};
-ghost use Rattle.tables_lookup.specs.Ty.{Lower, struct_named, struct_shaped, struct_of_generic, struct_of, destructor_of, should_auto_delete};
-ghost use Rattle.tables_lookup.specs.Lent.{Filled, Lent, Says, Sized, structs_in, types_in, kept_as};
-ghost use Rattle.tables_lookup.specs.Answer.{found_of, Small};
+ghost use Rattle.tables_lookup.specs.Ty.{Lower, struct_named, struct_shaped, struct_of_generic, struct_of, should_auto_delete};
+ghost use Rattle.tables_lookup.specs.Lent.{Filled, Lent, Says, Sized, structs_in, types_in};
+ghost use Rattle.tables_lookup.specs.Answer.{found_of};
 
 // What was found, a number, or nothing.
 #[derive(Drop)]
@@ -111,42 +110,28 @@ fn struct_of_type(s: &[u8], types: &[u32], structs: &[u32], ty: usize) -> Found
     Found::Nothing
 }
 
-// Whether a local of the type is deleted at the end of its scope, and by which struct's destructor.
-pub fn should_auto_delete(s: &[u8], types: &[u32], structs: &[u32], ty: usize) -> Found
+// Whether a local of the type is deleted at the end of its scope.
+pub fn should_auto_delete(s: &[u8], types: &[u32], structs: &[u32], ty: usize) -> bool
     requires { AllWithin s.now types.now × AllWithin s.now structs.now × Lower (map (type_in s.now) types.now) }
-    ensures { result ≡ found_of (destructor_of (map (type_in s.now) types.now) (map (struct_in s.now) structs.now) ty) }
+    ensures { result ≡ should_auto_delete (map (type_in s.now) types.now) (map (struct_in s.now) structs.now) ty }
 {
-    let Found::At(i) = struct_of_type(s, types, structs, ty) else {
-        return Found::Nothing;
-    };
-    if image_fields::peek(s, structs[i] as usize + 2) == 1 {
-        return Found::At(i);
+    match struct_of_type(s, types, structs, ty) {
+        Found::At(i) => image_fields::peek(s, structs[i] as usize + 2) == 1,
+        Found::Nothing => false,
     }
-    Found::Nothing
 }
 
 // The same of the tables that are lent.
-fn deleted_in(s: &[u8], tb: &[u32], ty: usize) -> Found
+fn deleted_in(s: &[u8], tb: &[u32], ty: usize) -> bool
     requires { Filled s.now tb.now }
-    ensures { result ≡ found_of (destructor_of (map (type_in s.now) (types_in tb.now)) (map (struct_in s.now) (structs_in tb.now)) ty) }
+    ensures { result ≡ should_auto_delete (map (type_in s.now) (types_in tb.now)) (map (struct_in s.now) (structs_in tb.now)) ty }
 {
     let types_end = 520 + tb[1] as usize;
     let structs_end = 776 + tb[2] as usize;
     should_auto_delete(s, &tb[520..types_end], &tb[776..structs_end], ty)
 }
 
-// An answer as it is kept.
-fn kept_as(found: Found) -> u32
-    requires { Small found }
-    ensures { (o : Option ℕ) → found ≡ found_of o → result ≡ kept_as o }
-{
-    match found {
-        Found::At(i) => i as u32 + 1,
-        Found::Nothing => 0,
-    }
-}
-
-// Asks it once for each type.
+// Asks it once for each type: 1 if its values are deleted.
 pub fn fill_drops(s: &[u8], tb: &mut [u32])
     requires { Filled s.now tb.old }
     ensures { Lent s.now tb.new × (take 840 tb.new ≡ take 840 tb.old) }
@@ -154,8 +139,8 @@ pub fn fill_drops(s: &[u8], tb: &mut [u32])
     let count = tb[1] as usize;
     let mut t = 0;
     while t < count {
-        let found = deleted_in(s, &tb[..], t);
-        tb[840 + t] = kept_as(found);
+        let deleted = deleted_in(s, &tb[..], t);
+        tb[840 + t] = if deleted { 1 } else { 0 };
         t += 1;
     }
 }
@@ -167,7 +152,7 @@ pub fn auto_deleted(tb: &[u32], ty: usize) -> bool
 {
     let count = tb[1] as usize;
     if ty < count {
-        return 0 < tb[840 + ty];
+        return tb[840 + ty] == 1;
     }
     false
 }

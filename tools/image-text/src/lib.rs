@@ -1,7 +1,6 @@
 //! Images of document 01 as text, and back into the same bytes.
 
 pub mod bytes;
-pub mod deletes;
 pub mod diff;
 mod lex;
 mod parse;

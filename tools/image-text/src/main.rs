@@ -1,6 +1,6 @@
 //! image-text: see tools/README.md.
 
-use image_text::{deletes::{certify, read_list}, diff::diff, print_image, read_image, read_text, Fault, Limits, RETURNED, SUBMITTED};
+use image_text::{diff::diff, print_image, read_image, read_text, Fault, Limits, RETURNED, SUBMITTED};
 use std::io::{self, Read, Write};
 use std::process::ExitCode;
 
@@ -8,19 +8,16 @@ const USAGE: &str = "\
 usage: image-text [--offsets] [--returned] [IMAGE]   print an image as text
        image-text --read [--returned] [TEXT]         write the image of a text
        image-text --diff SUBMITTED RETURNED          list a body with what was inserted
-       image-text --deletes SUBMITTED RETURNED LIST  check a list of what was inserted
 
 Without a file, or with -, standard input is read. --offsets adds the byte offsets of statements and callees as comments;
---returned lifts the limits that a returned image may pass: 65,536 bytes, and depth 24 by one. --diff and
---deletes take images or texts; LIST has a line OFFSET STRUCT for each entry.
-Exit status: 0, or 1 for bad input, for a RETURNED that is not SUBMITTED with insertions and for a wrong LIST, or 2 for a wrong command.
+--returned lifts the limits that a returned image may pass: 65,536 bytes, and depth 24 by one. --diff takes images or texts.
+Exit status: 0, or 1 for bad input and for a RETURNED that is not SUBMITTED with insertions, or 2 for a wrong command.
 ";
 
 #[derive(Default)]
 struct Arguments {
     read: bool,
     diff: bool,
-    deletes: bool,
     offsets: bool,
     returned: bool,
     files: Vec<String>,
@@ -32,18 +29,13 @@ fn arguments() -> Option<Arguments> {
         match argument.as_str() {
             "--read" => a.read = true,
             "--diff" => a.diff = true,
-            "--deletes" => a.deletes = true,
             "--offsets" => a.offsets = true,
             "--returned" => a.returned = true,
             file if file == "-" || !file.starts_with('-') => a.files.push(argument),
             _ => return None,
         }
     }
-    let fits = match (a.diff, a.deletes) {
-        (false, false) => a.files.len() <= 1 && !(a.read && a.offsets),
-        (true, true) => false,
-        _ => a.files.len() == 2 + usize::from(a.deletes) && !a.read && !a.offsets && !a.returned,
-    };
+    let fits = if a.diff { a.files.len() == 2 && !a.read && !a.offsets && !a.returned } else { a.files.len() <= 1 && !(a.read && a.offsets) };
     fits.then_some(a)
 }
 
@@ -76,14 +68,13 @@ fn image_of_text(file: &str, text: &[u8], limits: Limits) -> Result<Vec<u8>, Str
     read_text(text, limits).map_err(|mistake| format!("{}: {mistake}", label(file)))
 }
 
-// The bytes of the image in a file, or of the text in it: a text begins with `image` or a comment.
-fn bytes_of(file: &str, limits: Limits) -> Result<Vec<u8>, String> {
-    let bytes = contents(file)?;
-    if bytes.starts_with(b"image") || bytes.starts_with(b"//") { image_of_text(file, &bytes, limits) } else { Ok(bytes) }
-}
-
+// The image in a file, or that of the text in it: a text begins with `image` or a comment.
 fn image_of(file: &str, limits: Limits) -> Result<image_text::tree::Image, String> {
-    read_image(&bytes_of(file, limits)?, limits).map_err(|fault| fault_message(file, fault))
+    let mut bytes = contents(file)?;
+    if bytes.starts_with(b"image") || bytes.starts_with(b"//") {
+        bytes = image_of_text(file, &bytes, limits)?;
+    }
+    read_image(&bytes, limits).map_err(|fault| fault_message(file, fault))
 }
 
 fn compared(submitted: &str, returned: &str) -> Result<(Vec<u8>, Option<String>), String> {
@@ -92,24 +83,12 @@ fn compared(submitted: &str, returned: &str) -> Result<(Vec<u8>, Option<String>)
     Ok((d.listing.into_bytes(), d.difference.map(not)))
 }
 
-fn certified(submitted: &str, returned: &str, list: &str) -> Result<(Vec<u8>, Option<String>), String> {
-    let text = String::from_utf8_lossy(&contents(list)?).into_owned();
-    let entries = read_list(&text).map_err(|wrong| format!("{}: {wrong}", label(list)))?;
-    let c = certify(&bytes_of(submitted, SUBMITTED)?, &bytes_of(returned, RETURNED)?, &entries);
-    let c = c.map_err(|(first, fault)| fault_message(if first { submitted } else { returned }, fault))?;
-    let not = |reason| format!("{} does not list what was put into {}: {reason}", label(list), label(submitted));
-    Ok((c.listing.into_bytes(), c.wrong.map(not)))
-}
-
 // What goes to standard output, and what is wrong all the same.
 fn run(a: &Arguments) -> Result<(Vec<u8>, Option<String>), String> {
     let file = a.files.first().map_or("-", String::as_str);
     let limits = if a.returned { RETURNED } else { SUBMITTED };
     if a.diff {
         return compared(file, &a.files[1]);
-    }
-    if a.deletes {
-        return certified(file, &a.files[1], &a.files[2]);
     }
     let out = if a.read { image_of_text(file, &contents(file)?, limits)? } else { printed(file, limits, a.offsets)? };
     Ok((out, None))

@@ -47,7 +47,7 @@ fn says_what_is_wrong() {
     assert_eq!(run(&["--read"], b"image version 1\ntypes"), (1, vec![], message.into()));
     let (status, out, message) = run(&["no/such/file"], b"");
     assert_eq!((status, out.len(), message.starts_with("image-text: no/such/file: ")), (1, 0, true));
-    for wrong in [&["--red"][..], &["--diff", "one"], &["--deletes", "one", "two"], &["--deletes", "--diff", "one", "two", "three"], &["one", "two"], &["--diff", "--read", "one", "two"], &["--read", "--offsets"]] {
+    for wrong in [&["--red"][..], &["--diff", "one"], &["one", "two"], &["--diff", "--read", "one", "two"], &["--read", "--offsets"]] {
         let (status, out, message) = run(wrong, b"");
         assert_eq!((status, out.len(), message.starts_with("usage: ")), (2, 0, true));
     }
@@ -63,21 +63,4 @@ fn compares() {
     assert_eq!((status, out.is_empty()), (1, false));
     let reason = "the statement at byte 92 of the returned image is neither a submitted one nor an inserted delete";
     assert_eq!(message, format!("image-text: {submitted} is not standard input with insertions: {reason}\n"));
-}
-
-#[test]
-fn certifies() {
-    let (submitted, returned, list) = (path("submitted.txt"), path("returned.txt"), path("deletes.txt"));
-    assert_eq!(run(&["--deletes", &submitted, &returned, &list], b""), (0, case("certified.txt"), String::new()));
-    let (_, returned_image, _) = run(&["--read", &returned], b"");
-    assert_eq!(run(&["--deletes", &submitted, "-", &list], &returned_image), (0, case("certified.txt"), String::new()));
-    // what is right before the mistake is listed
-    let (status, out, message) = run(&["--deletes", &submitted, &returned, "-"], b"97 0\n127 1\n");
-    assert_eq!((status, out), (1, b"~ @14 delete@14 make@16()@15:T; // byte 97, struct 0 T\n".to_vec()));
-    let reason = "at byte 127 struct 1, none: it is 0, T";
-    assert_eq!(message, format!("image-text: standard input does not list what was put into {submitted}: {reason}\n"));
-    let (status, out, message) = run(&["--deletes", &submitted, &returned, "-"], b"97\n");
-    assert_eq!((status, out.len(), message.as_str()), (1, 0, "image-text: standard input: line 1: expected OFFSET STRUCT, found `97`\n"));
-    let (status, _, message) = run(&["--deletes", "-", &returned, &list], b"none");
-    assert_eq!((status, message.starts_with("image-text: standard input: fault 1 at byte ")), (1, true));
 }

@@ -1,5 +1,6 @@
 use mathlib.Core.Path.{refl}
 use borrow.Author.Tests.{ne_eqb, eq-eqb}
+use borrow.Author.Rules.{rules}
 use Rattle.blocks_merge.proofs.in_loop.Statement.{statement}
 use Rattle.blocks_merge.proofs.in_loop.Tie as tie
 use Rattle.blocks_merge.proofs.in_loop.Reads as reads

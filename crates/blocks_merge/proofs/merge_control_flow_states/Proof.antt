@@ -2,6 +2,7 @@ use Rattle.rules.specs.Rules.{switches_of}
 use Rattle.statements_acts.proofs.has_switch.Reads as has-switch-reads
 use borrow.Author.Rules.{rules}
 use mathlib.Core.Path.{ap}
+use native.Mathlib.Omega.{arith}
 use Rattle.blocks_ends.specs.declared.Env.{Env}
 use Rattle.blocks_merge.proofs.Merging.{copies-other, copies-first, first-rowed, apart, merges-base, merges-other, merges-first, merges-joined, merges-fault, joins-as}
 use Rattle.blocks_merge.proofs.merge_control_flow_states.Statement.{statement}

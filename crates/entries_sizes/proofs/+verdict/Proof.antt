@@ -1,5 +1,6 @@
 -- Each call of itself is for the next size.
 use Prim.Native.Nat.{◌-◌}
+use mathlib.Core.Path.{◌∙◌}
 use mathlib.Core.Bool.{false}
 use native.Mathlib.Omega.{arith}
 use borrow.Author.Rules.{rules}

@@ -1,5 +1,6 @@
 use native.Mathlib.Omega.{arith}
-use Rattle.image_writing.proofs.Stores.{both_stored, four-length}
+use Rattle.image_fields.specs.Bytes.{two_bytes, four_bytes, number_bytes}
+use Rattle.image_writing.proofs.Stores.{both_stored, two-length, four-length}
 use borrow.Author.Rules.{rules}
 use Rattle.image_writing.proofs.put_delete_head.Statement.{statement}
 use Rattle.image_writing.proofs.put_delete_head.Tie as tie

@@ -6,7 +6,7 @@ use mathlib.Core.List.{List}
 use lib.ListN.{length}
 use Rattle.image_writing.specs.Stored.{Stored}
 use Rattle.image_writing.proofs.Stores.{stored-length}
-use Rattle.ownership.specs.Text.{error_line, lines}
+use Rattle.ownership.specs.Text.{error_line, entry_line, lines}
 use Rattle.ownership.proofs.Lines.{next-line, no_line}
 use Rattle.ownership.proofs.put_errors.Statement.{statement}
 use Rattle.ownership.proofs.put_errors.Tie as tie

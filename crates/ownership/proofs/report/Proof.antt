@@ -10,27 +10,27 @@ use Rattle.ownership.proofs.put_errors.Reads as put-errors-reads
 use Rattle.ownership.proofs.put_entries.Reads as put-entries-reads
 use Rattle.programs_text.proofs.put_refused.Reads as put-refused-reads
 use Rattle.ownership.proofs.put_totals.Reads as put-totals-reads
-use Rattle.ownership_pass.proofs.pass_switched.Reads as pass-switched-reads
+use Rattle.ownership_pass.proofs.pass.Reads as pass-reads
 
 -- src/main.rt:131:35
-slice-aggregate-pass-switched : tie.Need-slice-aggregate-pass-switched
-slice-aggregate-pass-switched c = search rules
+slice-aggregate-pass : tie.Need-slice-aggregate-pass
+slice-aggregate-pass c = search rules
 
 -- src/main.rt:131:47
-slice-aggregate-pass-switched-2 : tie.Need-slice-aggregate-pass-switched-2
-slice-aggregate-pass-switched-2 c = search rules
+slice-aggregate-pass-2 : tie.Need-slice-aggregate-pass-2
+slice-aggregate-pass-2 c = search rules
 
 -- src/main.rt:131:58
-slice-aggregate-pass-switched-3 : tie.Need-slice-aggregate-pass-switched-3
-slice-aggregate-pass-switched-3 c = search rules
+slice-aggregate-pass-3 : tie.Need-slice-aggregate-pass-3
+slice-aggregate-pass-3 c = search rules
 
 -- src/main.rt:131:70
-slice-aggregate-pass-switched-4 : tie.Need-slice-aggregate-pass-switched-4
-slice-aggregate-pass-switched-4 c = search rules
+slice-aggregate-pass-4 : tie.Need-slice-aggregate-pass-4
+slice-aggregate-pass-4 c = search rules
 
 -- src/main.rt:131:11
-pass-switched-requires : tie.Need-pass-switched-requires
-pass-switched-requires c κs = search rules
+pass-requires : tie.Need-pass-requires
+pass-requires c κs = search rules
 
 -- src/main.rt:132:26
 enum-known-fault : tie.Need-enum-known-fault
@@ -54,7 +54,7 @@ slice-aggregate-put-errors c = search rules
 
 -- src/main.rt:135:17
 put-errors-requires : tie.Need-put-errors-requires
-put-errors-requires c κs = let w = within 0 _ _ _ c.before.before.before.before.before.before.before.before.before.before.before.before.before.pass-switched.ensures c.before.before.before.before.before.before.before.t.given.1 in (omega (arith, c.before.before.before.before.put-totals.ensures.1), omega (arith, w.errors), omega (arith, w.errors))
+put-errors-requires c κs = let w = within 0 _ _ _ c.before.before.before.before.before.before.before.before.before.before.before.before.before.pass.ensures c.before.before.before.before.before.before.before.t.given.1 in (omega (arith, c.before.before.before.before.put-totals.ensures.1), omega (arith, w.errors), omega (arith, w.errors))
 
 -- src/main.rt:136:53
 slice-aggregate-put-entries : tie.Need-slice-aggregate-put-entries
@@ -66,7 +66,7 @@ slice-aggregate-put-entries-2 c = search rules
 
 -- src/main.rt:136:17
 put-entries-requires : tie.Need-put-entries-requires
-put-entries-requires c κs = let w = within 0 _ _ _ c.before.before.before.before.before.before.before.before.before.before.before.before.before.before.before.before.before.before.before.pass-switched.ensures c.before.before.before.before.before.before.before.before.before.before.before.before.before.t.given.1 in (omega (arith, w.errors, c.before.before.before.before.before.before.before.before.before.before.put-totals.ensures.1, c.before.before.before.before.before.put-errors.ensures.1), omega (arith, w.warnings), omega arith, omega arith, omega (arith, w.warnings))
+put-entries-requires c κs = let w = within 0 _ _ _ c.before.before.before.before.before.before.before.before.before.before.before.before.before.before.before.before.before.before.before.pass.ensures c.before.before.before.before.before.before.before.before.before.before.before.before.before.t.given.1 in (omega (arith, w.errors, c.before.before.before.before.before.before.before.before.before.before.put-totals.ensures.1, c.before.before.before.before.before.put-errors.ensures.1), omega (arith, w.warnings), omega arith, omega arith, omega (arith, w.warnings))
 
 -- src/main.rt:137:40
 slice-aggregate-put-entries-3 : tie.Need-slice-aggregate-put-entries-3
@@ -78,7 +78,7 @@ slice-aggregate-put-entries-4 c = search rules
 
 -- src/main.rt:137:13
 put-entries-requires-2 : tie.Need-put-entries-requires-2
-put-entries-requires-2 c κs = let w = within 0 _ _ _ c.before.before.before.before.before.before.before.before.before.before.before.before.before.before.before.before.before.before.before.before.before.before.before.before.before.pass-switched.ensures c.before.before.before.before.before.before.before.before.before.before.before.before.before.before.before.before.before.before.before.t.given.1 in (omega (arith, w.errors, w.warnings, c.before.before.before.before.before.before.before.before.before.before.before.before.before.before.before.before.put-totals.ensures.1, c.before.before.before.before.before.before.before.before.before.before.before.put-errors.ensures.1, c.before.before.before.before.before.put_entries.ensures.1), omega (arith, w.lefts), omega arith, omega arith, omega (arith, w.lefts))
+put-entries-requires-2 c κs = let w = within 0 _ _ _ c.before.before.before.before.before.before.before.before.before.before.before.before.before.before.before.before.before.before.before.before.before.before.before.before.before.pass.ensures c.before.before.before.before.before.before.before.before.before.before.before.before.before.before.before.before.before.before.before.t.given.1 in (omega (arith, w.errors, w.warnings, c.before.before.before.before.before.before.before.before.before.before.before.before.before.before.before.before.put-totals.ensures.1, c.before.before.before.before.before.before.before.before.before.before.before.put-errors.ensures.1, c.before.before.before.before.before.put_entries.ensures.1), omega (arith, w.lefts), omega arith, omega arith, omega (arith, w.lefts))
 
 -- src/main.rt:124:1
 same_length : tie.Need-same-length
@@ -86,7 +86,7 @@ same_length c = search rules
 
 -- src/main.rt:124:1
 returns : tie.Need-returns
-returns c = (told-refused _ _ (record { bytes = search rules; errors = search rules; warnings = search rules; lefts = search rules }) c.before.before.before.before.before.before.before.before.before.before.before.pass-switched.ensures c.before.before.before.before.before.fault.given.1 c.before.before.Put-refused.ensures.0, omega (arith, c.before.before.Put-refused.ensures.1))
+returns c = (told-refused _ _ (record { bytes = search rules; errors = search rules; warnings = search rules; lefts = search rules }) c.before.before.before.before.before.before.before.before.before.before.before.pass.ensures c.before.before.before.before.before.fault.given.1 c.before.before.Put-refused.ensures.0, omega (arith, c.before.before.Put-refused.ensures.1))
 
 -- src/main.rt:124:1
 same-length-2 : tie.Need-same-length-2
@@ -94,17 +94,17 @@ same-length-2 c = search rules
 
 -- src/main.rt:124:1
 returns-2 : tie.Need-returns-2
-returns-2 c = let w = within 0 _ _ _ c.before.before.before.before.before.before.before.before.before.before.before.before.before.before.before.before.before.before.before.before.before.before.before.before.before.before.before.before.pass-switched.ensures c.before.before.before.before.before.before.before.before.before.before.before.before.before.before.before.before.before.before.before.before.before.before.t.given.1 in (told-accepted _ _ (record { bytes = search rules; errors = search rules; warnings = search rules; lefts = search rules }) c.before.before.before.before.before.before.before.before.before.before.before.before.before.before.before.before.before.before.before.before.before.before.before.before.before.before.before.before.pass-switched.ensures c.before.before.before.before.before.before.before.before.before.before.before.before.before.before.before.before.before.before.before.before.before.before.t.given.1 c.before.before.before.before.before.before.before.before.before.before.before.before.before.before.before.before.before.before.before.put-totals.ensures.0 c.before.before.before.before.before.before.before.before.before.before.before.before.before.before.put-errors.ensures.0 c.before.before.before.before.before.before.before.before.put_entries.ensures.0 c.before.before.put-entries2.ensures.0, omega (arith, w.errors, w.warnings, w.lefts, c.before.before.before.before.before.before.before.before.before.before.before.before.before.before.before.before.before.before.before.put-totals.ensures.1, c.before.before.before.before.before.before.before.before.before.before.before.before.before.before.put-errors.ensures.1, c.before.before.before.before.before.before.before.before.put_entries.ensures.1, c.before.before.put-entries2.ensures.1))
+returns-2 c = let w = within 0 _ _ _ c.before.before.before.before.before.before.before.before.before.before.before.before.before.before.before.before.before.before.before.before.before.before.before.before.before.before.before.before.pass.ensures c.before.before.before.before.before.before.before.before.before.before.before.before.before.before.before.before.before.before.before.before.before.before.t.given.1 in (told-accepted _ _ (record { bytes = search rules; errors = search rules; warnings = search rules; lefts = search rules }) c.before.before.before.before.before.before.before.before.before.before.before.before.before.before.before.before.before.before.before.before.before.before.before.before.before.before.before.before.pass.ensures c.before.before.before.before.before.before.before.before.before.before.before.before.before.before.before.before.before.before.before.before.before.before.t.given.1 c.before.before.before.before.before.before.before.before.before.before.before.before.before.before.before.before.before.before.before.put-totals.ensures.0 c.before.before.before.before.before.before.before.before.before.before.before.before.before.before.put-errors.ensures.0 c.before.before.before.before.before.before.before.before.put_entries.ensures.0 c.before.before.put-entries2.ensures.0, omega (arith, w.errors, w.warnings, w.lefts, c.before.before.before.before.before.before.before.before.before.before.before.before.before.before.before.before.before.before.before.put-totals.ensures.1, c.before.before.before.before.before.before.before.before.before.before.before.before.before.before.put-errors.ensures.1, c.before.before.before.before.before.before.before.before.put_entries.ensures.1, c.before.before.put-entries2.ensures.1))
 
 pub report-spec : {M : Type 1} → statement M
 report-spec =
     tie.close
     (tie.spec
-    slice-aggregate-pass-switched
-    slice-aggregate-pass-switched-2
-    slice-aggregate-pass-switched-3
-    slice-aggregate-pass-switched-4
-    pass-switched-requires
+    slice-aggregate-pass
+    slice-aggregate-pass-2
+    slice-aggregate-pass-3
+    slice-aggregate-pass-4
+    pass-requires
     enum-known-fault
     put-refused-requires
     enum-known-t

@@ -1,4 +1,4 @@
-use Rattle.programs_replay.proofs.Zeros.{zeros}
+use Rattle.programs_replay.proofs.Zeros.{zeros, few-zeros}
 use borrow.Author.Rules.{rules}
 use Rattle.programs_replay.proofs.all_agrees.Statement.{statement}
 use Rattle.programs_replay.proofs.all_agrees.Tie as tie

@@ -1,5 +1,6 @@
+use native.Mathlib.Omega.{arith}
 use borrow.Author.Rules.{rules}
-use Prim.Native.Nat.{◌-◌}
+use Prim.Native.Nat.{◌+◌, ◌*◌, ◌-◌, ◌≤◌, ◌<◌}
 use Rattle.programs_replay.proofs.same_bytes.Statement.{statement}
 use Rattle.programs_replay.proofs.same_bytes.Tie as tie
 use Rattle.programs_replay.proofs.same_bytes.Reads as reads

@@ -1,5 +1,6 @@
+use native.Mathlib.Omega.{arith}
 use borrow.Author.Rules.{rules}
-use Prim.Native.Nat.{◌-◌}
+use Prim.Native.Nat.{◌+◌, ◌*◌, ◌-◌, ◌≤◌, ◌<◌}
 use Rattle.programs_replay.proofs.same_error.Statement.{statement}
 use Rattle.programs_replay.proofs.same_error.Tie as tie
 use Rattle.programs_replay.proofs.same_error.Reads as reads

@@ -7,7 +7,7 @@ use Rattle.programs_replay.proofs.usual_agrees.Reads as reads
 use Rattle.programs_replay.proofs.usual_agrees.Lts as lts
 use Rattle.image_fields.proofs.peek.Reads as peek-reads
 use Rattle.image_fields.proofs.wide.Reads as wide-reads
-use Rattle.ownership_pass.proofs.pass_switched.Reads as pass-switched-reads
+use Rattle.ownership_pass.proofs.pass.Reads as pass-reads
 use Rattle.programs_replay.proofs.same_answer.Reads as same-answer-reads
 
 -- src/main.rt:311:17
@@ -19,36 +19,36 @@ peek-requires : tie.Need-peek-requires
 peek-requires c κs = search rules
 
 -- src/main.rt:319:9
-sub-pass-switched : tie.Need-overflow-sub-pass-switched
-sub-pass-switched c = search rules
+sub-pass : tie.Need-overflow-sub-pass
+sub-pass c = search rules
 
 -- src/main.rt:319:9
-part-pass-switched-start : tie.Need-slice-bounds-pass-switched-start
-part-pass-switched-start c = search rules
+part-pass-start : tie.Need-slice-bounds-pass-start
+part-pass-start c = search rules
 
 -- src/main.rt:319:9
-part-pass-switched-end : tie.Need-slice-bounds-pass-switched-end
-part-pass-switched-end c = search rules
+part-pass-end : tie.Need-slice-bounds-pass-end
+part-pass-end c = search rules
 
 -- src/main.rt:320:9
-slice-aggregate-pass-switched : tie.Need-slice-aggregate-pass-switched
-slice-aggregate-pass-switched c = search rules
+slice-aggregate-pass : tie.Need-slice-aggregate-pass
+slice-aggregate-pass c = search rules
 
 -- src/main.rt:321:9
-slice-aggregate-pass-switched-2 : tie.Need-slice-aggregate-pass-switched-2
-slice-aggregate-pass-switched-2 c = search rules
+slice-aggregate-pass-2 : tie.Need-slice-aggregate-pass-2
+slice-aggregate-pass-2 c = search rules
 
 -- src/main.rt:322:9
-slice-aggregate-pass-switched-3 : tie.Need-slice-aggregate-pass-switched-3
-slice-aggregate-pass-switched-3 c = search rules
+slice-aggregate-pass-3 : tie.Need-slice-aggregate-pass-3
+slice-aggregate-pass-3 c = search rules
 
 -- src/main.rt:323:9
-slice-aggregate-pass-switched-4 : tie.Need-slice-aggregate-pass-switched-4
-slice-aggregate-pass-switched-4 c = search rules
+slice-aggregate-pass-4 : tie.Need-slice-aggregate-pass-4
+slice-aggregate-pass-4 c = search rules
 
 -- src/main.rt:318:11
-pass-switched-requires : tie.Need-pass-switched-requires
-pass-switched-requires c κs = search rules
+pass-requires : tie.Need-pass-requires
+pass-requires c κs = search rules
 
 -- src/main.rt:325:26
 enum-known-fault : tie.Need-enum-known-fault
@@ -84,7 +84,7 @@ slice-aggregate-same-answer-4 c = search rules
 
 -- src/main.rt:330:13
 same-answer-requires : tie.Need-same-answer-requires
-same-answer-requires c κs = let w = within 0 _ _ _ c.before.before.before.before.before.before.before.before.before.before.before.before.pass-switched.ensures c.before.before.before.before.before.before.t.given.1 in (c.before.before.before.before.before.before.before.before.before.before.before.before.before.before.before.before.before.before.before.before.before.requires, (omega (arith, w.written), omega (arith, w.errors), omega (arith, w.warnings), omega (arith, w.lefts)))
+same-answer-requires c κs = let w = within 0 _ _ _ c.before.before.before.before.before.before.before.before.before.before.before.before.pass.ensures c.before.before.before.before.before.before.t.given.1 in (c.before.before.before.before.before.before.before.before.before.before.before.before.before.before.before.before.before.before.before.before.before.requires, (omega (arith, w.written), omega (arith, w.errors), omega (arith, w.warnings), omega (arith, w.lefts)))
 
 -- src/main.rt:308:1
 returns-2 : tie.Need-returns-2
@@ -100,14 +100,14 @@ usual-agrees-spec =
     (tie.spec
     add-image
     peek-requires
-    sub-pass-switched
-    part-pass-switched-start
-    part-pass-switched-end
-    slice-aggregate-pass-switched
-    slice-aggregate-pass-switched-2
-    slice-aggregate-pass-switched-3
-    slice-aggregate-pass-switched-4
-    pass-switched-requires
+    sub-pass
+    part-pass-start
+    part-pass-end
+    slice-aggregate-pass
+    slice-aggregate-pass-2
+    slice-aggregate-pass-3
+    slice-aggregate-pass-4
+    pass-requires
     enum-known-fault
     wide-requires
     enum-known-t

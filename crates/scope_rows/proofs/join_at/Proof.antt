@@ -1,4 +1,5 @@
-use Prim.Native.Nat.{◌-◌}
+use Prim.Native.Nat.{ℕ, ◌≤◌, ◌<◌, ◌+◌, ◌-◌}
+use mathlib.Core.Path.{◌≡◌, refl, sym, ap, ◌∙◌}
 use native.Mathlib.Omega.{arith}
 use borrow.Author.Tests.{not-true, not-false}
 use Rattle.scope_rows.proofs.Rowing.{loads, joins-from, joins-crowd, joins-over, joins-one, joins-short, joins-many}

@@ -1,6 +1,7 @@
 use lib.ListN.{get_or}
-use Prim.Native.Nat.{◌-◌}
-use mathlib.Core.Path.{sym, ap, ◌∙◌}
+use Prim.Native.Nat.{ℕ, ◌≤◌, ◌<◌, ◌+◌, ◌-◌}
+use mathlib.Core.Path.{◌≡◌, refl, sym, ap, ◌∙◌}
+use mathlib.Core.Logic.{⊎_elim, inl, inr}
 use native.Mathlib.Omega.{arith}
 use Rattle.scope_state.specs.Kinds.{said}
 use Rattle.scope_stack.proofs.Marked.{said-one, said_row}

@@ -1,4 +1,4 @@
-use Rattle.std.proofs.Common.{ℕ, ◌-◌, not, eqb, ◌∙◌, ap₂, rules}
+use Rattle.std.proofs.Common.{◌≡◌, ℕ, ◌+◌, ◌-◌, ◌^◌, ◌<◌, ◌≤◌, not, eqb, sym, refl, ap, ◌∙◌, ap₂, rules}
 use lib.Bits.{bit_and}
 use Rattle.scope_stack.specs.Word.{slot}
 use Rattle.scope_stack.proofs.Words.{word-bit}

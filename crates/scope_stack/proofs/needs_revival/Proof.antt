@@ -1,4 +1,4 @@
-use Rattle.std.proofs.Common.{◌≡◌, ℕ, ◌-◌, Bool, sym, ⊎_elim, arith, pow_pos, rules}
+use Rattle.std.proofs.Common.{◌≡◌, ℕ, ◌-◌, ◌<◌, ◌≤◌, Bool, sym, refl, ap, ◌∙◌, ⊎_elim, arith, pow_pos, rules}
 use Rattle.image_fields.proofs.Tests.{false-true}
 use Rattle.scope_stack.specs.Word.{word_of}
 use Rattle.scope_stack.proofs.Revived.{Looked, looked-none, looked-more, looked-all}

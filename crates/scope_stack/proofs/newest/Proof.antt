@@ -1,4 +1,4 @@
-use Rattle.std.proofs.Common.{arith, rules}
+use Rattle.std.proofs.Common.{◌≡◌, sym, refl, ap, ◌∙◌, arith, rules}
 use Rattle.scope_stack.proofs.Words.{top_of}
 use Rattle.scope_stack.proofs.newest.Statement.{statement}
 use Rattle.scope_stack.proofs.newest.Tie as tie

@@ -1,5 +1,5 @@
+use Rattle.std.proofs.Common.{◌≡◌, sym, refl, ap, ◌∙◌, arith, rules}
 use Rattle.scope_stack.proofs.Words.{word_set, word-clear}
-use Rattle.std.proofs.Common.{rules}
 use Rattle.scope_stack.proofs.with_bit.Statement.{statement}
 use Rattle.scope_stack.proofs.with_bit.Tie as tie
 use Rattle.scope_stack.proofs.with_bit.Reads as reads

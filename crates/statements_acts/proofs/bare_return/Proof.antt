@@ -1,9 +1,9 @@
 use mathlib.Core.Path.{◌≡◌, sym, ap, ◌∙◌}
-use mathlib.Core.Bool.{true, false}
+use mathlib.Core.Bool.{Bool, true, false}
 use Prim.Native.Nat.{ℕ, ◌/◌, ◌%◌}
 use lib.Dec.{eqb}
 use Rattle.image_fields.specs.Bytes.{Bytes}
-use Rattle.rules.specs.Rules.{switches_of}
+use Rattle.rules.specs.Rules.{Switches, switches_of}
 use Rattle.statements_acts.proofs.Ends.{bare_ends}
 use Rattle.statements_acts.proofs.Acts.{room_of, none-put-is, listed-is, bare-reach, bare-grows, bare-acts, clears-grows, bare-cleared}
 use Rattle.statements_acts.specs.Marks.{lent}

@@ -1,7 +1,7 @@
 use mathlib.Core.Path.{◌≡◌, sym, ◌∙◌}
-use mathlib.Core.Bool.{true, false}
+use mathlib.Core.Bool.{Bool, true, false}
 use Rattle.image_fields.specs.Bytes.{Bytes}
-use Rattle.rules.specs.Rules.{switches_of, delete_at, in_loop}
+use Rattle.rules.specs.Rules.{Switches, switches_of, delete_at, in_loop}
 use Rattle.rules.specs.Report.{left_at}
 use Rattle.statements_acts.proofs.Ends.{jump-ends}
 use Rattle.statements_acts.proofs.Acts.{room_of, none-put-is, listed-is, jump-reach, jump-grows, jump-acts, clears-grows, jump-cleared}

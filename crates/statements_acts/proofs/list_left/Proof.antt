@@ -2,14 +2,16 @@ use borrow.Author.Rules.{rules}
 use Rattle.statements_acts.proofs.Dropped.{Placed, placed-none, placed-more, placed_one, Listing, listing-all, listing-put, listing_none}
 use Rattle.rules_page.specs.Page.{blanks}
 use Rattle.statements_acts.specs.Marks.{Marked}
+use Rattle.statements_acts.specs.Drops.{admitted}
+use Rattle.statements_acts.specs.declared.Which.TheVariants.{All}
 use Rattle.rules.specs.State.{State as Status}
 use Rattle.tables.specs.Tables.{Tables}
 use Rattle.scope_stack.proofs.Words.{ones, ones-less}
 use lib.ListN.{length}
 use native.Mathlib.Omega.{arith}
-use mathlib.Core.List.{List}
-use mathlib.Core.Path.{◌≡◌, refl, ◌∙◌}
-use Prim.Native.Nat.{ℕ}
+use mathlib.Core.List.{List, [], ◌∷◌}
+use mathlib.Core.Path.{◌≡◌, refl, sym, ap, ◌∙◌}
+use Prim.Native.Nat.{ℕ, ◌+◌}
 use Rattle.statements_acts.proofs.list_left.Statement.{statement}
 use Rattle.statements_acts.proofs.list_left.Tie as tie
 use Rattle.statements_acts.proofs.list_left.Reads as reads

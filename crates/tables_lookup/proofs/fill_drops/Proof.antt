@@ -1,11 +1,7 @@
-use Rattle.std.proofs.Common.{◌-◌, ◌≤◌, arith, rules}
-use Rattle.tables_lookup.proofs.Lent.{Asked, none-asked, still-filled, small-asked, one-asked, all_asked}
+use Rattle.std.proofs.Common.{◌-◌, ◌≤◌, eqb, sym, ap, ◌∙◌, ⊎_elim, arith, rules}
+use Rattle.tables_lookup.proofs.Lent.{Asked, none-asked, still-filled, one-asked, all_asked}
 use Rattle.tables_lookup.proofs.fill_drops.Statement.{statement}
 use Rattle.tables_lookup.proofs.fill_drops.Tie as tie
-use Rattle.tables_lookup.proofs.fill_drops.Reads as reads
-use Rattle.tables_lookup.proofs.fill_drops.Lts as lts
-use Rattle.tables_lookup.proofs.deleted_in.Reads as deleted-in-reads
-use Rattle.tables_lookup.proofs.kept_as.Reads as kept-as-reads
 
 abbrev invariant-loop : tie.invariant-loop
 invariant-loop s tb₀ count t₀ tb t = (t ≤ count) × Asked s tb₀ tb t
@@ -13,55 +9,43 @@ invariant-loop s tb₀ count t₀ tb t = (t ≤ count) × Asked s tb₀ tb t
 abbrev decreases-loop : tie.decreases-loop
 decreases-loop s tb₀ count t₀ tb t = count - t
 
--- src/lib.rt:156:17
 slice-read-count : tie.Need-slice-read-count invariant-loop decreases-loop
 slice-read-count c = search rules
 
--- src/lib.rt:156:17
 cast-count : tie.Need-overflow-cast-count invariant-loop decreases-loop
 cast-count c = search rules
 
--- src/lib.rt:158:5
 loop-holds : tie.Need-loop-init invariant-loop decreases-loop
 loop-holds c = (omega arith, none-asked _ _ c.before.before.before.requires)
 
--- src/lib.rt:159:13
 deleted-in-requires : tie.Need-deleted-in-requires invariant-loop decreases-loop
 deleted-in-requires c κs = still-filled _ _ c.before.before.before.before.before.before.requires _ c.before.before.loop.invariant.1
 
--- src/lib.rt:160:23
-kept-as-requires : tie.Need-kept-as-requires invariant-loop decreases-loop
-kept-as-requires c κs = small-asked _ _ c.before.before.before.before.before.before.before.requires _ c.before.before.before.loop.invariant.1 _ _ c.deleted-in.ensures
-
--- src/lib.rt:160:12
 add-tb : tie.Need-overflow-add-tb invariant-loop decreases-loop
 add-tb c = let h = c.before.before.before.before.before.before.before.before.requires.few_types in let k = c.before.before.before.before.loop.invariant.1.size in omega arith
 
--- src/lib.rt:160:9
 mul-tb : tie.Need-overflow-mul-tb invariant-loop decreases-loop
 mul-tb c = let h = c.before.before.before.before.before.before.before.before.requires.few_types in let k = c.before.before.before.before.loop.invariant.1.size in omega arith
 
--- src/lib.rt:160:9
 slice-write-tb : tie.Need-slice-write-tb invariant-loop decreases-loop
 slice-write-tb c = let h = c.before.before.before.before.before.before.before.before.requires.few_types in let k = c.before.before.before.before.loop.invariant.1.size in omega arith
 
--- src/lib.rt:161:9
 add-t : tie.Need-overflow-add-t invariant-loop decreases-loop
 add-t c = omega arith
 
--- src/lib.rt:158:5
 loop-less : tie.Need-loop-smaller invariant-loop decreases-loop
 loop-less c = omega arith
 
--- src/lib.rt:158:5
 loop-again : tie.Need-loop-preserved invariant-loop decreases-loop
-loop-again c = (omega arith, one-asked _ _ c.before.before.before.before.before.before.before.before.requires _ c.before.before.before.before.loop.invariant.1 (let h = c.before.before.before.before.before.before.before.before.requires.few_types in omega arith) _ (c.kept-as.ensures _ c.before.deleted-in.ensures))
+loop-again c = (
+  omega arith,
+  one-asked _ _ c.before.before.before.before.before.before.before.before.requires _ c.before.before.before.before.loop.invariant.1 (let h = c.before.before.before.before.before.before.before.before.requires.few_types in omega arith) c.if1.tb
+      (⊎_elim (λ w. ap (λ x. eqb x 1) w.1 ∙ sym w.0.taken ∙ c.before.deleted-in.ensures) (λ w. ap (λ x. eqb x 1) w.1 ∙ sym w.0.left ∙ c.before.deleted-in.ensures) c.if1.branch),
+)
 
--- src/lib.rt:152:1
 same_length : tie.Need-same-length invariant-loop decreases-loop
 same_length c = search rules
 
--- src/lib.rt:152:1
 returns : tie.Need-returns invariant-loop decreases-loop
 returns c = (all_asked _ _ c.before.before.before.before.before.requires _ c.before.loop.invariant.1 (omega arith), c.before.loop.invariant.1.kept)
 
@@ -75,7 +59,6 @@ fill-drops-spec =
     cast-count
     loop-holds
     deleted-in-requires
-    kept-as-requires
     add-tb
     mul-tb
     slice-write-tb

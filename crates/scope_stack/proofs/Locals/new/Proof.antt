@@ -1,4 +1,4 @@
-use Rattle.std.proofs.Common.{sym, refl, arith}
+use Rattle.std.proofs.Common.{◌≡◌, sym, refl, ap, ◌∙◌, arith}
 use Rattle.scope_stack.proofs.Words.{word_none}
 use Rattle.scope_stack.proofs.Locals.new.Statement.{statement}
 use Rattle.scope_stack.proofs.Locals.new.Tie as tie

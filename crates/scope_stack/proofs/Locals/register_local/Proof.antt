@@ -1,5 +1,5 @@
+use Rattle.std.proofs.Common.{◌≡◌, sym, refl, ap, ◌∙◌, arith, rules}
 use Rattle.scope_stack.proofs.Grown.{bit-fits, grows-on, grows-off}
-use Rattle.std.proofs.Common.{rules}
 use Rattle.scope_stack.proofs.Locals.register_local.Statement.{statement}
 use Rattle.scope_stack.proofs.Locals.register_local.Tie as tie
 use Rattle.scope_stack.proofs.Locals.register_local.Reads as reads

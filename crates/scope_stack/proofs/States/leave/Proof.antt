@@ -1,4 +1,4 @@
-use Rattle.std.proofs.Common.{◌≡◌, ◌-◌, ◌≤◌, refl, arith, rules}
+use Rattle.std.proofs.Common.{◌≡◌, ℕ, ◌-◌, ◌<◌, ◌≤◌, sym, refl, ap, ◌∙◌, ⊎_elim, arith, rules}
 use Rattle.scope_stack.specs.View.{Leaves}
 use Rattle.scope_stack.proofs.Stores.{leaves_none, leaves-more}
 use Rattle.scope_stack.proofs.States.leave.Statement.{statement}

@@ -1,4 +1,4 @@
-use Rattle.std.proofs.Common.{◌≡◌, ◌-◌, ◌≤◌, sym, refl, ◌∙◌, ⊎_elim, arith, rules}
+use Rattle.std.proofs.Common.{◌≡◌, ℕ, ◌-◌, ◌<◌, ◌≤◌, sym, refl, ap, ◌∙◌, ⊎_elim, arith, rules}
 use Rattle.scope_stack.proofs.Marked.{Marking, marking-none, marking-skip, marking-put, marks}
 use Rattle.scope_stack.proofs.States.mark.Statement.{statement}
 use Rattle.scope_stack.proofs.States.mark.Tie as tie

@@ -1,4 +1,4 @@
-use Rattle.std.proofs.Common.{refl, eq-eqb}
+use Rattle.std.proofs.Common.{◌≡◌, sym, refl, ap, ◌∙◌, arith, eq-eqb}
 use Rattle.scope_stack.proofs.Words.{word-full}
 use Rattle.scope_stack.proofs.Stores.{zeros}
 use Rattle.scope_stack.proofs.States.new.Statement.{statement}
