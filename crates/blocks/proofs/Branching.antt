@@ -10,7 +10,7 @@ use mathlib.Core.Logic.{inl, inr, ⊎_elim}
 use borrow.Author.Tests.{lt-leb}
 use lib.Dec.{eqb}
 use lib.ListN.{length}
-use Rattle.rules.specs.Rules.{Switches, states, switches_of}
+use Rattle.rules.specs.Rules.{Switches, switches_of}
 use Rattle.image_fields.proofs.Tests.{less}
 use Rattle.tables.specs.Tables.{Tables}
 use Rattle.rules.specs.State.{State as Status}

@@ -27,7 +27,6 @@ use Rattle.scope_stack.specs.declared.States.{States}
 use Rattle.scope_stack.specs.View.{static_at, state_at, view, Kept, Drops, Nested, Leaves}
 use Rattle.scope_stack.proofs.Scopes.{Extends, extends-own, nested-at, leaves-pop, sound-leave, nested-view}
 use Rattle.scope_stack.proofs.Frames.{nested-deeper}
-use Rattle.statements_acts.specs.Marks.{lent}
 use Rattle.statements_changes.specs.declared.Cursor.{Cursor}
 use Rattle.statements_changes.specs.declared.Turn.TheVariants.{Over, Blocks}
 use Rattle.statements_changes.specs.Turns.{retold}

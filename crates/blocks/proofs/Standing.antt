@@ -4,7 +4,7 @@ use Prim.Native.Nat.{ℕ, suc, ◌+◌, ◌-◌, ◌*◌, ◌≤◌, ◌<◌}
 use native.Mathlib.Omega.{arith}
 use mathlib.Core.Path.{◌≡◌, refl, sym, ap, ◌∙◌, subst}
 use mathlib.Core.Bool.{Bool, false, cond}
-use mathlib.Core.List.{List, [], ◌∷◌, map}
+use mathlib.Core.List.{List, [], ◌∷◌}
 use mathlib.Core.Option.{Option, none, some}
 use borrow.Author.Tests.{lt-ltb, le-ltb, le-leb, lt-leb}
 use mathlib.Core.Logic.{⊎_elim}
@@ -15,9 +15,6 @@ use Rattle.image_fields.specs.Number.{two}
 use Rattle.image_fields.specs.Bytes.{Bytes}
 use Rattle.tables.specs.Limits.{version1}
 use Rattle.tables.specs.Tables.{Tables}
-use Rattle.tables.specs.Ty.{Ty, type_in}
-use Rattle.tables.specs.Signature.{Struct, struct_in}
-use Rattle.tables_lookup.specs.Ty.{should_auto_delete}
 use Rattle.rules.specs.Questions.{auto}
 use Rattle.rules.specs.State.{State as Status}
 use Rattle.rules.specs.Stack.{Static, shape, mark, Stack as Scope}
@@ -38,7 +35,7 @@ use Rattle.statements_acts.specs.Marks.{Looped}
 use Rattle.statements_acts.specs.Act.{Within, Grows as Further}
 use Rattle.scope_stack.specs.declared.Locals.{Locals}
 use Rattle.scope_stack.specs.declared.States.{States}
-use Rattle.scope_stack.specs.View.{static_at, view, alive_at, mark_of, Held, Sound, Nested, Grows, Marks, Named}
+use Rattle.scope_stack.specs.View.{view, alive_at, mark_of, Held, Sound, Nested, Grows, Marks, Named}
 use Rattle.scope_stack.proofs.Scopes.{Extends, register-length, sound-mark, sound-register, registers-marked, registers-fresh, extends-none, extends-more, nested-view}
 use Rattle.scope_stack.proofs.Frames.{nested-register}
 use Rattle.statements_changes.specs.declared.Cursor.{Cursor}

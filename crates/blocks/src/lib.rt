@@ -1,6 +1,8 @@
 // The ownership pass over the bytes of an image: blocks and branches.
 // Throughout, tb has the tables of the image s, rows the places of joined states, nodes the open
 // nodes of the values that are scanned, and pl the place of a walk, its fault and whether it surely returns, all lent.
+#![tactic(auto)]
+
 ghost use Rattle.std.specs.Prelude.{◌≡◌, true, false, ℕ, suc, ◌+◌, ◌-◌, ◌*◌, ◌≤◌, ◌<◌, length};
 ghost use Rattle.std.proofs.Math.Option.{Option};
 ghost use Rattle.tables.specs.Tables.{Tables};

@@ -1,6 +1,8 @@
 // What stands before, between and behind the blocks of a body: a head, a flag, an end.
 // Throughout, pl has the place of a walk, its fault and whether it surely returns, and ln and lt are the names and types of the locals,
 // all lent.
+#![tactic(auto)]
+
 ghost use Rattle.std.specs.Prelude.{◌≡◌, true, false, ◌&&◌, List, ℕ, suc, ◌+◌, ◌-◌, ◌*◌, ◌%◌, ◌≤◌, ◌<◌, leb, eqb, length, get_or};
 ghost use Rattle.tables.specs.Tables.{Tables};
 ghost use Rattle.rules.specs.State.{State as Status};
@@ -23,7 +25,7 @@ use statements_changes::Cursor;
 
 // How much depth is left for blocks, how many locals and places there may be, where the rows of this stack begin, and how many locals there
 // were before the nearest loop, 64 outside any; and the switches.
-#[derive(Drop)]
+#[derive(Clone, Copy)]
 pub struct Env {
     pub left: usize,
     pub limit: usize,

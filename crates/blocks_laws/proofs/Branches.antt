@@ -13,7 +13,7 @@ use Rattle.tables.specs.Limits.{version1}
 use Rattle.tables.specs.Tables.{Tables}
 use Rattle.tables_lookup.specs.First.{or_else}
 use Rattle.image_body.specs.Expr.{Expr, Scope as Reading}
-use Rattle.image_body.specs.Stmt.{Tree, Block, done, if_else, if_then, while, block_at}
+use Rattle.image_body.specs.Stmt.{Tree, Block, if_else, if_then, while, block_at}
 use Rattle.rules.specs.State.{State as Status}
 use Rattle.rules.specs.Stack.{Stack as Scope}
 use Rattle.rules.specs.Rules.{states, sure_from, joins, merge, exit, Switches}

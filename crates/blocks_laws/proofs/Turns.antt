@@ -1,6 +1,6 @@
 -- The statements of a block one after another, whatever statements were read.
 -- Assumes nothing.
-use Prim.Native.Nat.{ℕ, zero, ◌-◌, ◌≤◌, ◌<◌}
+use Prim.Native.Nat.{ℕ, ◌-◌, ◌≤◌, ◌<◌}
 use native.Mathlib.Omega.{arith}
 use mathlib.Core.Path.{◌≡◌, refl, sym, ap, ◌∙◌, subst}
 use mathlib.Core.List.{List}

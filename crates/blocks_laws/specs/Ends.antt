@@ -1,6 +1,5 @@
 -- The end of a block, and the merge behind two branches.
 use Rattle.std.specs.Prelude.{ℕ, ◌+◌, ◌-◌, ◌%◌, ◌<◌, ◌≡◌, Bool, false, cond, not, ◌&&◌, List, [], length, leb}
-use Rattle.std.proofs.Math.Option.{none, some}
 use Rattle.image_fields.specs.Number.{two, four}
 use Rattle.image_fields.specs.Bytes.{two_bytes}
 use Rattle.image_fields.specs.Parsed.{ok}
@@ -11,7 +10,6 @@ use Rattle.image_body.specs.Stmt.{Stmt, done, before, stmt_in}
 use Rattle.rules.specs.State.{State as Status}
 use Rattle.rules.specs.Stack.{pop, Stack as Scope}
 use Rattle.rules.specs.Rules.{Drop, states, sure_from, joins, merge, Switches, concerns, end_drops}
-use Rattle.rules.specs.Report.{errors, warnings, lefts}
 use Rattle.rules.specs.Walk.{too_wide}
 use Rattle.statements_steps.specs.Drops.{delete_bytes}
 use Rattle.image_writing.specs.Stored.{Stored}

@@ -1,5 +1,7 @@
 // The branches of a statement: the numbers for one, and the merge of the states behind them.
 // Throughout, rows has the places of joined states, and pl the place of a walk, its fault and whether it surely returns, both lent.
+#![tactic(auto)]
+
 ghost use Rattle.std.specs.Prelude.{◌≡◌, true, false, ℕ, ◌≤◌, ◌<◌, length, get_or};
 ghost use Rattle.rules.specs.Rules.{switches_of};
 ghost use Rattle.scope_stack.specs.View.{row_of, Known};

@@ -1,5 +1,7 @@
 // The walk of a whole image: into memory, as far as that reaches, into a page, or into nothing, to measure it.
 // Throughout, tb has the tables of the image s, rows the places of joined states, both lent.
+#![tactic(auto)]
+
 ghost use Rattle.std.specs.Prelude.{◌≡◌, ◌≤◌, ◌<◌, length};
 ghost use Rattle.rules.specs.Rules.{switches_of};
 ghost use Rattle.image_writing.specs.Memory.{memory};
@@ -12,7 +14,7 @@ use scope_stack::States;
 use statements_acts::Place;
 
 // What a walk of all comes to: its fault or 0, and its place. Fault 254: memory of our own does not reach.
-#[derive(Drop)]
+#[derive(Clone, Copy)]
 pub struct Seen {
     pub fault: u8,
     pub place: Place,

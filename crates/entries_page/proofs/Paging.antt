@@ -2,14 +2,14 @@
 -- Assumes nothing.
 use Prim.Native.Nat.{ℕ, ◌+◌, ◌≤◌, ◌<◌}
 use native.Mathlib.Omega.{arith}
-use mathlib.Core.Path.{◌≡◌, refl, sym, ap, ◌∙◌, subst}
+use mathlib.Core.Path.{◌≡◌, refl, sym, ap, ◌∙◌}
 use mathlib.Core.Bool.{Bool, true, cond}
-use mathlib.Core.List.{List, [], ◌++◌, append-nil}
+use mathlib.Core.List.{List, ◌++◌, append-nil}
 use mathlib.Core.Option.{Option, none, some}
 use borrow.Author.Tests.{lt-ltb, lt-leb, le-leb}
 use lib.ListN.{length, drop, take, drop_of_length-le}
 use Rattle.tables.specs.Limits.{version1}
-use Rattle.image.specs.Image.{Image, Decoded, accepted, refused, decode}
+use Rattle.image.specs.Image.{Image, accepted, refused, decode}
 use Rattle.rules.specs.Rules.{switches_of}
 use Rattle.rules.specs.Report.{Report, reports}
 use Rattle.rules.specs.Walk.{image_fault}
@@ -20,7 +20,6 @@ use Rattle.statements_steps.specs.Own.{number_of}
 use Rattle.statements_acts.specs.Act.{cursors_at}
 use Rattle.image_lines.specs.Lined.{Cursors, cursors, lined, starts, onward_all}
 use Rattle.image_lines.proofs.Cursors.{starts-measured, length-measured, lined-whole}
-use Rattle.entries_verdict.specs.Passes.{over}
 use Rattle.entries_verdict.proofs.Rooms.{not-high}
 use Rattle.entries_image.specs.declared.Seen.{Seen}
 use Rattle.entries_image.specs.Images.{Measures}

@@ -1,5 +1,7 @@
 // The page of an image that was read: measured by a walk into nothing, then written by another.
 // Throughout, tb has the tables of the image s, lent.
+#![tactic(auto)]
+
 ghost use Rattle.std.specs.Prelude.{◌≡◌, ◌≤◌, length};
 ghost use Rattle.std.proofs.Math.Option.{none};
 ghost use Rattle.tables.specs.Limits.{version1};
@@ -15,7 +17,7 @@ use blocks_ends::Env;
 use image::ImageRead;
 
 // What the entry that writes the page answers; of a refusal, the fault.
-#[derive(Drop)]
+#[derive(Clone, Copy)]
 pub enum Paged {
     Written(usize),
     Refused(u8),

@@ -1,5 +1,7 @@
 // Memory of our own in four sizes, the next one where one does not reach.
 // Throughout, tb has the tables of the image s, lent.
+#![tactic(auto)]
+
 ghost use Rattle.std.specs.Prelude.{◌≡◌, true, false, ◌≤◌};
 ghost use Rattle.image_writing.specs.Memory.{memory};
 ghost use Rattle.entries_image.specs.Images.{ImageThere};

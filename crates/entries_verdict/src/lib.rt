@@ -1,5 +1,7 @@
 // The verdict on an image that was read: the walk of the whole image into memory of our own first.
 // Throughout, tb has the tables of the image s, rows the places of joined states, both lent.
+#![tactic(auto)]
+
 ghost use Rattle.std.specs.Prelude.{◌≡◌, true, false, ◌+◌, ◌≤◌, ◌<◌, length};
 ghost use Rattle.std.proofs.lemmas.List.Edits.{sets};
 ghost use Rattle.std.proofs.Math.Seq.{slice};
@@ -14,7 +16,7 @@ use image::ImageRead;
 use statements_acts::Place;
 
 // Bytes written and entries of each list.
-#[derive(Drop)]
+#[derive(Clone, Copy)]
 pub struct Totals {
     pub written: usize,
     pub errors: usize,
@@ -23,7 +25,7 @@ pub struct Totals {
 }
 
 // What the entry that gives back the body answers; of a refusal, the fault.
-#[derive(Drop)]
+#[derive(Clone, Copy)]
 pub enum Outcome {
     Accepted(Totals),
     Refused(u8),

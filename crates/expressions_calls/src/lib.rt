@@ -1,5 +1,7 @@
 // What a call and std::move do once their arguments are evaluated, as mod.rs's validate_expr has it, as far as the tables and the
 // bytes say it: the caller asks its stack which names are locals.
+#![tactic(auto)]
+
 ghost use Rattle.std.specs.Prelude.{◌≡◌, ℕ, ◌+◌, ◌*◌, ◌<◌, ◌≤◌, [], ◌∷◌, map, length};
 ghost use Rattle.image_fields.specs.Table.{entries};
 ghost use Rattle.tables.specs.Tables.{Tables};

@@ -1,5 +1,7 @@
 // What a node of an expression does before its children, as mod.rs's validate_expr has it, as far as the tables and the bytes say
 // it: the caller asks its stack which names are locals.
+#![tactic(auto)]
+
 ghost use Rattle.std.specs.Prelude.{◌≡◌, true, false, map, ◌+◌, ◌<◌, length, get_or};
 ghost use Rattle.image_fields.specs.Number.{two, four};
 ghost use Rattle.tables.specs.Tables.{Tables};
@@ -13,7 +15,7 @@ use image_fields::{peek, peek_two, wide16};
 
 // A name and a place. UseHand is a use and then the hand-over of a temporary; MoveTemp a move of a temporary. BadMove, the move of
 // what is no name, has a place; GlobalMove a place and the place of the global's definition.
-#[derive(Drop)]
+#[derive(Clone, Copy)]
 pub enum Effect {
     Nothing,
     Use(u16, u32),

@@ -15,7 +15,6 @@ use Rattle.rules.specs.Verdict.{entry_of, entries_of}
 use Rattle.rules.specs.Effects.{uses, hands, gives, moves, moves_global, moves_none, resolve_all}
 use Rattle.expressions_effects.specs.Asked.{emits}
 use Rattle.expressions_effects.specs.declared.Effect.{Effect}
-use Rattle.expressions_effects.specs.declared.Effect.TheVariants as effect
 use Rattle.scope_state.specs.Kinds.{put}
 use Rattle.image_writing.specs.Stored.{Stored}
 use Rattle.image_writing.proofs.Stores.{none-stored}

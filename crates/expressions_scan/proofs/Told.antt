@@ -13,7 +13,7 @@ use lib.Seq.{sets-eq, length-take-le}
 use Rattle.image_fields.proofs.Tests.{split}
 use Rattle.tables.specs.Limits.{version1}
 use Rattle.rules.specs.State.{State as Status, moved}
-use Rattle.rules.specs.Stack.{Static, local, shape, has, lookup, Stack as Scope}
+use Rattle.rules.specs.Stack.{Static, shape, has, lookup, Stack as Scope}
 use Rattle.rules.specs.Report.{Report, error, first, bad_use, use_of, report_all}
 use Rattle.rules.specs.Verdict.{entry_of, entries_of}
 use Rattle.rules.specs.Effects.{Raw, kill, bad_move, resolve_all}

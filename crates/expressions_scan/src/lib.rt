@@ -1,5 +1,7 @@
 // The scan of a statement's values over lent arrays: it reports the errors of their effects, as numbers of their list or as lines of a
 // page, and comes back where the stack must change; the caller changes it and has the scan go on. The open nodes stand in a lent array.
+#![tactic(auto)]
+
 ghost use Rattle.std.specs.Prelude.{◌≡◌, List, [], ◌∷◌, ◌++◌, ℕ, ◌+◌, ◌*◌, ◌≤◌, ◌<◌, eqb, length, get_or, replicate, take};
 ghost use Rattle.tables.specs.Limits.{version1};
 ghost use Rattle.tables.specs.Tables.{Tables};
@@ -26,7 +28,7 @@ use scope_state::{Firsts, Kinds, Names, find_local};
 use tables_lookup::Found;
 
 // What the stack must do: nothing, or mark a name: its kind (1 to 6), its place, and whether only what is Alive is marked.
-#[derive(Drop)]
+#[derive(Clone, Copy)]
 pub enum Change {
     Nothing,
     Mark(u16, u8, u32, bool),
@@ -34,7 +36,7 @@ pub enum Change {
 
 // The numbers of a walk: the depth that is left for blocks; how many locals there are, and their mark; where their rows start, and the
 // places that a row has room for.
-#[derive(Drop)]
+#[derive(Clone, Copy)]
 pub struct Env {
     pub left: usize,
     pub locals: usize,
@@ -46,14 +48,14 @@ pub struct Env {
 }
 
 // How many numbers of the list of errors, or bytes of their page, there are after an effect, and the change.
-#[derive(Drop)]
+#[derive(Clone, Copy)]
 pub struct Answer {
     pub told: usize,
     pub change: Change,
 }
 
 // Where a scan stands: the position, how many nodes are open, the numbers or bytes of errors, and the change that it came back for.
-#[derive(Drop)]
+#[derive(Clone, Copy)]
 pub struct Scanned {
     pub at: usize,
     pub nodes: usize,

@@ -1,5 +1,7 @@
 // Hands out the effects of an expression one after another, in the order of mod.rs's validate_expr, as far as the tables and the
 // bytes say them: the caller asks its stack which names are locals.
+#![tactic(auto)]
+
 ghost use Rattle.std.specs.Prelude.{◌≡◌, List, map, ℕ, ◌≤◌, ◌<◌, get_or, eqb};
 ghost use Rattle.tables.specs.Tables.{Tables};
 ghost use Rattle.tables.specs.Name.{name_of};
@@ -15,7 +17,7 @@ use image_fields::{wide, wide32};
 
 // An open node: where it starts, how many children are left of those being scanned, its tag, and the bytes of the count of its
 // items while that is still to come.
-#[derive(Drop)]
+#[derive(Clone, Copy)]
 pub struct Open {
     pub start: u32,
     pub left: u16,
@@ -25,7 +27,7 @@ pub struct Open {
 
 // One step at the innermost open node: what it does, where to go on, the node after it, the child that begins, and how many of
 // these two are open: 2 a child begins, 1 a leaf or the count was read, 0 the node ends.
-#[derive(Drop)]
+#[derive(Clone, Copy)]
 pub struct Step {
     pub effect: Effect,
     pub at: usize,

@@ -4,16 +4,16 @@ use mathlib.Core.List.{List, [], ◌∷◌}
 use Prim.Native.Nat.{ℕ}
 use Rattle.image_fields.specs.Parsed.{bind, ensure}
 use Rattle.image_fields.specs.Number.{field_at}
-use Rattle.image_fields.specs.Table.{many_of, table_from, table_at, member, entries}
+use Rattle.image_fields.specs.Table.{many_of, table_from, table_at, member}
 use Rattle.image_fields.specs.Bytes.{two_bytes, four_bytes, number_bytes, each_bytes}
 use Rattle.tables.specs.Limits.{version1}
 use Rattle.tables.specs.Name.{bytes_at, name_of, same_bytes, below_bytes, name_at, names_at}
 use Rattle.tables.specs.Ty.{of_width, shape_width, parts_at, type_at, types_at, generic_flags}
 use Rattle.tables.specs.Signature.{method_at, rises, struct_rest_at, struct_at, structs_at, global_at, globals_at, param_at, entry_at}
-use Rattle.image_body.specs.Expr.{Expr, Head, node, none, more, arg_width, fixed_count, count_width, last_width, head_at, through, through_first, generic_receiver, end_at, rest_at, expr_at}
-use Rattle.image_body.specs.Stmt.{Block, done, expr_stmt, head_bytes, value_flag, value_count, type_width, block_count, else_flag, stmt_head_at, values_at, front_at, back_at, stmt_at, before_of, block_at}
+use Rattle.image_body.specs.Expr.{Expr, node, none, more, arg_width, fixed_count, count_width, last_width, head_at, through, generic_receiver, end_at, rest_at, expr_at}
+use Rattle.image_body.specs.Stmt.{done, expr_stmt, head_bytes, value_flag, value_count, type_width, block_count, else_flag, stmt_head_at, values_at, front_at, back_at, stmt_at, before_of, block_at}
 use Rattle.image_encoding.specs.Tables.{encode_name, encode_type, encode_method, encode_struct, encode_global, encode_param, encode_entry, encode_tables}
-use Rattle.image_encoding.specs.Body.{encode_expr, encode_exprs, size, encode_code, encode_block}
+use Rattle.image_encoding.specs.Body.{encode_expr, size, encode_code, encode_block}
 use Rattle.image.specs.Image.{Image, Decoded, accepted, body_at, image_at, outcome, decode, encode}
 use Rattle.image.specs.Image as image
 

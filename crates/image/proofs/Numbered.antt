@@ -1,21 +1,19 @@
 -- Every fault of an image has a number from 1 to 11.
 -- Assumes nothing.
-use mathlib.Core.Path.{◌≡◌, refl, sym, ◌∙◌}
+use mathlib.Core.Path.{◌≡◌, refl}
 use mathlib.Core.List.{List, [], ◌∷◌, ◌++◌}
-use mathlib.Core.Bool.{Bool, true, false, not, ◌&&◌, ◌||◌}
+use mathlib.Core.Bool.{Bool, true, false}
 use Prim.Native.Nat.{ℕ, zero, suc, ◌+◌, ◌<◌}
 use native.Mathlib.Omega.{arith}
-use lib.ListN.{length, get_or}
-use lib.Dec.{leb, ltb, eqb}
 use Rattle.image_fields.specs.Parsed.{Parsed, ok, fault, bind, ensure}
 use Rattle.image_fields.specs.Number.{field_at}
 use Rattle.image_fields.specs.Table.{many_of, table_from, table_at}
 use Rattle.tables.specs.Limits.{Limits}
 use Rattle.tables.specs.Name.{name_at, names_at}
 use Rattle.tables.specs.Ty.{Ty, parts_at, type_at, types_at}
-use Rattle.tables.specs.Signature.{Method, Struct, Global, Param, method_at, struct_rest_at, struct_at, structs_at, global_at, globals_at, param_at, entry_at}
-use Rattle.image_body.specs.Expr.{Head, Expr, Exprs, Scope, none, more, head_at, end_at, rest_at, expr_at}
-use Rattle.image_body.specs.Stmt.{StmtHead, Front, Stmt, Block, done, before, stmt_head_at, values_at, front_at, back_at, stmt_at, block_at}
+use Rattle.tables.specs.Signature.{method_at, struct_rest_at, struct_at, structs_at, global_at, globals_at, param_at, entry_at}
+use Rattle.image_body.specs.Expr.{Scope, none, more, head_at, end_at, rest_at, expr_at}
+use Rattle.image_body.specs.Stmt.{Block, done, before, stmt_head_at, values_at, front_at, back_at, stmt_at, block_at}
 use Rattle.image.specs.Image.{Image, Decoded, accepted, refused, body_at, image_at, outcome, decode, fault_of}
 use Rattle.image.specs.Image as image
 

@@ -2,36 +2,35 @@
 -- Assumes nothing.
 use mathlib.Core.Path.{◌≡◌, refl, sym, ap, ◌∙◌, subst}
 use mathlib.Core.List.{List, [], ◌∷◌, ◌++◌, append-nil}
-use mathlib.Core.Bool.{Bool, true, false, ◌&&◌}
-use Prim.Native.Nat.{ℕ, ◌+◌, ◌-◌, ◌≤◌, ◌<◌}
+use mathlib.Core.Bool.{true, ◌&&◌}
+use Prim.Native.Nat.{ℕ, ◌+◌, ◌≤◌}
 use native.Mathlib.Omega.{arith}
 use borrow.Author.Tests.{eqb-true, leb-true, eq-eqb, le-leb}
-use lib.ListN.{length, get_or, drop, length-append, length-drop}
+use lib.ListN.{length, get_or, drop}
 use lib.Seq.{drop-length}
 use lib.Dec.{leb, eqb}
-use Rattle.image_fields.specs.Parsed.{Parsed, ok, fault, bind, ensure}
+use Rattle.image_fields.specs.Parsed.{ok}
 use Rattle.image_fields.specs.Number.{four}
-use Rattle.image_fields.specs.Bytes.{four_bytes, Bytes, Part}
+use Rattle.image_fields.specs.Bytes.{four_bytes, Bytes}
 use Rattle.image_fields.proofs.Inverse.{ensure-ok, bound}
 use Rattle.image_fields.proofs.Tests.{and-true}
 use Rattle.tables.specs.Limits.{Limits}
 use Rattle.tables.specs.Name.{names_at}
 use Rattle.tables.specs.Ty.{types_at}
 use Rattle.tables.specs.Signature.{structs_at, globals_at, entry_at}
-use Rattle.tables.specs.Tables.{Tables}
-use Rattle.image_body.specs.Stmt.{Block, block_at}
+use Rattle.image_body.specs.Stmt.{block_at}
 use Rattle.image_encoding.specs.Tables.{encode_tables, encode_entry}
 use Rattle.image_encoding.specs.Body.{encode_block}
 use Rattle.image_encoding.specs.Written.{Written}
 use Rattle.image_encoding.specs.Valid.{ValidScope}
-use Rattle.image_encoding.proofs.Parts.{byte_at, then, upto, from, being, four-at, split, here, four-here, goes, passes}
+use Rattle.image_encoding.proofs.Parts.{byte_at, then, from, being, four-at, split, here, four-here, goes, passes}
 use Rattle.image_encoding.proofs.TablesWritten.{tables-written, entry-written}
 use Rattle.image_encoding.proofs.TablesReadBack.{tables-read-back, entry-read-back}
 use Rattle.image_encoding.proofs.TablesValid.{names-valid, types-valid, structs-valid, globals-valid, entry-valid}
 use Rattle.image_encoding.proofs.BodyWritten.{block_written}
 use Rattle.image_encoding.proofs.BodyReadBack.{block-read-back}
 use Rattle.image_encoding.proofs.BodyValid.{block-valid}
-use Rattle.image.specs.Image.{Image, Decoded, accepted, refused, scope_in, length_ok, body_at, rest_at, image_at, outcome, decode, encode_parts, encode}
+use Rattle.image.specs.Image.{Image, accepted, scope_in, length_ok, body_at, rest_at, image_at, outcome, decode, encode_parts, encode}
 use Rattle.image.specs.Valid.{ValidImage}
 use Rattle.image.proofs.Whole.{outcome-ok}
 

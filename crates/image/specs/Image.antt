@@ -7,7 +7,7 @@ use Rattle.image_fields.specs.Bytes.{four_bytes}
 use Rattle.tables.specs.Limits.{Limits}
 use Rattle.tables.specs.Name.{names_at}
 use Rattle.tables.specs.Ty.{Ty, types_at, generic_flags}
-use Rattle.tables.specs.Signature.{Struct, Global, Entry, structs_at, globals_at, entry_at}
+use Rattle.tables.specs.Signature.{Entry, structs_at, globals_at, entry_at}
 use Rattle.tables.specs.Tables.{Tables}
 use Rattle.image_body.specs.Expr.{Scope}
 use Rattle.image_body.specs.Stmt.{Block, block_at}

@@ -1,5 +1,5 @@
 -- The images that can be written and read back: within the limits of a version.
-use Rattle.std.specs.Prelude.{ℕ, ◌≤◌, length}
+use Rattle.std.specs.Prelude.{◌≤◌, length}
 use Rattle.tables.specs.Limits.{Limits}
 use Rattle.image_encoding.specs.Valid.{ValidTables, ValidEntry, ValidBlock}
 use Rattle.image.specs.Image.{Image, scope_in, encode}

@@ -1,4 +1,6 @@
 // Reads a whole image: head, tables, entry and body, up to the end of its bytes.
+#![tactic(auto)]
+
 ghost use Rattle.std.specs.Prelude.{◌≡◌, ◌+◌, ◌≤◌, ◌<◌, List, [], ◌∷◌, map, length, drop};
 ghost use Rattle.std.proofs.Math.Seq.{paste};
 ghost use Rattle.image_fields.specs.Answer.{read_of};
@@ -12,7 +14,7 @@ ghost use Rattle.image.specs.Layout.{head_fault, wrong_of, fault_in, RestReads, 
 
 // What follows the names and the types: the fault's number or 0, how many structs and globals there are, and where the globals, the
 // entry and the body start.
-#[derive(Drop)]
+#[derive(Clone, Copy)]
 struct Rest {
     fault: u8,
     struct_count: usize,
@@ -23,7 +25,7 @@ struct Rest {
 }
 
 // The fault's number, or 0 and where the entry and the body start.
-#[derive(Drop)]
+#[derive(Clone, Copy)]
 pub struct ImageRead {
     pub fault: u8,
     pub entry: usize,

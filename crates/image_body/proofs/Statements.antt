@@ -1,6 +1,6 @@
 -- What the bytes say where a statement or a block was read: its tree, and where its values and blocks were read.
 -- Assumes nothing.
-use mathlib.Core.Path.{◌≡◌, refl, sym, ap, ◌∙◌, subst, subst₂}
+use mathlib.Core.Path.{◌≡◌, refl, sym, ap, ◌∙◌, subst}
 use mathlib.Core.List.{List, [], ◌∷◌}
 use mathlib.Core.Bool.{Bool, true, false, cond, ◌&&◌, ◌||◌}
 use Prim.Native.Nat.{ℕ, zero, suc, ◌+◌, ◌-◌, ◌≤◌, ◌<◌}
@@ -8,7 +8,7 @@ use native.Mathlib.Omega.{arith}
 use borrow.Author.Tests.{leb-true, ltb-true}
 use lib.ListN.{length, get_or}
 use lib.Dec.{eqb, ltb, T, ltb→lt, eqb-suc-zero}
-use Rattle.image_fields.specs.Parsed.{Parsed, ok, fault}
+use Rattle.image_fields.specs.Parsed.{Parsed, ok}
 use Rattle.image_fields.specs.Number.{two, four, field_at}
 use Rattle.image_fields.specs.Table.{many_of}
 use Rattle.image_fields.proofs.Tests.{and-true}
@@ -16,7 +16,7 @@ use Rattle.image_fields.proofs.Inverse.{impossible, bound, ensure-ok}
 use Rattle.image_fields.proofs.Numbers.{field-ok, field_end}
 use Rattle.image_fields.proofs.Rules.{at}
 use Rattle.image_body.specs.Expr.{Expr, Exprs, Scope, none, more, expr_at, exprs_at}
-use Rattle.image_body.specs.Stmt.{Code, Tree, Block, StmtHead, Stmt, done, expr_stmt, variable, assign, return, bare_return, block, if_else, if_then, while, jump, head_bytes, value_flag, value_count, type_width, block_count, else_flag, binds_ok, stmt_head_at, values_at, front_at, back_at, stmt_at, first_value, first_block, before_return, before_if, before_of, before, stmts_by, block_at, stmts_at}
+use Rattle.image_body.specs.Stmt.{Code, Tree, Block, StmtHead, Stmt, done, expr_stmt, variable, assign, return, bare_return, block, if_else, if_then, while, jump, head_bytes, value_flag, value_count, type_width, block_count, else_flag, binds_ok, stmt_head_at, stmt_at, first_value, first_block, before_return, before_if, before_of, before, stmts_by, block_at, stmts_at}
 use Rattle.image_body.proofs.StmtRead.{stmt-read}
 use Rattle.image_body.proofs.Standing.{stand-all, end-all, order-all}
 

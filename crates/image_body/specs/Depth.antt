@@ -1,6 +1,6 @@
 -- How deep an expression is, and what a walk over a position is given: an expression stands there, no deeper than so much.
-use Rattle.std.specs.Prelude.{ℕ, zero, suc, max, ◌≤◌, ◌≡◌, List}
-use Rattle.image_body.specs.Expr.{Head, Expr, Exprs, node, none, more}
+use Rattle.std.specs.Prelude.{ℕ, suc, max, ◌≤◌, ◌≡◌, List}
+use Rattle.image_body.specs.Expr.{Expr, Exprs, node, none, more}
 use Rattle.image_body.specs.Stands.{Stands, StandAll, count}
 
 unfoldable mutual

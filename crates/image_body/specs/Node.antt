@@ -1,5 +1,5 @@
 -- What stands at a position, as the code's Node: its variants hold numbers and the positions of what follows the head.
-use Rattle.std.specs.Prelude.{ℕ, ◌+◌, List, cond, get_or, eqb, ltb}
+use Rattle.std.specs.Prelude.{ℕ, ◌+◌, List, cond, get_or, eqb}
 use Rattle.image_fields.specs.Number.{two}
 use Rattle.image_body.specs.declared.Node.{Node}
 use Rattle.image_body.specs.declared.Node.TheVariants.{Other, Ident, This, Unary, Casting, Binary, Call, ListOf, Sized, Object, Delete, FieldAccess, Indexing, StaticAccess, Intrinsic, Literal}

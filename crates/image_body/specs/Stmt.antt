@@ -3,7 +3,7 @@ use Rattle.std.specs.Prelude.{ℕ, zero, suc, ◌+◌, ◌-◌, List, [], ◌∷
 use Rattle.image_fields.specs.Parsed.{Parsed, ok, fault, bind, ensure}
 use Rattle.image_fields.specs.Number.{two, four, field_at}
 use Rattle.image_fields.specs.Table.{many_of}
-use Rattle.image_body.specs.Expr.{Expr, Exprs, Scope, node, none, more, expr_at, exprs_at}
+use Rattle.image_body.specs.Expr.{Expr, Exprs, Scope, node, none, more, exprs_at}
 
 -- A block's statements: each constructor but `done` is a statement and what follows it. X decorates the places where deletes may
 -- be put in (a block's end, an assignment, a return, Break and Continue), Y an expression statement; both are Unit in a submitted tree.

@@ -1,4 +1,6 @@
 // Answers what stands at a place of a body that was read: every answer equals what the definitions of specs/ say of the bytes.
+#![tactic(auto)]
+
 pub mod layout;
 
 ghost use Rattle.std.specs.Prelude.{◌≡◌, ℕ, ◌+◌, ◌-◌, ◌≤◌, ◌<◌, cond, length, eqb};
@@ -11,7 +13,7 @@ ghost use Rattle.image_body.specs.Depth.{Walkable, WalkableAll};
 use image_fields::{peek, peek_two};
 
 // How many names and types there are, and how deep an expression may be.
-#[derive(Drop)]
+#[derive(Clone, Copy)]
 pub struct Env {
     pub names: usize,
     pub types: usize,
@@ -19,7 +21,7 @@ pub struct Env {
 }
 
 // What stands at a position, in the order of the tags: numbers, and positions of what follows the head.
-#[derive(Drop)]
+#[derive(Clone, Copy)]
 pub enum Node {
     Other,
     Ident(usize),

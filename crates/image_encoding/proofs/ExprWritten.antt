@@ -18,7 +18,7 @@ use Rattle.image_body.specs.Stands.{count}
 use Rattle.image_body.proofs.Standing.{one-arg}
 use Rattle.image_encoding.specs.Written.{Written}
 use Rattle.image_encoding.specs.Body.{encode_expr, encode_exprs}
-use Rattle.image_encoding.proofs.Parts.{at_most, byte_at, then, nothing, upto, from, being, two_at, four-at, field-written}
+use Rattle.image_encoding.proofs.Parts.{at_most, byte_at, then, nothing, upto, being, two_at, four-at, field-written}
 use Rattle.image_encoding.proofs.Runs.{many-all}
 
 -- the table of layouts: no argument or count takes more than two bytes

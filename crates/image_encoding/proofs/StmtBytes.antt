@@ -8,9 +8,8 @@ use native.Mathlib.Omega.{arith}
 use lib.ListN.{length, get_or}
 use lib.Dec.{eqb}
 use Rattle.image_fields.specs.Bytes.{two_bytes, four_bytes, number_bytes, each_bytes}
-use Rattle.image_fields.proofs.Rules.{at}
 use Rattle.image_body.specs.Expr.{Exprs, none, more}
-use Rattle.image_body.specs.Stmt.{Tree, Block, StmtHead, head_bytes, value_flag, value_count, type_width, block_count, else_flag, first_value, second_value, first_block, before_of, before}
+use Rattle.image_body.specs.Stmt.{Tree, Block, StmtHead, head_bytes, value_flag, value_count, type_width, block_count, else_flag, first_value, second_value, first_block, before_of}
 use Rattle.image_body.specs.Stands.{count}
 use Rattle.image_encoding.proofs.Parts.{at_most}
 use Rattle.image_encoding.specs.Body.{encode_expr, encode_exprs, encode_code, encode_block, size}

@@ -21,7 +21,7 @@ use Rattle.tables.proofs.Names.{length-bytes}
 use Rattle.image_encoding.specs.Written.{Written}
 use Rattle.image_encoding.specs.Tables.{encode_table, encode_name, encode_type, encode_method, encode_struct, encode_global, encode_param, encode_entry, encode_tables}
 use Rattle.tables.specs.Tables.{Tables}
-use Rattle.image_encoding.proofs.Parts.{at_most, byte_at, then, nothing, upto, from, being, field-written}
+use Rattle.image_encoding.proofs.Parts.{at_most, byte_at, then, nothing, upto, being, field-written}
 use Rattle.image_encoding.proofs.Runs.{table-written}
 
 pub bytes-at : (s : List ℕ) (p n : ℕ) → p + n ≤ length s → Written s p (bytes_at s p n) (p + n)

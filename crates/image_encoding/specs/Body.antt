@@ -1,7 +1,7 @@
 -- The bytes of a body (document 01, "The image").
-use Rattle.std.specs.Prelude.{ℕ, zero, suc, ◌+◌, List, [], ◌∷◌, ◌++◌, Bool, true, false, cond, get_or}
+use Rattle.std.specs.Prelude.{ℕ, suc, List, [], ◌∷◌, ◌++◌, cond, get_or}
 use Rattle.image_fields.specs.Bytes.{two_bytes, four_bytes, number_bytes}
-use Rattle.image_body.specs.Expr.{Head, Expr, Exprs, node, none, more, arg_width, count_width, last_width}
+use Rattle.image_body.specs.Expr.{Expr, Exprs, node, none, more, arg_width, count_width, last_width}
 use Rattle.image_body.specs.Stmt.{Code, Block, done, expr_stmt, variable, assign, return, bare_return, block, if_else, if_then, while, jump}
 use Rattle.image_body.specs.Stands.{count}
 

@@ -1,1 +1,2 @@
 // Definitions and theorems only: the bytes of an image's parts, and that reading and writing undo each other.
+#![tactic(auto)]

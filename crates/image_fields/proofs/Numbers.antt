@@ -1,17 +1,13 @@
 -- A number that was read is below its limit and stands in the bytes.
 -- Assumes nothing.
-use mathlib.Core.Path.{◌≡◌, refl, sym, ap, ◌∙◌, subst}
-use mathlib.Core.List.{List, [], ◌∷◌, ◌++◌, append_assoc}
-use mathlib.Core.Logic.{◌⊎◌, inl, inr, ⊎_elim}
-use Prim.Native.Nat.{ℕ, zero, suc, ◌+◌, ◌-◌, ◌*◌, ◌/◌, ◌%◌, ◌≤◌, ◌<◌}
+use mathlib.Core.Path.{◌≡◌, sym, subst}
+use mathlib.Core.List.{List}
+use Prim.Native.Nat.{ℕ, ◌+◌, ◌-◌, ◌≤◌, ◌<◌}
 use native.Mathlib.Omega.{arith}
-use native.Mathlib.Numerals.{add-one}
 use borrow.Author.Tests.{leb-true, ltb-true, le-leb, lt-leb, lt-ltb, le-ltb}
-use lib.ListN.{length, get_or, drop, get_or-eq_default}
-use lib.Seq.{drop-cons}
-use Rattle.image_fields.specs.Parsed.{Parsed, ok, fault, bind, ensure}
-use Rattle.image_fields.specs.Number.{two, four, number_in, field_at}
-use Rattle.image_fields.specs.Bytes.{two_bytes, four_bytes, number_bytes, each_bytes, Bytes, Part}
+use lib.ListN.{length, get_or, get_or-eq_default}
+use Rattle.image_fields.specs.Parsed.{ok, fault, ensure}
+use Rattle.image_fields.specs.Number.{number_in, field_at}
 use Rattle.image_fields.proofs.Inverse.{ensure-ok}
 
 -- past the end a byte counts as 0

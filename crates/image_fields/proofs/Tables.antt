@@ -1,26 +1,23 @@
 -- Runs of entries: the steps that a loop takes, and what a run that was read is.
 -- Assumes nothing.
-use mathlib.Core.Path.{◌≡◌, refl, sym, ap, ◌∙◌, subst, subst₂}
-use mathlib.Core.List.{List, [], ◌∷◌, ◌++◌, map, append_assoc, map-append}
-use mathlib.Core.Bool.{Bool, true, false, ◌||◌}
+use mathlib.Core.Path.{◌≡◌, refl, sym, ap, ◌∙◌, subst₂}
+use mathlib.Core.List.{List, [], ◌∷◌, ◌++◌, map, map-append}
+use mathlib.Core.Bool.{Bool, true, false}
 use Prim.Native.Nat.{ℕ, zero, suc, ◌+◌, ◌-◌, ◌*◌, ◌≤◌, ◌<◌}
 use native.Mathlib.Omega.{arith}
 use native.Mathlib.Numerals.{add-one}
-use borrow.Author.Tests.{leb-true, le-leb, lt-leb, eqb-true, eq-eqb, ne_eqb}
-use lib.ListN.{length, get_or, take, set, length-append, length-set, length-map}
+use borrow.Author.Tests.{leb-true, le-leb, lt-leb, eq-eqb, ne_eqb}
+use lib.ListN.{length, take, set, length-append, length-map}
 use lib.Seq.{take-suc-set}
 use lib.Dec.{eqb, leb}
 use Rattle.image_fields.specs.Parsed.{Parsed, ok, fault, bind, ensure}
 use Rattle.image_fields.specs.Number.{two, field_at}
 use Rattle.image_fields.specs.Table.{many_of, table_from, table_at, member, entries}
 use Rattle.image_fields.specs.Answer.{read_of, table_of}
-use Rattle.image_fields.specs.declared.Read.{Read}
 use Rattle.image_fields.specs.declared.Read.TheVariants.{Next, Fault}
-use Rattle.image_fields.specs.declared.Number.{Number}
-use Rattle.image_fields.specs.declared.Number.TheVariants.{Is, Wrong}
-use Rattle.image_fields.proofs.Inverse.{impossible, bound, ensure-ok}
-use Rattle.image_fields.proofs.Answers.{mapped, is-table, wrong-table, number_ok, number-wrong}
-use Rattle.image_fields.proofs.Tests.{or-true}
+use Rattle.image_fields.specs.declared.Number.TheVariants.{Is}
+use Rattle.image_fields.proofs.Inverse.{bound, ensure-ok}
+use Rattle.image_fields.proofs.Answers.{mapped}
 
 -- so many of a kind
 module _ {A L : Type 0} (nil : L) (cons : A → L → L) (f : ℕ → Parsed A) where

@@ -1,6 +1,6 @@
 -- Runs of entries: so many, one after another.
-use Rattle.std.specs.Prelude.{ℕ, zero, suc, ◌+◌, List, [], ◌∷◌, ◌++◌, Bool, true, false, ◌||◌, leb}
-use Rattle.image_fields.specs.Parsed.{Parsed, ok, fault, bind, ensure}
+use Rattle.std.specs.Prelude.{ℕ, zero, suc, ◌+◌, List, [], ◌∷◌, ◌++◌, Bool, false, ◌||◌, leb}
+use Rattle.image_fields.specs.Parsed.{Parsed, ok, bind, ensure}
 use Rattle.image_fields.specs.Number.{field_at}
 
 -- n of a kind, in a list of that kind

@@ -1,18 +1,20 @@
 // Numbers in bytes, and the answers of a reader.
+#![tactic(auto)]
+
 ghost use Rattle.std.specs.Prelude.{◌≡◌, ◌+◌, ◌-◌, ◌*◌, ◌≤◌, ◌<◌, length, get_or, eqb};
 ghost use Rattle.image_fields.specs.Number.{two, four, number_in, field_at};
 ghost use Rattle.image_fields.specs.Table.{member, entries};
 ghost use Rattle.image_fields.specs.Answer.{number_of};
 
 // The position after what was read, or the fault's number.
-#[derive(Drop)]
+#[derive(Clone, Copy)]
 pub enum Read {
     Next(usize),
     Fault(u8),
 }
 
 // A number and the position after it, or the fault's number.
-#[derive(Drop)]
+#[derive(Clone, Copy)]
 pub enum Number {
     Is(usize, usize),
     Wrong(u8),

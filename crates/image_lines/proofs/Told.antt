@@ -7,14 +7,14 @@ use mathlib.Core.Path.{◌≡◌, refl, sym, ap, ◌∙◌, subst}
 use mathlib.Core.Bool.{Bool, true, false}
 use mathlib.Core.List.{List, [], ◌∷◌, ◌++◌, append_assoc, append-nil}
 use lib.ListN.{length}
-use lib.Seq.{sets, length-sets}
+use lib.Seq.{sets}
 use Rattle.image_fields.proofs.Tests.{false-true}
 use Rattle.tables.specs.Limits.{version1}
 use Rattle.rules.specs.Report.{Report, error, warning, left, errors, warnings, lefts}
 use Rattle.rules.specs.Verdict.{entry_of, entries_of}
 use Rattle.image_writing.specs.Stored.{Stored}
-use Rattle.image_writing.proofs.Stores.{none-stored, both_stored, sets-append, sets-out, stored-length}
-use Rattle.image_lines.specs.Lined.{shown, shown_all, Cursors, cursors, cursor, onward, onward_all, lined}
+use Rattle.image_writing.proofs.Stores.{none-stored, both_stored, sets-out}
+use Rattle.image_lines.specs.Lined.{shown, shown_all, Cursors, cursors, onward_all, lined}
 use Rattle.image_lines.specs.Told.{Listed, Lined}
 use Rattle.image_lines.proofs.Cursors.{shown-none, shown-more, shown-single, lined-append, onward-append, cursors-of, lined-errors as run-errors, lined-warnings as run-warnings, lined-lefts as run-lefts}
 

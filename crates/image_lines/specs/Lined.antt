@@ -2,7 +2,7 @@
 use Rattle.std.specs.Prelude.{ℕ, ◌+◌, length, get_or, take, drop}
 use mathlib.Core.List.{List, [], ◌∷◌, flat_map, flatten}
 use Rattle.std.proofs.lemmas.List.Edits.{sets}
-use Rattle.rules.specs.Report.{Report, error, warning, left, errors, warnings, lefts}
+use Rattle.rules.specs.Report.{Report, error, warning, left, errors, warnings}
 use Rattle.rules_page.specs.Page.{entry}
 
 -- the bytes of a report's lines, and of the lines of several

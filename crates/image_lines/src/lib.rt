@@ -1,5 +1,7 @@
 // The lines of one report of the page (document 02, (a)), stored as far as lent memory reaches. A line is put together in 73 bytes of our
 // own, blank at first: numbers are written there from their last digit on, and the end of memory is met once a line.
+#![tactic(auto)]
+
 ghost use Rattle.std.specs.Prelude.{◌≡◌, ℕ, ◌+◌, ◌-◌, ◌≤◌, ◌<◌, min, length, get_or};
 ghost use mathlib.Core.List.{List, ◌++◌, flat_map, flatten};
 ghost use Rattle.std.proofs.lemmas.List.Edits.{sets};

@@ -1,4 +1,6 @@
 // Reads expressions, statements and blocks: every answer equals what the definitions of specs/ say of the bytes.
+#![tactic(auto)]
+
 ghost use Rattle.std.specs.Prelude.{◌≡◌, ℕ, ◌+◌, ◌-◌, ◌<◌, length, get_or};
 ghost use Rattle.image_fields.specs.Answer.{read_of};
 ghost use Rattle.image_body.specs.Expr.{Head, Exprs, fixed_count, arg_limit, type_ok, head_at, end_at, expr_at, exprs_at, children_at};
@@ -11,7 +13,7 @@ use image_body::{Env, generic_receiver, layout};
 use image_fields::{Number, Read, field, peek, peek_two, room, two_at, wide};
 
 // A node's tag and the position of what follows its head, or the fault's number.
-#[derive(Drop)]
+#[derive(Clone, Copy)]
 pub enum Start {
     Tag(usize, usize),
     Bad(u8),

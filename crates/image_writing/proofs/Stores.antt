@@ -1,15 +1,15 @@
 -- Laws of runs of stores.
-use Prim.Native.Nat.{ℕ, suc, ◌+◌, ◌-◌, ◌≤◌, ◌<◌}
+use Prim.Native.Nat.{ℕ, suc, ◌+◌, ◌≤◌, ◌<◌}
 use mathlib.Core.Path.{◌≡◌, refl, sym, ap, ◌∙◌}
 use mathlib.Core.List.{List, [], ◌∷◌, ◌++◌}
 use mathlib.Core.Bool.{true, false}
 use mathlib.Core.Logic.{⊎_elim}
 use borrow.Author.Tests.{ltb-true, ltb-false}
-use native.Mathlib.Nat.{add-suc, suc-add, zero-add, add-zero}
+use native.Mathlib.Nat.{add-suc, suc-add, add-zero}
 use native.Mathlib.Numerals.{add-one}
 use native.Mathlib.Omega.{arith}
 use lib.Dec.{ltb}
-use lib.ListN.{length, set, get_or, length-append, length-set}
+use lib.ListN.{length, set, get_or, length-append}
 use lib.Seq.{sets, set_out, set_comm, length-sets, slice, slice-cons, slice_empty}
 use Rattle.image_fields.specs.Bytes.{two_bytes, four_bytes, number_bytes}
 use Rattle.image_fields.proofs.Tests.{split}

@@ -1,4 +1,6 @@
 // Stores into lent memory as far as it reaches, and counts everything: with memory of length 0 it measures.
+#![tactic(auto)]
+
 ghost use Rattle.std.specs.Prelude.{[], ◌∷◌, ◌++◌, ◌+◌, ◌-◌, ◌≤◌, ◌<◌, length};
 ghost use Rattle.std.proofs.Math.Seq.{slice};
 ghost use Rattle.image_fields.specs.Bytes.{two_bytes, four_bytes};

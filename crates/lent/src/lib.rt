@@ -1,4 +1,6 @@
 // Forms over lent memory (document 01, "What changes shape"): a stack that is changed in place, and errors as records.
+#![tactic(auto)]
+
 ghost use Rattle.std.specs.Prelude.{◌≡◌, cond, ◌||◌, [], ◌∷◌, ◌≤◌, ◌<◌, ◌+◌, ◌*◌, eqb, ltb, length};
 ghost use Rattle.scope_state.specs.Kinds.{said, put};
 ghost use Rattle.lent.specs.Changed.{Whole, Marked, Registered};
@@ -7,14 +9,14 @@ ghost use Rattle.lent.specs.Records.{record_at, Writes};
 use scope_stack::{Locals, States};
 
 // The scope stack; the places of a state that has several stand in rows elsewhere, which no function here needs.
-#[derive(Drop)]
+#[derive(Clone, Copy)]
 pub struct Stack {
     pub locals: Locals,
     pub states: States,
 }
 
 // A stack, and whether it has what it was to get.
-#[derive(Drop)]
+#[derive(Clone, Copy)]
 pub struct Next {
     pub ok: bool,
     pub stack: Stack,
@@ -22,7 +24,7 @@ pub struct Next {
 
 // An error as C has it: of the places, the first count.
 #[repr(C)]
-#[derive(Drop)]
+#[derive(Clone, Copy)]
 pub struct Report {
     pub kind: u32,
     pub place: u32,

@@ -1,5 +1,7 @@
 // Reads one image from standard input and writes in decimals what the pass answers, as document 01 shows: the totals and a line for each
 // entry of the lists, or the fault.
+#![tactic(auto)]
+
 ghost use Rattle.std.specs.Prelude.{◌≡◌, List, [], ◌∷◌, ◌++◌, ◌+◌, ◌-◌, ◌*◌, ◌≤◌, ◌<◌, min, length};
 ghost use Rattle.std.proofs.Math.Seq.{slice};
 ghost use Rattle.image_writing.specs.Stored.{Stored};
@@ -7,7 +9,7 @@ ghost use Rattle.programs_text.specs.Text.{numbers, line};
 ghost use Rattle.ownership.specs.Text.{accepted_word, error_line, entry_line, lines, Reports};
 
 use entries_verdict::{Outcome, Totals};
-use libc::{STDIN_FILENO, STDOUT_FILENO};
+use std::io;
 
 fn wide(x: u32) -> u64
     ensures { result ≡ x }
@@ -136,10 +138,10 @@ fn report(s: &[u8], out: &mut [u8]) -> usize
 }
 
 // A byte more than any image has, so that longer input is refused.
-fn main() {
+fn main(rt: HostRuntime) -> io::Result<()> {
     let mut image = [0u8; 65537];
     let mut text = [0u8; 131072];
-    let n = io::read_full(STDIN_FILENO, &mut image);
+    let n = programs_input::read_full(&mut rt.reader(), &mut image)?;
     let end = report(&image[..n], &mut text);
-    io::write_all(STDOUT_FILENO, &text[..end]);
+    rt.write_all(&text[..end])
 }

@@ -7,7 +7,7 @@ use mathlib.Core.Bool.{Bool, cond}
 use borrow.Author.Tests.{lt-ltb}
 use mathlib.Core.Logic.{◌↔◌, ◌⊎◌, inl, inr, ⊎_elim}
 use mathlib.Core.List.{List}
-use mathlib.Core.Option.{Option, none, some}
+use mathlib.Core.Option.{none, some}
 use lib.ListN.{length}
 use Rattle.tables.specs.Limits.{version1}
 use Rattle.image.specs.Image.{decode}
@@ -17,7 +17,7 @@ use Rattle.rules.specs.Verdict.{Answer, Verdict, refuses, answers, decided, too_
 use Rattle.rules.proofs.Numbers.{Number, high, low, verdict-numbers, room-numbers}
 use Rattle.image_writing.specs.Memory.{Memory}
 use Rattle.entries_verdict.specs.declared.Outcome.{Outcome}
-use Rattle.entries_verdict.specs.declared.Outcome.TheVariants.{Accepted, Refused}
+use Rattle.entries_verdict.specs.declared.Outcome.TheVariants.{Refused}
 use Rattle.entries_verdict.specs.Passes.{Passes, lent_of, outcome_of, verdict_on}
 use Rattle.ownership_pass.specs.declared.Answer.{Answer as Room}
 use Rattle.ownership_pass.specs.declared.Answer.TheVariants.{Needed, Denied}

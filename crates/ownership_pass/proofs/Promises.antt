@@ -14,7 +14,7 @@ use Rattle.image.proofs.RoundTrip.{image-written}
 use Rattle.rules.specs.Rules.{Switches, switches_of, decide_body}
 use Rattle.rules.specs.Report.{returned_image}
 use Rattle.rules.specs.Walk.{image_fault}
-use Rattle.rules.specs.Verdict.{Lent, Answer, answer_of, Verdict, refuses, answers, lists_fit, output_fits, fitted, walked, decided, too_high, pass_verdict}
+use Rattle.rules.specs.Verdict.{Lent, Answer, answer_of, Verdict, refuses, answers, lists_fit, output_fits, walked, decided, too_high, pass_verdict}
 use Rattle.rules.proofs.AsReturned.{returned-body}
 use Rattle.rules.specs.Pieces.{Struck}
 use Rattle.rules.proofs.Pieces.{struck}
@@ -22,7 +22,7 @@ use Rattle.image_writing.specs.Memory.{Memory}
 use Rattle.entries_verdict.specs.declared.Totals.{Totals}
 use Rattle.entries_verdict.specs.declared.Outcome.{Outcome}
 use Rattle.entries_verdict.specs.declared.Outcome.TheVariants.{Accepted, Refused}
-use Rattle.entries_verdict.specs.Passes.{Passes, outcome_of, over, memory_after, verdict_on}
+use Rattle.entries_verdict.specs.Passes.{Passes, outcome_of, memory_after, verdict_on}
 use Rattle.ownership_pass.specs.Entries.{outcome_number, totals_after, PassLeaves}
 use Rattle.ownership_pass.specs.Promise.{Promise, Kept}
 use Rattle.ownership_pass.proofs.Numbers.{refused-positive, refused-numbers}

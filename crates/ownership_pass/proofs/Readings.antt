@@ -6,15 +6,14 @@ use mathlib.Core.Path.{◌≡◌, refl, sym, ap, ◌∙◌, subst}
 use mathlib.Core.Bool.{Bool, false, cond}
 use borrow.Author.Tests.{lt-ltb}
 use mathlib.Core.List.{List, [], ◌∷◌}
-use mathlib.Core.Option.{Option, none, some}
+use mathlib.Core.Option.{none, some}
 use Rattle.image_fields.specs.Bytes.{Bytes}
 use Rattle.tables.specs.Limits.{version1}
-use Rattle.image.specs.Image.{Image, Decoded, accepted, refused, decode, encode, fault_of}
+use Rattle.image.specs.Image.{Image, Decoded, accepted, refused, decode, fault_of}
 use Rattle.image.specs.Layout.{Laid, Reads}
 use Rattle.image.specs.declared.ImageRead.{ImageRead}
 use Rattle.image.proofs.Numbered.{zero-accepted}
 use Rattle.rules.specs.Rules.{switches_of}
-use Rattle.rules.specs.Report.{returned_image}
 use Rattle.rules.specs.Walk.{image_fault}
 use Rattle.rules.specs.Verdict.{room_fault, room_fault_of, RoomFor}
 use Rattle.rules.proofs.Longer.{room-met}

@@ -14,12 +14,12 @@ use Rattle.image.specs.Image.{Image, Decoded, accepted, refused, decode}
 use Rattle.rules.specs.Rules.{switches_of}
 use Rattle.rules.specs.Report.{returned_image}
 use Rattle.rules.specs.Walk.{image_fault}
-use Rattle.rules.specs.Verdict.{Answer, answer_of, Verdict, refuses, answers, image_counts_fit, fitted, walked, decided, too_high, pass_verdict}
+use Rattle.rules.specs.Verdict.{Answer, answer_of, refuses, answers, image_counts_fit, fitted, walked, decided, too_high, pass_verdict}
 use Rattle.image_writing.specs.Memory.{Memory}
 use Rattle.entries_verdict.specs.declared.Totals.{Totals}
 use Rattle.entries_verdict.specs.declared.Outcome.{Outcome}
 use Rattle.entries_verdict.specs.declared.Outcome.TheVariants.{Accepted, Refused}
-use Rattle.entries_verdict.specs.Passes.{lent_of, outcome_of, verdict_on, Passes}
+use Rattle.entries_verdict.specs.Passes.{lent_of, outcome_of, Passes}
 
 pub record Within (m : Memory) (t : Totals) : Type 0 where
   pub written : t.written ≤ length m.out

@@ -1,5 +1,7 @@
 // The entries: one image in, the body with the deletes inserted and the reports out, into lent memory; or the room that needs; or the
 // page of the reports.
+#![tactic(auto)]
+
 ghost use Rattle.std.specs.Prelude.{◌≡◌};
 ghost use Rattle.image_writing.specs.Memory.{memory};
 ghost use Rattle.entries_verdict.specs.Passes.{Passes};
@@ -11,7 +13,7 @@ use entries_page::Paged;
 use entries_verdict::Outcome;
 
 // What the entry that answers the room answers; of a denial, the fault.
-#[derive(Drop)]
+#[derive(Clone, Copy)]
 pub enum Answer {
     Needed(usize),
     Denied(u8),

@@ -1,13 +1,15 @@
 // Prints a line for each image of the file `images`: its label, and `accepted` with the number of its bytes or `refused` with the
 // fault's number. The file is a run of records: a label's length in one byte, the label, an image's length in four bytes (big-endian),
 // the image. tools/fault_images.rs makes data/images and, from document 01, the lines that have to come out.
+#![tactic(auto)]
+
 ghost use Rattle.std.specs.Prelude.{◌≡◌, ◌+◌, ◌≤◌, ◌<◌, length};
 ghost use Rattle.programs_faults.specs.Record.{record_at, Inside};
 
-use libc::STDOUT_FILENO;
+use std::{fs, io};
 
 // Where a record's label and its image end, or that it is cut short.
-#[derive(Drop)]
+#[derive(Clone, Copy)]
 enum Record {
     Ends(usize, usize),
     Short,
@@ -33,54 +35,52 @@ fn record_at(s: &[u8], at: usize) -> Record
 }
 
 // The line of a record that starts at a position.
-fn print_record(s: &[u8], at: usize, label: usize, end: usize)
+fn print_record(rt: &impl Print, s: &[u8], at: usize, label: usize, end: usize) -> io::Result<()>
     requires { (at < label) × (label + 4 ≤ end) × (end ≤ length s.now) }
 {
     let name = at + 1;
     let image = label + 4;
-    io::write_all(STDOUT_FILENO, &s[name..label]);
+    rt.write_all(&s[name..label])?;
     let fault = image::image_fault(&s[image..end]);
     if fault == 0 {
-        io::write_all(STDOUT_FILENO, b" accepted ");
-        io::print_decimal(STDOUT_FILENO, (end - image) as u64);
+        rt.write_all(b" accepted ")?;
+        rt.print(end - image)?;
     } else {
-        io::write_all(STDOUT_FILENO, b" refused ");
-        io::print_decimal(STDOUT_FILENO, fault);
+        rt.write_all(b" refused ")?;
+        rt.print(fault)?;
     }
-    io::write_all(STDOUT_FILENO, b"\n");
+    rt.write_all(b"\n")
 }
 
-fn print_bad() {
-    io::write_all(STDOUT_FILENO, b"bad record\n");
+fn print_bad(rt: &impl Print) -> io::Result<()> {
+    rt.write_all(b"bad record\n")
 }
 
 // The lines of all records, up to the end or a record that is cut short.
-fn print_records(s: &[u8]) {
+fn print_records(rt: &impl Print, s: &[u8]) -> io::Result<()> {
     let mut at = 0;
     while at < s.len() {
         let found = record_at(s, at);
         let Record::Ends(label, end) = found else {
-            print_bad();
-            return;
+            return print_bad(rt);
         };
-        print_record(s, at, label, end);
+        print_record(rt, s, at, label, end)?;
         at = end;
     }
+    Ok(())
 }
 
 // A file that fills the room for it may be cut short anywhere, so it is not looked at.
-fn main() {
-    let fd = os::open_read(b"images");
-    if fd < 0 {
-        os::fail(b"images");
-        return;
-    }
+fn main(rt: HostRuntime) -> io::Result<()> {
+    let mut images = match fs::open(&rt, "images") {
+        Ok(images) => images,
+        Err(e) => return eprintln!(rt; "images: {e}"),
+    };
     let mut file = [0u8; 524288];
-    let n = io::read_full(fd, &mut file);
-    libc::close(fd);
+    let n = programs_input::read_full(&mut images, &mut file)?;
     if n < 524288 {
-        print_records(&file[..n]);
+        print_records(&rt, &file[..n])
     } else {
-        print_bad();
+        print_bad(&rt)
     }
 }

@@ -1,15 +1,17 @@
 // Runs the functions of `lent` that change a lent stack beside those of `scope_stack` by value, on registrations and marks that a generator
 // picks, and compares all of the two stacks after every step. Prints what was done and how many steps differ.
+#![tactic(auto)]
+
 ghost use Rattle.std.specs.Prelude.{[], ◌∷◌, ◌<◌};
 ghost use Rattle.scope_state.specs.Kinds.{said, put};
 ghost use Rattle.lent.specs.Changed.{Whole, Marked, Registered};
 
 use lent::{Next, Stack};
-use libc::STDOUT_FILENO;
 use scope_stack::{Locals, States};
+use std::io;
 
 // A registration: name, type, depth, birth and whether the type has a destructor. A mark: name and place.
-#[derive(Drop)]
+#[derive(Clone, Copy)]
 enum Step {
     Register(u16, u16, u8, u32, bool),
     Deleted(u16, u32),
@@ -20,7 +22,7 @@ enum Step {
 }
 
 // How many steps there were, how many of each kind, how many marks changed the stack, the most locals, and how many steps differ.
-#[derive(Drop)]
+#[derive(Clone, Copy)]
 struct Tally {
     steps: u64,
     registered: u64,
@@ -294,12 +296,12 @@ fn run(seed: u64, steps: usize, before: Tally) -> Tally
     t
 }
 
-fn print(n: u64, text: &[u8]) {
-    io::print_decimal(STDOUT_FILENO, n);
-    io::write_all(STDOUT_FILENO, text);
+fn print(rt: &impl Print, n: u64, text: &[u8]) -> io::Result<()> {
+    rt.print(n)?;
+    rt.write_all(text)
 }
 
-fn main() {
+fn main(rt: HostRuntime) -> io::Result<()> {
     let mut t = Tally {
         steps: 0,
         registered: 0,
@@ -314,11 +316,11 @@ fn main() {
         t = run(seed, 200, t);
         seed += 1;
     }
-    print(t.steps, b" steps: ");
-    print(t.registered, b" registrations, ");
-    print(t.refused, b" refused, ");
-    print(t.marks, b" marks, ");
-    print(t.changed, b" of which changed the stack; ");
-    print(t.most as u64, b" locals at most; ");
-    print(t.differ, b" differ\n");
+    print(&rt, t.steps, b" steps: ")?;
+    print(&rt, t.registered, b" registrations, ")?;
+    print(&rt, t.refused, b" refused, ")?;
+    print(&rt, t.marks, b" marks, ")?;
+    print(&rt, t.changed, b" of which changed the stack; ")?;
+    print(&rt, t.most as u64, b" locals at most; ")?;
+    print(&rt, t.differ, b" differ\n")
 }

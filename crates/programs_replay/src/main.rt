@@ -1,14 +1,17 @@
 // Runs the stored images through the entries and prints how many answers agree with the Rust's and, if there is one, the label of the first
 // that differs. bench/stored/README.md says what a record of the file `answers` holds.
+#![tactic(auto)]
+
 ghost use Rattle.std.specs.Prelude.{◌≡◌, ◌+◌, ◌*◌, ◌≤◌, ◌<◌, length};
 ghost use Rattle.programs_replay.specs.Record.{Listed, Stands, Inside};
 
 use entries_verdict::{Outcome, Totals};
-use libc::STDOUT_FILENO;
 use ownership_pass::Answer;
+use std::rt::Files;
+use std::{fs, io};
 
 // Where a record's parts stand: the end of its label and of its image, the bytes given back, the lists, the record's end.
-#[derive(Drop)]
+#[derive(Clone, Copy)]
 struct Record {
     label: usize,
     answer: usize,
@@ -20,21 +23,17 @@ struct Record {
 }
 
 // A record, or that it is cut short.
-#[derive(Drop)]
+#[derive(Clone, Copy)]
 enum Found {
     Whole(Record),
     Short,
 }
 
 // How many records agree and how many differ.
-#[derive(Drop)]
+#[derive(Clone, Copy)]
 struct Count {
     agree: usize,
     differ: usize,
-}
-
-fn print(text: &[u8]) {
-    io::write_all(STDOUT_FILENO, text);
 }
 
 fn wide(x: u32) -> usize
@@ -399,9 +398,9 @@ fn agrees(s: &[u8], q: Record) -> bool
     all_agrees(s, q)
 }
 
-// The count after one more record; the label of the first that differs is printed.
-fn counted(s: &[u8], at: usize, label: usize, same: bool, c: Count) -> Count
-    requires { (at < label) × (label ≤ length s.now) × (c.agree + c.differ < 4294967296) }
+// The count after one more record.
+fn counted(same: bool, c: Count) -> Count
+    requires { c.agree + c.differ < 4294967296 }
     ensures { result.agree + result.differ ≡ c.agree + c.differ + 1 }
 {
     if same {
@@ -410,31 +409,35 @@ fn counted(s: &[u8], at: usize, label: usize, same: bool, c: Count) -> Count
             differ: c.differ,
         };
     }
-    if c.differ == 0 {
-        let name = at + 1;
-        print(b"first to differ: ");
-        print(&s[name..label]);
-        print(b"\n");
-    }
     Count {
         agree: c.agree,
         differ: c.differ + 1,
     }
 }
 
-fn print_bad() {
-    print(b"bad record\n");
+// The label of a record that differs.
+fn print_label(rt: &impl Print, s: &[u8], at: usize, label: usize) -> io::Result<()>
+    requires { (at < label) × (label ≤ length s.now) }
+{
+    let name = at + 1;
+    rt.write_all(b"first to differ: ")?;
+    rt.write_all(&s[name..label])?;
+    rt.write_all(b"\n")
 }
 
-fn print_count(c: Count) {
-    io::print_decimal(STDOUT_FILENO, c.agree as u64);
-    print(b" agree, ");
-    io::print_decimal(STDOUT_FILENO, c.differ as u64);
-    print(b" differ\n");
+fn print_bad(rt: &impl Print) -> io::Result<()> {
+    rt.write_all(b"bad record\n")
 }
 
-// All records, up to the end or one that is cut short.
-fn replay(s: &[u8]) -> Count
+fn print_count(rt: &impl Print, c: Count) -> io::Result<()> {
+    rt.print(c.agree)?;
+    rt.write_all(b" agree, ")?;
+    rt.print(c.differ)?;
+    rt.write_all(b" differ\n")
+}
+
+// All records, up to the end or one that is cut short; the label of the first that differs is printed.
+fn replay(rt: &impl Print, s: &[u8]) -> io::Result<Count>
     requires { length s.now < 4294967296 }
 {
     let mut count = Count {
@@ -445,34 +448,36 @@ fn replay(s: &[u8]) -> Count
     while at < s.len() {
         let found = record_at(s, at);
         let Found::Whole(q) = found else {
-            print_bad();
-            return count;
+            print_bad(rt)?;
+            return Ok(count);
         };
-        count = counted(s, at, q.label, agrees(s, q), count);
+        let same = agrees(s, q);
+        if !same && count.differ == 0 {
+            print_label(rt, s, at, q.label)?;
+        }
+        count = counted(same, count);
         at = q.end;
     }
-    count
+    Ok(count)
 }
 
 // The answers, read into the memory lent. A file that fills it may be cut short anywhere, so it is not looked at.
-fn replay_file(file: &mut [u8])
-    requires { length file.old < 4294967296 }
+fn replay_file(rt: &(impl Files + Print + Eprint), file: &mut [u8]) -> io::Result<()>
+    requires { length file.old ≤ 4294967295 }
 {
-    let fd = os::open_read(b"answers");
-    if fd < 0 {
-        os::fail(b"answers");
-        return;
-    }
-    let n = io::read_full(fd, file);
-    libc::close(fd);
+    let mut answers = match fs::open(rt, "answers") {
+        Ok(answers) => answers,
+        Err(e) => return eprintln!(rt; "answers: {e}"),
+    };
+    let n = programs_input::read_full(&mut answers, file)?;
     if n < file.len() {
-        print_count(replay(&file[..n]));
+        print_count(rt, replay(rt, &file[..n])?)
     } else {
-        print_bad();
+        print_bad(rt)
     }
 }
 
-fn main() {
+fn main(rt: HostRuntime) -> io::Result<()> {
     let mut file = [0u8; 2500000];
-    replay_file(&mut file);
+    replay_file(&rt, &mut file)
 }

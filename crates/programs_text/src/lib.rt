@@ -1,4 +1,6 @@
 // Text that the programs print: words, and numbers in decimals, stored into lent memory as far as it reaches.
+#![tactic(auto)]
+
 ghost use Rattle.std.specs.Prelude.{◌≡◌, [], ◌∷◌, ◌+◌, ◌≤◌, ◌<◌, length};
 ghost use Rattle.image_writing.specs.Stored.{Stored};
 ghost use Rattle.programs_text.specs.Text.{refused_word, spell, line};

@@ -13,7 +13,7 @@ use Rattle.rules.specs.Expr.{nobody, view, is_call, ty_of}
 use Rattle.rules.specs.Stack.{local, Stack, Shape, shape}
 use Rattle.rules.specs.State.{State, alive, is_alive}
 use Rattle.rules.specs.Effects.{Effect, effects, expr_stmt_effects, assign_effects}
-use Rattle.rules.specs.Rules.{Alg, Switches, off, on, states, Drop, drop_of, delete_at, sure_from, register, Place, at_bare_return, at_jump, concerns, collect, return_drops, jump_drops, given, evaluate, after_expr, after_variable, before_assign, after_assign, exit, declared, behind_if, behind_then, behind_loop, entered, locals_of}
+use Rattle.rules.specs.Rules.{Alg, Switches, on, states, Drop, drop_of, delete_at, sure_from, register, Place, at_bare_return, at_jump, concerns, collect, return_drops, jump_drops, given, evaluate, after_expr, after_variable, before_assign, after_assign, exit, declared, behind_if, behind_then, behind_loop, entered, locals_of}
 use Rattle.rules.specs.Report.{Report, error, warning, left, left_at, left_behind, report_all, unused, expr_bytes, code_bytes, report, body_start, reports}
 use Rattle.rules.proofs.Bools.{leb-refl}
 use Rattle.rules.proofs.Each.{Each, EachLocal, each_none, each_more, each_both, each-own, each-effects, left-own}

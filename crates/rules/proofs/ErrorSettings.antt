@@ -13,7 +13,7 @@ use Rattle.rules.specs.Stack.{local, Stack, Shape, shape, lookup}
 use Rattle.rules.specs.State.{Kind, deleted, moved, consumed, State, alive, gone, kind_eq, places_eq, combine, join_kind, join_state}
 use Rattle.rules.specs.Effects.{Effect, use', kill, hand, bad_move, global_move, effects, expr_stmt_effects, assign_effects}
 use Rattle.rules.specs.Rules.{Switches, off, states, declared, locals_of, sure_from, at_bare_return, at_jump}
-use Rattle.rules.specs.Report.{Report, error, warning, left, bad_use, use_of, report_of, report_all, unused, expr_bytes, code_bytes, report, body_start, reports, errors, warnings}
+use Rattle.rules.specs.Report.{Report, error, warning, left, bad_use, use_of, report_of, report_all, expr_bytes, code_bytes, report, body_start, reports, errors, warnings}
 use Rattle.rules.proofs.Bools.{and_l, and_r, of≡}
 use Rattle.rules.proofs.Relate.{Rel, empty, both, Hom, rel-shape, rel-apply, rel-expr, rel-variable, rel-entered}
 use Rattle.rules.proofs.Project.{Likeness, alike-joins, alike-merge, evaluate-alike, assign_alike, exit-alike}

@@ -12,7 +12,7 @@ use Rattle.tables_lookup.specs.First.{first_from, and_then, or_else}
 use Rattle.tables_lookup.specs.Ty.{inside, struct_named, struct_shaped, struct_of_generic, struct_of_ty, struct_of, has_destructor, should_auto_delete, class_of_ty, class_of}
 use Rattle.tables_lookup.specs.Signature.{modifier_in, modifier_of, is_consuming, global_of}
 use Rattle.image_body.specs.Expr.{Expr, count_width, through}
-use Rattle.image_body.specs.Stmt.{Tree, variable, assign, return, bare_return, block, if_else, if_then, while}
+use Rattle.image_body.specs.Stmt.{Tree, variable, bare_return, block, if_else, if_then, while}
 use Rattle.image_encoding.specs.Body.{size}
 use Rattle.image.specs.Image.{Image, accepted, refused, decode, outcome, image_at}
 use Rattle.rules.proofs.Nodes.{one, ident, literal, move, moving, end, tables, param}

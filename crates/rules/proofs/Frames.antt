@@ -305,6 +305,7 @@ pub data Says (s : Static) (a : State) : Stack State → Type 0 where
   older : {l : Local State} {σ : Stack State} → Says s a σ → Says s a (l ∷ σ)
 
 free-says : (d : ℕ) {s : Static} {a : State} {σ : Stack State} → Free d σ → Says s a σ → eqb s.depth d ≡ false
+free-says d {σ = []} f i = elim i [ ]
 free-says d {σ = local t b ∷ σ} f newest' = f.0
 free-says d {σ = local t b ∷ σ} f (older i) = free-says d f.1 i
 
@@ -316,6 +317,7 @@ over-says (above e o) (older i) = over-says o i
 
 -- every local has the state that the map of its depth's frame gives for its name
 pub agree-says : {k : ℕ} {fs : Frames} {σ : Stack State} {s : Static} {a : State} → Agree k fs σ → Says s a σ → get_in (frame_at s.depth fs) s.name ≡ some a
+agree-says nothing i = elim i [ ]
 agree-says (framed {d} {m} {ls} {fs} {τ} {σ} g o q) i = split g (over-says o i) (agree-says g)
   where
     split : {s : Static} {a : State} → Agree d fs τ → ((s.depth ≡ d) × (m s.name ≡ some a)) ⊎ Says s a τ
@@ -564,7 +566,7 @@ agree-apply (hand n s) g = agree-hand n s g
 agree-apply (bad_move s h) g = g
 agree-apply (global_move s x) g = g
 
-pub agree-all : {k : ℕ} {fs : Frames} {σ : Stack State} (es : List Effect) → Agree k fs σ → Agree k (apply_all_frames es fs) (apply_all (states off) es σ)
+pub agree-all : (es : List Effect) {k : ℕ} {fs : Frames} {σ : Stack State} → Agree k fs σ → Agree k (apply_all_frames es fs) (apply_all (states off) es σ)
 agree-all [] g = g
 agree-all (e ∷ es) g = agree-all es (agree-apply e g)
 
@@ -628,7 +630,7 @@ agree-report (hand n s) g = refl
 agree-report (bad_move s h) g = refl
 agree-report (global_move s x) g = refl
 
-agree-reports : {k : ℕ} {fs : Frames} {σ : Stack State} (es : List Effect) → Agree k fs σ → report_all_frames es fs ≡ report_all es σ
+agree-reports : (es : List Effect) {k : ℕ} {fs : Frames} {σ : Stack State} → Agree k fs σ → report_all_frames es fs ≡ report_all es σ
 agree-reports [] g = refl
 agree-reports (e ∷ es) g = let a = agree-report e g in let b = agree-reports es (agree-apply e g) in λ i. a i ++ b i
 
@@ -738,12 +740,12 @@ module _ (T : Tables) where
       subst (λ (Γ : Shape). Agree (suc d) (apply_all_frames (take_over T Γ v.name v.ty e) (register_local v (evaluate_frames T e fs))) (after_variable (states off) T (at_depth d v) e σ)) (agree-shape g)
       (agree-all (take_over T (shape σ) v.name v.ty e) (agree-register v (agree-evaluate e g)))
 
-  pub agree-entered : {fs : Frames} {σ : Stack State} (ps : List Param) → Agree 1 fs σ → Agree 1 (entered_frames ps fs) (entered (states off) T ps σ)
+  pub agree-entered : (ps : List Param) {fs : Frames} {σ : Stack State} → Agree 1 fs σ → Agree 1 (entered_frames ps fs) (entered (states off) T ps σ)
   agree-entered [] g = g
   agree-entered (x ∷ xs) g = agree-entered xs (agree-register (given_var x) g)
 
   -- every tree: the walk on frames and on the flat stack come to stacks that agree
-  pub walk-agrees : {X Y : Type 0} {d : ℕ} {fs : Frames} {σ : Stack State} (c : Code X Y) → Agree (suc d) fs σ → Agree d (exit_frames T c fs) (exit (states off) T c d σ)
+  pub walk-agrees : {X Y : Type 0} (c : Code X Y) {d : ℕ} {fs : Frames} {σ : Stack State} → Agree (suc d) fs σ → Agree d (exit_frames T c fs) (exit (states off) T c d σ)
   walk-agrees (done x) g = agree-pop g
   walk-agrees (expr_stmt s e y r) g = walk-agrees r (agree-expr e g)
   walk-agrees (variable k s n t e r) g = walk-agrees r (agree-variable (declared_var s n t) e g)
@@ -751,22 +753,22 @@ module _ (T : Tables) where
   walk-agrees (return s e t x r) g = walk-agrees r (agree-evaluate e g)
   walk-agrees (bare_return s t x r) g = walk-agrees r g
   walk-agrees (block s c r) g = walk-agrees r (walk-agrees c (agree-push g))
-  walk-agrees {fs = fs} (if_else s e ts t us u r) g =
+  walk-agrees (if_else s e ts t us u r) {fs = fs} g =
       let g' = agree-evaluate e g in
       let gs = evaluate_frames T e fs in
       walk-agrees r
       (agree-merge (sure_from t false) (sure_from u false) (sym (layout-exit t (push gs))) (sym (layout-exit u (push gs))) g'
       (walk-agrees t (agree-push g')) (walk-agrees u (agree-push g')))
-  walk-agrees {fs = fs} (if_then s e ts t r) g =
+  walk-agrees (if_then s e ts t r) {fs = fs} g =
       let g' = agree-evaluate e g in
       walk-agrees r (agree-merge-then (sure_from t false) false (sym (layout-exit t (push (evaluate_frames T e fs)))) g' (walk-agrees t (agree-push g')))
-  walk-agrees {fs = fs} (while s e ts t r) g =
+  walk-agrees (while s e ts t r) {fs = fs} g =
       let g' = agree-evaluate e g in
       walk-agrees r (agree-merge-then false false (sym (layout-exit t (push (evaluate_frames T e fs)))) g' (walk-agrees t (agree-push g')))
   walk-agrees (jump k s x r) g = walk-agrees r g
 
   -- every tree: the decisions are the same
-  pub decide-agrees : {d : ℕ} {fs : Frames} {σ : Stack State} (c : Tree) (p : ℕ) (l : Option ℕ) (f : Bool) → Agree (suc d) fs σ → decide_frames T c p f fs ≡ decide (states off) T (concerns off) c p d l f σ
+  pub decide-agrees : (c : Tree) {d : ℕ} {fs : Frames} {σ : Stack State} (p : ℕ) (l : Option ℕ) (f : Bool) → Agree (suc d) fs σ → decide_frames T c p f fs ≡ decide (states off) T (concerns off) c p d l f σ
   decide-agrees (done x) p l f g = λ i. done (cond f [] (agree-tail T p g i))
   decide-agrees (expr_stmt s e y r) p l f g = ap (expr_stmt s e (auto T (ty_of e) && is_call (view e))) (decide-agrees r p l false (agree-expr e g))
   decide-agrees (variable k s n t e r) p l f g = ap (variable k s n t e) (decide-agrees r p l false (agree-variable (declared_var s n t) e g))
@@ -776,13 +778,13 @@ module _ (T : Tables) where
   decide-agrees (return s e t x r) p l f g =
       let g' = agree-evaluate e g in let q = decide-agrees r p l true g' in
       λ i. return s e t (agree-return T (name_in (view e)) g' i) (q i)
-  decide-agrees {σ = σ} (bare_return s t x r) p l f g =
+  decide-agrees (bare_return s t x r) {σ = σ} p l f g =
       let q = decide-agrees r p l true g in
       λ i. bare_return s t (sym (gather_none (states off) T (λ s. drop_of 0 s.name s.ty) σ) i) (q i)
   decide-agrees (block s c r) p l f g =
       let a = decide-agrees c s l false (agree-push g) in let q = decide-agrees r p l (sure_from c false) (walk-agrees c (agree-push g)) in
       λ i. block s (a i) (q i)
-  decide-agrees {fs = fs} (if_else s e ts t us u r) p l f g =
+  decide-agrees (if_else s e ts t us u r) {fs = fs} p l f g =
       let g' = agree-evaluate e g in
       let gs = evaluate_frames T e fs in
       let a = decide-agrees t ts l false (agree-push g') in
@@ -791,22 +793,22 @@ module _ (T : Tables) where
       (agree-merge (sure_from t false) (sure_from u false) (sym (layout-exit t (push gs))) (sym (layout-exit u (push gs))) g'
       (walk-agrees t (agree-push g')) (walk-agrees u (agree-push g'))) in
       λ i. if_else s e ts (a i) us (b i) (q i)
-  decide-agrees {fs = fs} (if_then s e ts t r) p l f g =
+  decide-agrees (if_then s e ts t r) {fs = fs} p l f g =
       let g' = agree-evaluate e g in
       let a = decide-agrees t ts l false (agree-push g') in
       let q = decide-agrees r p l false (agree-merge-then (sure_from t false) false (sym (layout-exit t (push (evaluate_frames T e fs)))) g' (walk-agrees t (agree-push g'))) in
       λ i. if_then s e ts (a i) (q i)
-  decide-agrees {d = d} {fs = fs} (while s e ts t r) p l f g =
+  decide-agrees (while s e ts t r) {d = d} {fs = fs} p l f g =
       let g' = agree-evaluate e g in
       let a = decide-agrees t ts (some (suc d)) false (agree-push g') in
       let q = decide-agrees r p l false (agree-merge-then false false (sym (layout-exit t (push (evaluate_frames T e fs)))) g' (walk-agrees t (agree-push g'))) in
       λ i. while s e ts (a i) (q i)
-  decide-agrees {σ = σ} (jump k s x r) p l f g =
+  decide-agrees (jump k s x r) {σ = σ} p l f g =
       let q = decide-agrees r p l false g in
       λ i. jump k s (sym (gather_none (states off) T (λ s. drop_of 0 s.name s.ty) σ) i) (q i)
 
   -- every tree: the reports are the same
-  pub report-agrees : {d : ℕ} {fs : Frames} {σ : Stack State} (c : Tree) (l : Option ℕ) (at : ℕ) → Agree (suc d) fs σ → report_frames T c l at fs ≡ report off T c d l at σ
+  pub report-agrees : (c : Tree) {d : ℕ} {fs : Frames} {σ : Stack State} (l : Option ℕ) (at : ℕ) → Agree (suc d) fs σ → report_frames T c l at fs ≡ report off T c d l at σ
   report-agrees (done x) l at g = refl
   report-agrees (expr_stmt s e y r) l at g =
       let a = agree-use (λ Γ. expr_stmt_effects T Γ e) g in let q = report-agrees r l (at + 5 + expr_bytes e) (agree-expr e g) in
@@ -827,7 +829,7 @@ module _ (T : Tables) where
   report-agrees (block s c r) l at g =
       let a = report-agrees c l (at + 7) (agree-push g) in let q = report-agrees r l (at + 7 + code_bytes c) (walk-agrees c (agree-push g)) in
       λ i. a i ++ q i
-  report-agrees {fs = fs} (if_else s e ts t us u r) l at g =
+  report-agrees (if_else s e ts t us u r) {fs = fs} l at g =
       let g' = agree-evaluate e g in
       let gs = evaluate_frames T e fs in
       let o = agree-use (λ Γ. effects T Γ e) g in
@@ -837,14 +839,14 @@ module _ (T : Tables) where
       (agree-merge (sure_from t false) (sure_from u false) (sym (layout-exit t (push gs))) (sym (layout-exit u (push gs))) g'
       (walk-agrees t (agree-push g')) (walk-agrees u (agree-push g'))) in
       λ i. o i ++ (a i ++ (b i ++ q i))
-  report-agrees {fs = fs} (if_then s e ts t r) l at g =
+  report-agrees (if_then s e ts t r) {fs = fs} l at g =
       let g' = agree-evaluate e g in
       let o = agree-use (λ Γ. effects T Γ e) g in
       let a = report-agrees t l (at + 11 + expr_bytes e) (agree-push g') in
       let q = report-agrees r l (at + 12 + expr_bytes e + code_bytes t)
       (agree-merge-then (sure_from t false) false (sym (layout-exit t (push (evaluate_frames T e fs)))) g' (walk-agrees t (agree-push g'))) in
       λ i. o i ++ (a i ++ q i)
-  report-agrees {d = d} {fs = fs} (while s e ts t r) l at g =
+  report-agrees (while s e ts t r) {d = d} {fs = fs} l at g =
       let g' = agree-evaluate e g in
       let o = agree-use (λ Γ. effects T Γ e) g in
       let j = ap (λ (k : ℕ). report_frames T t (some k) (at + 11 + expr_bytes e) (push (evaluate_frames T e fs))) (agree-length g) in

@@ -11,7 +11,6 @@ use Rattle.image_body.specs.Stmt.{Code, Tree, done, expr_stmt, variable, assign,
 use Rattle.image_encoding.specs.Tables.{encode_tables, encode_entry}
 use Rattle.rules.specs.Rules.{Drop, drop_of, Decided, Switches}
 use Rattle.rules.specs.Report.{delete_node, ident_node, inserts, flatten, strike, with_code, returned_image, decided_image}
-use Rattle.rules.specs.Run.{code}
 use Rattle.rules.specs.Verdict.{RoomFor}
 use Rattle.rules.specs.Room.{added, room_bound}
 use Rattle.rules.proofs.Strike.{strike-body}

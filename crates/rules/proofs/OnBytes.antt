@@ -1,6 +1,6 @@
 -- Document 01's worked example as a row on bytes: 81 bytes in, what the pass answers out.
 -- Assumes nothing.
-use Rattle.std.proofs.Common.{◌≡◌, ℕ, List, [], ◌∷◌, refl, ap, ◌∙◌}
+use Rattle.std.proofs.Common.{◌≡◌, [], ◌∷◌, refl, ap, ◌∙◌}
 use Rattle.image_fields.specs.Bytes.{two_bytes, four_bytes, number_bytes, each_bytes}
 use Rattle.image_fields.specs.Table.{member}
 use Rattle.tables.specs.Limits.{version1}

@@ -1,16 +1,16 @@
 -- The bytes given back are all pieces; without the pieces put in, and with the counts and the length lowered, they are the submitted ones.
 -- Assumes nothing.
-use Rattle.std.proofs.Common.{◌≡◌, ℕ, suc, ◌+◌, Bool, true, false, cond, List, [], ◌∷◌, ◌++◌, length, sym, refl, ap, ◌∙◌, ap₂, append_assoc, append-nil, arith}
+use Rattle.std.proofs.Common.{◌≡◌, ℕ, ◌+◌, Bool, true, false, cond, List, [], ◌∷◌, ◌++◌, length, sym, refl, ap, ◌∙◌, ap₂, append_assoc, append-nil, arith}
 use Rattle.image_fields.specs.Bytes.{Bytes, two_bytes, four_bytes, number_bytes}
 use Rattle.tables.specs.Limits.{Limits}
 use Rattle.image_encoding.specs.Tables.{encode_tables, encode_entry}
-use Rattle.image_encoding.specs.Body.{encode_expr, encode_exprs, encode_code, encode_block, size, with_count}
+use Rattle.image_encoding.specs.Body.{encode_expr, encode_code, encode_block, size, with_count}
 use Rattle.image.specs.Image.{Image, accepted, decode, encode}
 use Rattle.image_body.specs.Expr.{Expr, count_width, arg_width, last_width}
-use Rattle.image_body.specs.Stmt.{Code, Tree, done, expr_stmt, variable, assign, return, bare_return, block, if_else, if_then, while, jump}
+use Rattle.image_body.specs.Stmt.{Tree, done, expr_stmt, variable, assign, return, bare_return, block, if_else, if_then, while, jump}
 use Rattle.rules.specs.Rules.{Drop, drop_of, Decided, Switches}
 use Rattle.rules.specs.Report.{delete_node, ident_node, inserts, flatten, strike, returned_image, decided_image}
-use Rattle.rules.specs.Pieces.{Piece, kept, put, counted, bytes_of, deletes, put_in, wrapping, pieces, image_pieces, image_of, Struck}
+use Rattle.rules.specs.Pieces.{Piece, kept, bytes_of, deletes, put_in, wrapping, pieces, image_pieces, Struck}
 use Rattle.rules.proofs.Strike.{strike-bytes}
 
 deletes-put : (x : List Drop) (ps : List Piece) (c : Tree) (o : List ℕ) → bytes_of true ps ≡ encode_code c ++ o → bytes_of true (deletes x ps) ≡ encode_code (inserts x c) ++ o

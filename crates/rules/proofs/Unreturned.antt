@@ -1,19 +1,18 @@
 -- The claim of the returned body is no empty one: of the body `return ..;` with a parameter `v: T`, given back as it was submitted, it
 -- does not hold, whatever marks are put on it.
 -- Assumes nothing.
-use Rattle.std.proofs.Common.{◌≡◌, ℕ, Bool, true, false, not, T as So, List, [], ◌∷◌, sym, refl, ap, ◌∙◌, subst, arith}
-use mathlib.Core.Option.{Option, none, some, map, bind, some-injective, none-ne-some}
+use Rattle.std.proofs.Common.{◌≡◌, ℕ, Bool, not, T as So, List, [], ◌∷◌, sym, refl, ap, ◌∙◌, subst, arith}
+use mathlib.Core.Option.{some, map, some-injective, none-ne-some}
 use Rattle.tables.specs.Name.{same_bytes, starts_with}
-use Rattle.tables.specs.Signature.{Param, Entry}
+use Rattle.tables.specs.Signature.{Entry}
 use Rattle.tables_lookup.specs.First.{first_from, and_then, or_else}
 use Rattle.tables_lookup.specs.Ty.{inside, struct_named, struct_shaped, struct_of_generic, struct_of_ty, struct_of, has_destructor, should_auto_delete, class_of_ty, class_of}
-use Rattle.tables_lookup.specs.Signature.{modifier_in, modifier_of, is_consuming, global_of}
-use Rattle.image_body.specs.Expr.{Expr, count_width, through}
-use Rattle.image_body.specs.Stmt.{Tree, Block, done, expr_stmt, variable, assign, return, bare_return, block, if_else, if_then, while, jump}
+use Rattle.image_body.specs.Expr.{count_width, through}
+use Rattle.image_body.specs.Stmt.{Block, done, expr_stmt, variable, assign, return, bare_return, block, if_else, if_then, while, jump}
 use Rattle.rules.specs.Questions.{auto, is_temp_of, is_move_of, consumes, global_in}
 use Rattle.rules.specs.Expr.{nobody, called}
 use Rattle.rules.specs.Stack.{Stack}
-use Rattle.rules.specs.Effects.{takes, handed, finish, effects, expr_stmt_effects, take_over, assign_effects, assign_takes}
+use Rattle.rules.specs.Effects.{takes, handed, finish, effects}
 use Rattle.rules.specs.Rules.{holding, drop_of, Decided, Switches, at_return, concerns, entered}
 use Rattle.rules.specs.Report.{forget}
 use Rattle.rules.specs.Run.{returning, deleting, Config, at, Steps, arrived, onward, start, Moment, moment, Reached, holds, Lost, Demand3}

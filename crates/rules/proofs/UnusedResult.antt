@@ -1,6 +1,6 @@
 -- An unused result with the place of its callee, by computation.
 -- Assumes nothing.
-use Rattle.std.proofs.Common.{◌≡◌, [], ◌∷◌, get_or, refl, ap, ◌∙◌}
+use Rattle.std.proofs.Common.{◌≡◌, [], ◌∷◌, get_or, refl}
 use Rattle.image_fields.specs.Bytes.{two_bytes, four_bytes, number_bytes, each_bytes}
 use Rattle.tables.specs.Limits.{version1}
 use Rattle.tables.specs.Name.{same_bytes, starts_with}
@@ -12,14 +12,14 @@ use Rattle.image_body.specs.Expr.{arg_width, count_width, last_width, through, n
 use Rattle.image_body.specs.Stmt.{expr_stmt}
 use Rattle.image_encoding.specs.Tables.{encode_name, encode_type, encode_method, encode_struct, encode_global, encode_param, encode_entry, encode_tables}
 use Rattle.image_encoding.specs.Body.{encode_expr, size, encode_code, encode_block}
-use Rattle.image.specs.Image.{Image, accepted, decode, encode}
-use Rattle.image.proofs.Example.{bytes, tree, example-read, example-written}
+use Rattle.image.specs.Image.{Image, encode}
+use Rattle.image.proofs.Example.{tree}
 use Rattle.rules.proofs.Nodes.{ident, unary, call, delete, end}
 use Rattle.rules.specs.Questions.{auto, is_temp_of, is_move_of, consumes, global_in}
 use Rattle.rules.specs.Expr.{callee_at}
 use Rattle.rules.specs.Effects.{takes, handed, finish, effects, expr_stmt_effects, take_over, assign_effects, assign_takes}
 use Rattle.rules.specs.Rules.{off}
-use Rattle.rules.specs.Report.{error, warning, returned_image, reports, with_code}
+use Rattle.rules.specs.Report.{warning, returned_image, reports, with_code}
 
 -- the tables of document 01's example with two statements, `x;` and `x();` in a unary without an operator: the second's result is unused
 abbrev pub unused_result : Image

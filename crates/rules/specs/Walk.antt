@@ -7,7 +7,7 @@ use Rattle.tables.specs.Tables.{Tables}
 use Rattle.tables_lookup.specs.First.{or_else}
 use Rattle.image_body.specs.Stmt.{Tree, done, expr_stmt, variable, assign, return, bare_return, block, if_else, if_then, while, jump}
 use Rattle.image.specs.Image.{Image}
-use Rattle.rules.specs.Stack.{Local, local, Stack}
+use Rattle.rules.specs.Stack.{local, Stack}
 use Rattle.rules.specs.State.{State, alive, gone}
 use Rattle.rules.specs.Rules.{Switches, states, joins, sure_from, declared, evaluate, after_expr, after_variable, before_assign, after_assign, exit, behind_if, behind_then, behind_loop, entered, locals_of}
 

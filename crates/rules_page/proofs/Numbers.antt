@@ -19,7 +19,7 @@ use Rattle.rules.specs.Walk.{image_fault}
 use Rattle.rules.specs.Verdict.{too_high}
 use Rattle.rules.proofs.Numbers.{Real, real-image, Number, high, low}
 use Rattle.rules_page.specs.Page.{page_of}
-use Rattle.rules_page.specs.Verdict.{PageVerdict, refuses_page, writes, page_walked, page_decided, page_verdict}
+use Rattle.rules_page.specs.Verdict.{refuses_page, writes, page_walked, page_decided, page_verdict}
 
 -- from 1 to 13, 16, or 17, and that with a value of the switches above 15 and no other
 abbrev pub PageFault : ℕ → ℕ → Type 0

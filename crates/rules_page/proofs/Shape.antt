@@ -179,7 +179,7 @@ lines_are h [] b = more (line-is _ _ b tt) none
 lines_are h (p ∷ []) b = more (line-is _ _ b tt) none
 lines_are h (p ∷ q ∷ []) b = more (line-is _ _ b tt) none
 lines_are h (p ∷ q ∷ r ∷ []) b = more (line-is _ _ b tt) none
-lines_are h (p ∷ q ∷ r ∷ s ∷ ps) b = more (line-is _ _ b tt) (lines_are _ (s ∷ ps) blank-begins)
+lines_are h (p ∷ q ∷ r ∷ s ∷ ps) b = more (line-is _ _ b tt) (lines_are (blanks 36) (s ∷ ps) blank-begins)
 
 entry-lines : (r : Report) → Lines (entry r)
 unfolding entry

@@ -1,1 +1,2 @@
 // Definitions and theorems only: the page of the reports.
+#![tactic(auto)]

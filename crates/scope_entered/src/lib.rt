@@ -1,4 +1,6 @@
 // The locals that a body is entered with, on the scope stack in two structs: all are Alive.
+#![tactic(auto)]
+
 ghost use Rattle.std.specs.Prelude.{[], ◌∷◌, ◌+◌, ◌*◌, ◌≤◌, ◌<◌, length};
 ghost use Rattle.tables_lookup.specs.Lent.{Sized};
 ghost use Rattle.scope_stack.specs.View.{Kept};

@@ -1,10 +1,10 @@
 -- Laws of copies of rows.
 -- Assumes nothing.
-use Prim.Native.Nat.{ℕ, ◌+◌, ◌*◌, ◌-◌, ◌≤◌, ◌<◌}
-use mathlib.Core.Path.{◌≡◌, refl, sym, ap, ◌∙◌, subst}
-use mathlib.Core.Bool.{Bool, true, false}
+use Prim.Native.Nat.{ℕ, ◌+◌, ◌-◌, ◌≤◌, ◌<◌}
+use mathlib.Core.Path.{◌≡◌, sym, ap, ◌∙◌, subst}
+use mathlib.Core.Bool.{true, false}
 use mathlib.Core.List.{List}
-use mathlib.Core.Logic.{◌⊎◌, inl, inr, ⊎_elim}
+use mathlib.Core.Logic.{inl, inr, ⊎_elim}
 use native.Mathlib.Omega.{arith}
 use lib.ListN.{length, get_or}
 use lib.Seq.{length-take-le}
@@ -13,7 +13,7 @@ use Rattle.scope_state.specs.Kinds.{said}
 use Rattle.scope_state.specs.View.{listed, Roomy}
 use Rattle.scope_state.specs.declared.Places.{Places}
 use Rattle.scope_stack.specs.declared.Entry.{Entry}
-use Rattle.scope_stack.specs.View.{row_of, row_at, said_at, Row, Known}
+use Rattle.scope_stack.specs.View.{row_of, row_at, said_at, Known}
 use Rattle.scope_rows.specs.Rows.{Else, Wrote, Copied, Copies}
 use Rattle.scope_stack.proofs.Marked.{said-one, said_row, known-one}
 use Rattle.scope_rows.proofs.Rowing.{nine-up, known_same, said_same, else-none, else-wider, row_before, row_next}

@@ -1,32 +1,31 @@
 -- Laws of joins of two branches, from the oldest local up.
 -- Assumes nothing.
-use Prim.Native.Nat.{ℕ, zero, suc, ◌+◌, ◌*◌, ◌≤◌, ◌<◌}
+use Prim.Native.Nat.{ℕ, zero, suc, ◌+◌, ◌≤◌, ◌<◌}
 use mathlib.Core.Path.{◌≡◌, refl, sym, ap, ap₂, ◌∙◌, subst}
 use mathlib.Core.Bool.{Bool, true, false, cond, ◌&&◌, ◌||◌}
 use mathlib.Core.List.{List, [], ◌∷◌}
 use mathlib.Core.Logic.{◌≢◌, ◌⊎◌, inl, inr, ⊎_elim}
-use borrow.Author.Tests.{eqb-true, eqb-false, ne_eqb, eq-eqb, le-ltb}
+use borrow.Author.Tests.{eqb-false, le-ltb}
 use native.Mathlib.Omega.{arith}
 use lib.Dec.{eqb, ltb}
 use lib.ListN.{length, get_or}
-use Rattle.image_fields.proofs.Tests.{split, less, or-true, false-true}
+use Rattle.image_fields.proofs.Tests.{split, less, false-true}
 use Rattle.tables.specs.Limits.{Limits}
 use Rattle.rules.specs.State.{State as Status, alive, gone, join_state, places_eq, combine}
 use Rattle.rules.specs.Stack.{Static, local, Stack as Scope}
 use Rattle.rules.specs.Rules.{joining, joins}
-use Rattle.rules.specs.Walk.{places_of, crowded}
+use Rattle.rules.specs.Walk.{crowded}
 use Rattle.rules.proofs.Bools.{eqb-self}
 use Rattle.scope_state.specs.Kinds.{said, family, kind_of}
 use Rattle.scope_state.proofs.Numbers.{join-given}
-use Rattle.scope_stack.specs.declared.Locals.{Locals}
 use Rattle.scope_stack.specs.declared.States.{States}
 use Rattle.scope_stack.specs.declared.Entry.{Entry}
 use Rattle.scope_stack.specs.Word.{word_of}
-use Rattle.scope_stack.specs.View.{stacked, static_at, entry_at, alive_at, row_of, said_at, state_at, view, Known, Held, Rowed}
-use Rattle.scope_rows.specs.Rows.{Outside, Else, join_of, over, Alike, JoinsAt, Branches, JoinsAll}
+use Rattle.scope_stack.specs.View.{stacked, static_at, entry_at, alive_at, row_of, said_at, state_at, Known, Held}
+use Rattle.scope_rows.specs.Rows.{Else, join_of, over, Alike, JoinsAt, Branches, JoinsAll}
 use Rattle.scope_state.proofs.Stacked.{agree}
 use Rattle.scope_stack.proofs.Stores.{stored, stored_at, stored_other, stored-held}
-use Rattle.scope_stack.proofs.Marked.{said-one, known-one}
+use Rattle.scope_stack.proofs.Marked.{said-one}
 use Rattle.scope_rows.proofs.Rowing.{positive, known_same, said_same, else-none, row_before, row-mono, row_next}
 
 -- two stacks of the same locals, joined local by local

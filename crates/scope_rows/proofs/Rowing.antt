@@ -2,16 +2,16 @@
 -- Assumes nothing.
 use Prim.Native.Nat.{ℕ, suc, ◌+◌, ◌-◌, ◌*◌, ◌≤◌, ◌<◌}
 use mathlib.Core.Path.{◌≡◌, refl, sym, ap, ◌∙◌, subst}
-use mathlib.Core.Bool.{Bool, true, false, cond, not}
+use mathlib.Core.Bool.{Bool, true, false, not}
 use mathlib.Core.List.{List, [], ◌∷◌}
-use mathlib.Core.Logic.{◌≢◌, ◌⊎◌, inl, inr, ⊎_elim}
-use borrow.Author.Tests.{ne_eqb, eqb-true, eqb-false, eq-eqb, lt-ltb, le-ltb, ltb-true}
+use mathlib.Core.Logic.{◌≢◌, inl, inr, ⊎_elim}
+use borrow.Author.Tests.{ne_eqb, eqb-true, eqb-false, lt-ltb, le-ltb, ltb-true}
 use native.Mathlib.Nat.{mul-le-mul_right, suc-mul}
 use native.Mathlib.Omega.{arith}
 use lib.Dec.{eqb, ltb}
 use lib.ListN.{length, get_or, set, take, drop, length-set, length-drop}
 use lib.Seq.{get_or-set_other, get_or-set_same, get_or-take, get_or-drop, ext_get_or, length-take-le}
-use Rattle.image_fields.proofs.Tests.{split, less, false-true}
+use Rattle.image_fields.proofs.Tests.{less}
 use Rattle.rules.specs.State.{State as Status, join_state}
 use Rattle.rules.specs.Walk.{places_of}
 use Rattle.scope_state.specs.Kinds.{said}

@@ -1,4 +1,6 @@
 // The rows of joined states: read, written and copied, and the join of the states after two branches.
+#![tactic(auto)]
+
 ghost use Rattle.std.specs.Prelude.{◌≡◌, false, ◌+◌, ◌^◌, ◌≤◌, ◌<◌, length, get_or};
 ghost use Rattle.scope_state.specs.View.{listed, state_of, Roomy, Made};
 ghost use Rattle.scope_stack.specs.View.{row_at, said_at, Known};

@@ -1,6 +1,6 @@
 -- Laws of a registration.
 -- Assumes nothing.
-use Rattle.std.proofs.Common.{◌≡◌, ℕ, suc, ◌+◌, ◌*◌, ◌^◌, ◌<◌, ◌≤◌, Bool, true, false, cond, ◌≢◌, length, get_or, set, sym, refl, ap, ◌∙◌, pow-suc, arith, length-set, get_or-set_other, get_or-set_same, pow_mono}
+use Rattle.std.proofs.Common.{◌≡◌, ℕ, suc, ◌+◌, ◌*◌, ◌^◌, ◌<◌, ◌≤◌, Bool, true, false, ◌≢◌, get_or, set, sym, refl, ap, ◌∙◌, pow-suc, arith, length-set, get_or-set_other, get_or-set_same, pow_mono}
 use Rattle.tables.specs.Tables.{Tables}
 use Rattle.rules.specs.Questions.{auto}
 use Rattle.rules.specs.Stack.{Static}

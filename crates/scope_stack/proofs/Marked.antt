@@ -1,7 +1,7 @@
 -- Laws of marks: a frame that gives its locals of a name a state.
 -- Assumes nothing.
-use Rattle.std.proofs.Common.{◌≡◌, ℕ, ◌+◌, ◌-◌, ◌<◌, ◌≤◌, Bool, true, false, cond, not, ◌&&◌, eqb, ltb, ◌≢◌, List, [], ◌∷◌, get_or, sym, refl, ap, ◌∙◌, subst, ⊎_elim, arith, le-ltb, lt-ltb, ne_eqb}
-use Rattle.image_fields.proofs.Tests.{split, less}
+use Rattle.std.proofs.Common.{◌≡◌, ℕ, ◌+◌, ◌-◌, ◌<◌, ◌≤◌, Bool, true, false, cond, not, ◌&&◌, eqb, ◌≢◌, List, [], ◌∷◌, get_or, sym, refl, ap, ◌∙◌, subst, ⊎_elim, arith, le-ltb, lt-ltb, ne_eqb}
+use Rattle.image_fields.proofs.Tests.{less}
 use Rattle.rules.specs.State.{Kind, State as Status, alive, gone, is_alive}
 use Rattle.rules.specs.Stack.{in_frame, mark}
 use Rattle.scope_state.specs.Kinds.{said, put}

@@ -1,6 +1,6 @@
 -- Laws of the search for a local of a name and depth that is not Alive.
 -- Assumes nothing.
-use Rattle.std.proofs.Common.{◌≡◌, ℕ, ◌-◌, ◌^◌, ◌<◌, ◌≤◌, Bool, true, false, not, List, sym, refl, ap, ◌∙◌, ⊎_elim, arith}
+use Rattle.std.proofs.Common.{◌≡◌, ℕ, ◌-◌, ◌^◌, ◌<◌, ◌≤◌, Bool, false, not, List, sym, ap, ◌∙◌, ⊎_elim, arith}
 use Rattle.image_fields.proofs.Tests.{less, false-true}
 use Rattle.scope_stack.specs.Word.{word_of, word_at, Newest}
 use Rattle.scope_stack.specs.View.{Named}

@@ -1,5 +1,7 @@
 // The scope stack of the ownership pass in two structs by value: locals, which only registrations change, and their states, which marks
 // and joins change. The places of a state that has several stand in lent rows. Every operation equals its rule, through `view`.
+#![tactic(auto)]
+
 ghost use Rattle.std.specs.Prelude.{◌≡◌, ℕ, ◌-◌, ◌^◌, ◌<◌, ◌≤◌, Bool, false, cond, not, ◌&&◌, [], ◌∷◌, length, ◌==◌, nat_le, slice_index};
 ghost use Rattle.tables.specs.Tables.{Tables};
 ghost use Rattle.rules.specs.State.{State as Status};
@@ -13,7 +15,7 @@ use scope_state::{Births, Depths, Firsts, Kinds, Names, Types};
 
 // The locals registered, oldest first: the first count of each array. A birth is the span of the statement that registered the local, 0 for
 // a parameter or `this`. A bit of dtors for each whose type has a destructor.
-#[derive(Drop)]
+#[derive(Clone, Copy)]
 pub struct Locals {
     pub count: usize,
     pub names: Names,
@@ -25,7 +27,7 @@ pub struct Locals {
 
 // Their states: kind 0 Alive, 1 to 6 the error that a use reports, with one place, and 8 more where a row has the places. A bit of alive
 // for each that is Alive; what is past the locals is Alive.
-#[derive(Drop)]
+#[derive(Clone, Copy)]
 pub struct States {
     pub kinds: Kinds,
     pub firsts: Firsts,
@@ -33,7 +35,7 @@ pub struct States {
 }
 
 // A state of States.
-#[derive(Drop)]
+#[derive(Clone, Copy)]
 pub struct Entry {
     pub kind: u8,
     pub first: u32,

@@ -5,7 +5,7 @@ use mathlib.Core.Path.{◌≡◌, refl, sym, ap, ◌∙◌, subst}
 use mathlib.Core.Bool.{Bool, true, false, cond, not, ◌&&◌, ◌||◌, beq}
 use mathlib.Core.List.{List}
 use mathlib.Core.Logic.{⊎_elim}
-use borrow.Author.Tests.{ltb-true, ltb-false, eqb-true, eqb-false, ne_eqb}
+use borrow.Author.Tests.{ltb-true, eqb-true, eqb-false, ne_eqb}
 use native.Mathlib.Omega.{arith}
 use lib.Dec.{eqb, ltb, T as So}
 use Rattle.image_fields.proofs.Tests.{split}

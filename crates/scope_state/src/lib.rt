@@ -1,4 +1,6 @@
 // The state of a local: its kind and its places, and the join of two. Every operation equals its rule, through `listed` and `state_of`.
+#![tactic(auto)]
+
 ghost use Rattle.std.specs.Prelude.{◌≡◌, cond, ◌&&◌, [], ◌∷◌, ◌++◌, ◌≤◌, ◌<◌, eqb, ltb};
 ghost use Rattle.image_fields.specs.Table.{member};
 ghost use Rattle.rules.specs.State.{alive, places_eq, combine as combined, join_state};
@@ -23,27 +25,27 @@ pub type Kinds = [u8; 64];
 pub type Firsts = [u32; 64];
 
 // Where a name was given up: the first count of the list.
-#[derive(Drop)]
+#[derive(Clone, Copy)]
 pub struct Places {
     pub count: u8,
     pub list: [u32; 8],
 }
 
 // The state of a name: 0 Alive, else the kind of error that a use of it reports.
-#[derive(Drop)]
+#[derive(Clone, Copy)]
 pub struct State {
     pub kind: u8,
     pub places: Places,
 }
 
 // What comes next, or ok false: a 9th place.
-#[derive(Drop)]
+#[derive(Clone, Copy)]
 pub struct NextPlaces {
     pub ok: bool,
     pub places: Places,
 }
 
-#[derive(Drop)]
+#[derive(Clone, Copy)]
 pub struct NextState {
     pub ok: bool,
     pub state: State,

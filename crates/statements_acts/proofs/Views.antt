@@ -9,8 +9,6 @@ use native.Mathlib.Omega.{arith}
 use lib.ListN.{length, get_or}
 use lib.Dec.{eqb}
 use borrow.Author.Tests.{eq-eqb, ne_eqb, eqb-true}
-use types.Run.{OneOf}
-use denote.Enum.Declared.{tag_of}
 use Rattle.image_fields.specs.Number.{two, four}
 use Rattle.image_fields.proofs.Tests.{and-true, false-true}
 use Rattle.image_body.specs.Expr.{Head, Expr, Exprs, node, none, more, arg_width, fixed_count, noop_unary, through, through_first}
@@ -18,8 +16,7 @@ use Rattle.image_body.specs.Stands.{Stands, Placed}
 use Rattle.image_body.specs.Node.{node_of, node_at}
 use Rattle.image_body.specs.declared.Node.{Node}
 use Rattle.image_body.specs.declared.Node.TheVariants.{Ident, Call, Delete}
-use Rattle.image_body.specs.contracts.Node.{the_type}
-use Rattle.image_body.proofs.Walking.{head_at, Looked, tag-of, others, not-kind, first-child}
+use Rattle.image_body.proofs.Walking.{head_at, Looked, tag-of, first-child}
 use Rattle.tables.specs.Tables.{Tables}
 use Rattle.rules.specs.Questions.{auto}
 use Rattle.rules.specs.Expr.{View, an_ident, a_this, a_delete, other, field_view, delete_view, call_view, view_of, view, nobody, called, ident_in, name_in, is_call, ty_of, callee_at, callee_in}
@@ -149,13 +146,13 @@ module _ (s : List ℕ) (at p : ℕ) (looked : Looked s at p) where
     pub ident-in : {m : ℕ} → v ≡ Ident m → p < length s
     ident-in {m} ei = (tag-of s p (Ident m) (sym ei ∙ ev) (omega arith)).1
 
-    pub no-ident-at : OneOf (others 1) (tag_of the_type v) → (e : Expr) (next : ℕ) → Stands e s at next → ident_in (view e) ≡ nobody
+    pub no-ident-at : ((m : ℕ) → v ≡ Ident m → ⊥) → (e : Expr) (next : ℕ) → Stands e s at next → ident_in (view e) ≡ nobody
     unfolding node_of
-    no-ident-at h e next st = no-ident-view s p next (through e) (looked e next st) (not-kind 1 tt s p ev refl h)
+    no-ident-at h e next st = no-ident-view s p next (through e) (looked e next st) (λ t. h _ (ev ∙ ap (node_of s p) t))
 
-    pub no-delete-at : OneOf (others 10) (tag_of the_type v) → (e : Expr) (next : ℕ) → Stands e s at next → Nothing ≡ delete_of (deleted_name (view e))
+    pub no-delete-at : ((m : ℕ) → v ≡ Delete m → ⊥) → (e : Expr) (next : ℕ) → Stands e s at next → Nothing ≡ delete_of (deleted_name (view e))
     unfolding node_of
-    no-delete-at h e next st = sym (ap delete_of (no-delete-view s p next (through e) (looked e next st) (not-kind 10 tt s p ev refl h)))
+    no-delete-at h e next st = sym (ap delete_of (no-delete-view s p next (through e) (looked e next st) (λ t. h _ (ev ∙ ap (node_of s p) t))))
 
     pub delete-at : {child : ℕ} → v ≡ Delete child → (r : Named) → ((e : Expr) (next : ℕ) → Stands e s child next → named_of r ≡ name_in (view e))
         → (e : Expr) (next : ℕ) → Stands e s at next → delete_of (named_of r) ≡ delete_of (deleted_name (view e))
@@ -211,10 +208,10 @@ and_none false b e = refl
 
 -- the result of a call, as the code asks
 module _ (s : List ℕ) (at p : ℕ) (looked : Looked s at p) {v : Node} (ev : v ≡ node_at s p) where
-  pub no-call-at : OneOf (others 6) (tag_of the_type v) → (T : Tables) (e : Expr) (next : ℕ) → Stands e s at next → 0 ≡ cond (auto T (ty_of e) && is_call (view e)) (callee_at e at) 0
+  pub no-call-at : ((m : ℕ) → v ≡ Call m → ⊥) → (T : Tables) (e : Expr) (next : ℕ) → Stands e s at next → 0 ≡ cond (auto T (ty_of e) && is_call (view e)) (callee_at e at) 0
   unfolding node_of
   no-call-at h T e next st =
-      sym (ap (λ b. cond b (callee_at e at) 0) (and_none (auto T (ty_of e)) _ (no-call-view s p next (through e) (looked e next st) (not-kind 6 tt s p ev refl h))))
+      sym (ap (λ b. cond b (callee_at e at) 0) (and_none (auto T (ty_of e)) _ (no-call-view s p next (through e) (looked e next st) (λ t. h _ (ev ∙ ap (node_of s p) t)))))
 
   pub callee-in : {child : ℕ} → v ≡ Call child → (get_or s p 0 ≡ 6) × (child ≡ p + 7) × (p < length s)
   unfolding node_of

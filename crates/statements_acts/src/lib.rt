@@ -1,5 +1,7 @@
 // What each kind of statement writes before its blocks, and how it changes the scope stack: the arms of transform_block. Throughout,
 // tb has the tables of the image s, ns where the names stand, ln and lt the names and types of the n locals, all lent, and mark is the mark of the stack: a bit for each local that is Alive and of a type with a destructor.
+#![tactic(auto)]
+
 ghost use Rattle.std.specs.Prelude.{◌≡◌, true, cond, ◌&&◌, ◌||◌, List, [], ◌∷◌, map, ℕ, ◌+◌, ◌/◌, ◌%◌, ◌≤◌, ◌<◌, eqb, length, get_or};
 ghost use Rattle.std.proofs.Math.Option.{Option};
 ghost use Rattle.image_fields.specs.Number.{four};
@@ -36,7 +38,7 @@ use scope_state::{Births, Names, Types};
 use tables_lookup::Found;
 
 // A name and the span of its node, or none.
-#[derive(Drop)]
+#[derive(Clone, Copy)]
 pub enum Named {
     Nobody,
     Called(u16, u32),
@@ -44,7 +46,7 @@ pub enum Named {
 
 // How a statement changes the stack once its values are evaluated: a name is deleted at a place, a local of a name, type and birth is
 // registered, a name is alive again.
-#[derive(Drop)]
+#[derive(Clone, Copy)]
 pub enum Change {
     Nothing,
     Delete(u16, u32),
@@ -55,7 +57,7 @@ pub enum Change {
 // Where a walk stands in the statements of a block: the next byte to read, where the last statement began, how many bytes of output
 // and numbers of each list there are, how many deletes were put into the block itself, whether every block that ended counts at most
 // 65,535 statements, and whether a page is made: then lists are lines of the output, and counted in its bytes.
-#[derive(Drop)]
+#[derive(Clone, Copy)]
 pub struct Place {
     pub at: usize,
     pub last: usize,
@@ -69,7 +71,7 @@ pub struct Place {
 }
 
 // The place before a statement's blocks or behind the statement, and its change, with the temporary that is taken over.
-#[derive(Drop)]
+#[derive(Clone, Copy)]
 pub struct Act {
     pub place: Place,
     pub change: Change,
@@ -77,14 +79,14 @@ pub struct Act {
 }
 
 // Which of the locals that a mark has are deleted: all but those of a name, all.
-#[derive(Drop)]
+#[derive(Clone, Copy)]
 pub enum Which {
     But(u16),
     All,
 }
 
 // Where the bytes end, and how many deletes were put.
-#[derive(Drop)]
+#[derive(Clone, Copy)]
 pub struct Put {
     pub at: usize,
     pub count: usize,
@@ -297,7 +299,7 @@ fn expr_statement(
 }
 
 // How many bytes of output and numbers of warnings there are, or bytes of their lines.
-#[derive(Drop)]
+#[derive(Clone, Copy)]
 pub struct Warned {
     pub written: usize,
     pub warnings: usize,

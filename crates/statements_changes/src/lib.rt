@@ -1,5 +1,7 @@
 // The statements of a block over lent arrays, up to the next change of the stack.
 // Throughout, tb has the tables of the image s, and ln, lt, lk and lf the names, types, kinds and first places of the locals, rows the places of joined states, all lent; env has the numbers of the walk.
+#![tactic(auto)]
+
 ghost use Rattle.std.specs.Prelude.{◌≡◌, true, false, List, ℕ, ◌+◌, ◌-◌, ◌≤◌, ◌<◌, length};
 ghost use Rattle.std.proofs.Math.Option.{Option};
 ghost use Rattle.tables.specs.Tables.{Tables};
@@ -22,7 +24,7 @@ use statements_acts::{Act, Change, Named, Place};
 
 // What the stack must do: nothing, the statements are over, a mark (name, kind, place, whether only what is Alive), a registration
 // (name, type, birth), the blocks of a statement of a tag.
-#[derive(Drop)]
+#[derive(Clone, Copy)]
 pub enum Turn {
     Nothing,
     Over,
@@ -33,7 +35,7 @@ pub enum Turn {
 
 // Where a walk of statements stands: how many are left, whether the values of the next are being scanned, how many nodes are open in
 // them and where, the place before the statement, and what is still to be taken over.
-#[derive(Drop)]
+#[derive(Clone, Copy)]
 pub struct Cursor {
     pub left: usize,
     pub begun: bool,
@@ -43,7 +45,7 @@ pub struct Cursor {
     pub taken: Named,
 }
 
-#[derive(Drop)]
+#[derive(Clone, Copy)]
 pub struct Came {
     pub cursor: Cursor,
     pub turn: Turn,

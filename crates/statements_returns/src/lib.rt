@@ -1,5 +1,7 @@
 // What surely returns, by places in the image: statements_guaranteed_return and statement_guaranteed_return call each other, the
 // depth of blocks falling.
+#![tactic(auto)]
+
 ghost use Rattle.std.specs.Prelude.{◌≡◌, ◌≤◌, ◌<◌, cond, ◌&&◌, length, get_or, eqb};
 ghost use Rattle.statements_returns.specs.Front.{front_at};
 ghost use Rattle.statements_returns.specs.Returns.{StmtThere, BlockThere, BranchesThere, StmtSure, BlockSure, BranchesSure};
@@ -8,7 +10,7 @@ use image_body::layout;
 use image_fields::{peek, wide, wide16};
 
 // A statement's tag, how many values it has, where the first begins, and the bytes of the type after them.
-#[derive(Drop)]
+#[derive(Clone, Copy)]
 pub struct Front {
     pub tag: u8,
     pub values: u16,
@@ -17,7 +19,7 @@ pub struct Front {
 }
 
 // Whether statements surely return, and where they end.
-#[derive(Drop)]
+#[derive(Clone, Copy)]
 pub struct Sure {
     pub returns: bool,
     pub at: usize,

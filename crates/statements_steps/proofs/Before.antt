@@ -2,21 +2,20 @@
 -- Assumes nothing.
 use Prim.Native.Nat.{ℕ, suc, ◌+◌}
 use native.Mathlib.Omega.{arith}
-use mathlib.Core.Path.{◌≡◌, refl, sym, ap, ◌∙◌, subst}
+use mathlib.Core.Path.{◌≡◌, refl, ap, ◌∙◌}
 use mathlib.Core.Bool.{Bool, true, false, cond, not}
 use mathlib.Core.List.{List, [], ◌∷◌, ◌++◌}
 use lib.Dec.{eqb, T as So}
 use lib.ListN.{length, length-append}
-use Rattle.image_fields.specs.Bytes.{Bytes, two_bytes, four_bytes}
-use Rattle.image_fields.specs.Parsed.{Parsed, ok, bind}
-use Rattle.image_fields.specs.Table.{many_of}
+use Rattle.image_fields.specs.Bytes.{Bytes}
+use Rattle.image_fields.specs.Parsed.{ok}
 use Rattle.image_body.specs.Expr.{Exprs, Expr, Scope, none, more}
-use Rattle.image_body.specs.Stmt.{Tree, Block, Stmt, StmtHead, done, expr_stmt, variable, assign, return, bare_return, block, if_else, if_then, while, jump, first_value, first_block, before_return, before_if, before_of, before, stmt_in, block_at}
-use Rattle.image_encoding.specs.Body.{size, encode_code, encode_expr, with_count}
+use Rattle.image_body.specs.Stmt.{Tree, Block, Stmt, done, expr_stmt, variable, assign, return, bare_return, block, if_else, if_then, while, jump, first_value, first_block, before_return, before_if, before_of, before, stmt_in, block_at}
+use Rattle.image_encoding.specs.Body.{size, encode_code}
 use Rattle.image_encoding.proofs.StmtBytes.{stmt_bytes, encodes}
 use Rattle.image_encoding.proofs.BodyWritten.{stmt-written, block_written}
 use Rattle.rules.specs.Rules.{is_done, sure_from}
-use Rattle.rules.specs.Report.{expr_bytes, code_bytes}
+use Rattle.rules.specs.Report.{code_bytes}
 use Rattle.rules.proofs.Longer.{expr_stmt-bytes, variable-bytes, assign-bytes, return-bytes, bare_return-bytes, block-bytes, if_else-bytes, if_then-bytes, while-bytes, jump-bytes}
 use Rattle.statements_steps.specs.Statement.{front_size}
 use Rattle.statements_steps.proofs.Whole.{rest_of, blocks_size, sure_of}

@@ -2,34 +2,34 @@
 -- Assumes nothing.
 use Prim.Native.Nat.{ℕ, suc, ◌+◌}
 use native.Mathlib.Omega.{arith}
-use mathlib.Core.Path.{◌≡◌, refl, sym, ap, ◌∙◌, subst}
-use mathlib.Core.Bool.{Bool, true, false, not, cond, ◌&&◌}
+use mathlib.Core.Path.{◌≡◌, refl, sym, ap, ◌∙◌}
+use mathlib.Core.Bool.{Bool, true, false, not, ◌&&◌}
 use mathlib.Core.List.{List, [], ◌∷◌, ◌++◌, append_assoc, append-nil}
 use mathlib.Core.Option.{Option, some}
 use lib.Dec.{leb, T as So}
 use lib.ListN.{length}
 use Rattle.tables.specs.Limits.{version1}
 use Rattle.tables.specs.Tables.{Tables}
-use Rattle.image_fields.specs.Bytes.{two_bytes, four_bytes}
+use Rattle.image_fields.specs.Bytes.{four_bytes}
 use Rattle.tables_lookup.specs.First.{or_else}
-use Rattle.image_body.specs.Expr.{Expr, Exprs, none, more}
+use Rattle.image_body.specs.Expr.{Expr, none, more}
 use Rattle.image_body.specs.Stmt.{Tree, done, expr_stmt, variable, assign, return, bare_return, block, if_else, if_then, while, jump}
-use Rattle.image_encoding.specs.Body.{size, encode_code, encode_expr, with_count}
+use Rattle.image_encoding.specs.Body.{size, encode_code, encode_expr}
 use Rattle.rules.specs.Expr.{Named, nobody, called, View, an_ident, a_this, a_field, a_delete, a_call, other, view, name_in}
 use Rattle.rules.specs.State.{State as Status}
 use Rattle.rules.specs.Stack.{Shape, shape, pop, Stack as Scope}
-use Rattle.rules.specs.Effects.{Effect, group, resolve_all, effects, deleted_in, deleted_by, expr_stmt_effects, take_over, assign_effects}
+use Rattle.rules.specs.Effects.{Effect, group, resolve_all, effects, deleted_in, deleted_by, expr_stmt_effects, take_over}
 use Rattle.rules.specs.Rules.{Drop, drop_of, is_done, Switches, off, states, concerns, at_bare_return, at_jump, declared, apply_all, sure_from, register, evaluate, after_expr, after_variable, before_assign, after_assign, assign_drops, return_drops, bare_return_drops, jump_drops, joins, merge, exit, decide}
-use Rattle.rules.specs.Report.{Report, report_of, report_all, delete_node, ident_node, inserts, flatten, report, expr_bytes, code_bytes, unused, left_behind}
+use Rattle.rules.specs.Report.{Report, report_all, delete_node, ident_node, inserts, flatten, report, expr_bytes, code_bytes, unused, left_behind}
 use Rattle.rules.specs.Walk.{walk_fault, too_many, too_wide}
 use Rattle.rules.specs.Verdict.{counts_fit}
-use Rattle.rules.proofs.Shapes.{shape-all, shape-doing}
+use Rattle.rules.proofs.Shapes.{shape-all}
 use Rattle.expressions_scan.proofs.Runs.{apply-append, report-append}
 use Rattle.expressions_scan.proofs.Values.{after_all, told_all}
 use Rattle.statements_steps.specs.Drops.{delete_bytes}
-use Rattle.statements_steps.specs.Statement.{wrapped, front_size, front_drops, own_bytes, front_bytes, front_reports, settle}
-use Rattle.statements_steps.proofs.Whole.{values_of, rest_of, blocks_size, valued, front_own, own, own_fault, own_after, sure_of}
-use Rattle.statements_steps.specs.Own.{Own, returned, block_own, blocks_own, blocks_fault, blocks_after}
+use Rattle.statements_steps.specs.Statement.{wrapped, front_size, front_drops}
+use Rattle.statements_steps.proofs.Whole.{rest_of, blocks_size, valued, own, own_fault, own_after, sure_of}
+use Rattle.statements_steps.specs.Own.{returned}
 use Rattle.statements_steps.proofs.Effects.{after_one, told-one, after_two, told-two}
 
 -- deletes put in

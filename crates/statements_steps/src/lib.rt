@@ -1,1 +1,2 @@
 // Definitions and laws only: a statement by itself, at the head of a list.
+#![tactic(auto)]

@@ -1,6 +1,6 @@
 -- A loop that reads a table's entries and keeps their positions.
 -- Assumes nothing.
-use Rattle.std.proofs.Common.{◌≡◌, ℕ, zero, suc, ◌+◌, ◌-◌, ◌<◌, ◌≤◌, List, [], ◌∷◌, ◌++◌, map, length, get_or, take, set, sym, refl, ap, ◌∙◌, subst, arith, length-set, get_or-set_other, get_or-set_same, below_more}
+use Rattle.std.proofs.Common.{◌≡◌, ℕ, ◌+◌, ◌<◌, ◌≤◌, List, [], ◌∷◌, ◌++◌, map, length, get_or, take, set, sym, refl, ap, ◌∙◌, subst, arith, length-set, get_or-set_other, get_or-set_same, below_more}
 use Rattle.image_fields.specs.Parsed.{Parsed, ok, fault}
 use Rattle.image_fields.specs.Table.{table_from, table_at}
 use Rattle.image_fields.specs.Number.{field_at}

@@ -1,14 +1,14 @@
 -- The loop over the table of types: the types read so far, their positions and their flags.
 -- Assumes nothing.
-use Rattle.std.proofs.Common.{◌≡◌, ℕ, zero, suc, ◌+◌, ◌-◌, ◌<◌, ◌≤◌, Bool, true, false, cond, ◌||◌, eqb, ltb, ◌⊎◌, List, [], ◌∷◌, ◌++◌, length, get_or, take, set, sym, refl, ap, ◌∙◌, subst, subst₂, inl, inr, ⊎_elim, pos_of_ne-zero, add-one, arith, length-append, length-set, get_or-take, take-suc-set, le-ltb, ne_eqb, eqb-true}
+use Rattle.std.proofs.Common.{◌≡◌, ℕ, ◌+◌, ◌<◌, ◌≤◌, Bool, true, false, cond, ◌||◌, eqb, ltb, List, [], ◌∷◌, ◌++◌, length, get_or, take, set, sym, refl, ap, ◌∙◌, subst, subst₂, ⊎_elim, pos_of_ne-zero, add-one, arith, length-set, get_or-take, take-suc-set, le-ltb, ne_eqb, eqb-true}
 use Rattle.image_fields.specs.Parsed.{Parsed, ok, fault, bind, ensure}
 use Rattle.image_fields.specs.Number.{number_in, field_at}
-use Rattle.image_fields.specs.Table.{table_from, table_at}
+use Rattle.image_fields.specs.Table.{table_from}
 use Rattle.image_fields.specs.Answer.{table_of}
 use Rattle.image_fields.specs.declared.Number.{Number}
 use Rattle.image_fields.specs.declared.Number.TheVariants.{Is, Wrong}
 use Rattle.image_fields.proofs.Inverse.{ensure-ok, bound, impossible}
-use Rattle.image_fields.proofs.Numbers.{Field, field-ok}
+use Rattle.image_fields.proofs.Numbers.{field-ok}
 use Rattle.image_fields.proofs.Tests.{split}
 use Rattle.image_fields.proofs.Tables.{filling-stop, filling-done, count-stop, count-few, count-good}
 use Rattle.tables.specs.Limits.{version1}

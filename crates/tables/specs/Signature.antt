@@ -1,5 +1,5 @@
 -- Structs, globals and the entry (signature.rs).
-use Rattle.std.specs.Prelude.{ℕ, zero, suc, ◌+◌, Bool, true, false, cond, not, ◌&&◌, List, [], ◌∷◌, map, length, nat_eq, nat_lt, slice_index, slice_index_or}
+use Rattle.std.specs.Prelude.{ℕ, ◌+◌, Bool, true, cond, not, ◌&&◌, List, [], ◌∷◌, map, length, nat_eq, nat_lt, slice_index, slice_index_or}
 use Rattle.image_fields.specs.Parsed.{Parsed, ok, bind, ensure}
 use Rattle.image_fields.specs.Number.{two, four, number_in, field_at}
 use Rattle.image_fields.specs.Table.{table_at, member, entries}

@@ -1,6 +1,6 @@
 -- Types: count 1 to 256; each a kind byte: 0 plain; 1 named (name); 2 generic (name, shape); 3 inline array, 4 pointer (a lower
 -- type). Type 0 is plain. Fault 4.
-use Rattle.std.specs.Prelude.{ℕ, zero, suc, ◌+◌, Bool, true, false, cond, ◌||◌, List, [], ◌∷◌, ◌++◌, length, ◌==◌, nat_lt, slice_index}
+use Rattle.std.specs.Prelude.{ℕ, ◌+◌, cond, ◌||◌, List, [], ◌∷◌, ◌++◌, length, ◌==◌, nat_lt, slice_index}
 use Rattle.image_fields.specs.Parsed.{Parsed, ok, bind, ensure}
 use Rattle.image_fields.specs.Number.{number_in, field_at}
 use Rattle.image_fields.specs.Table.{table_at}

@@ -8,7 +8,7 @@ ghost use Rattle.tables.specs.Ty.{Ty, of_width, shape_width, of_limit, parts_at,
 ghost use Rattle.tables.specs.Answer.{type_of, Listed};
 
 // A type's kind, its name or lower type, and the position after it, or the fault's number.
-#[derive(Drop)]
+#[derive(Clone, Copy)]
 pub enum TypeRead {
     OneType(usize, usize, usize),
     NoType(u8),

@@ -1,16 +1,15 @@
 -- Types that were read have lower inner types: what the contracts require is met.
 -- Assumes nothing.
-use Rattle.std.proofs.Common.{◌≡◌, ℕ, zero, suc, ◌+◌, ◌<◌, ◌≤◌, List, [], ◌∷◌, ◌++◌, length, sym, ap, subst, ⊎_elim, arith, length-append, le-ltb, ne_eqb}
+use Rattle.std.proofs.Common.{◌≡◌, ℕ, zero, suc, ◌+◌, ◌<◌, ◌≤◌, List, [], ◌∷◌, ◌++◌, length, sym, ap, subst, ⊎_elim, arith, length-append}
 use lib.ListN.{get_or-append, get_or-eq_default}
 use lib.Seq.{get_or-append_seam}
-use Rattle.image_fields.specs.Parsed.{Parsed, ok}
+use Rattle.image_fields.specs.Parsed.{ok}
 use Rattle.image_fields.specs.Table.{table_from}
 use Rattle.image_fields.proofs.Tests.{less}
-use Rattle.image_fields.proofs.Inverse.{bound, ensure-ok}
-use Rattle.image_fields.proofs.Numbers.{field-ok}
+use Rattle.image_fields.proofs.Inverse.{bound}
 use Rattle.image_fields.proofs.Tables.{table-parts}
 use Rattle.tables.specs.Limits.{Limits}
-use Rattle.tables.specs.Ty.{Ty, of_limit, parts_at, type_at, types_at}
+use Rattle.tables.specs.Ty.{Ty, type_at, types_at}
 use Rattle.tables.proofs.Types.{lower}
 use Rattle.tables_lookup.specs.Ty.{type_no, Lower}
 

@@ -1,5 +1,7 @@
 // What the tables of an image answer of types and structs: every answer equals what the definitions of specs/ say of the entries in
 // the bytes.
+#![tactic(auto)]
+
 ghost use Rattle.std.specs.Prelude.{◌≡◌, ℕ, ◌+◌, ◌*◌, ◌<◌, ◌≤◌, List, map, length, take};
 ghost use Rattle.tables.specs.Tables.{Tables};
 ghost use Rattle.tables.specs.Ty.{type_in};
@@ -10,7 +12,7 @@ ghost use Rattle.tables_lookup.specs.Lent.{Filled, Lent, Says, Sized, structs_in
 ghost use Rattle.tables_lookup.specs.Answer.{found_of};
 
 // What was found, a number, or nothing.
-#[derive(Drop)]
+#[derive(Clone, Copy)]
 pub enum Found {
     Nothing,
     At(usize),

@@ -1,5 +1,7 @@
 // What the tables of an image answer of names, those of methods, of globals and their own: every answer equals what the definitions
 // of tables_lookup/specs/ say of the entries in the bytes.
+#![tactic(auto)]
+
 ghost use Rattle.std.specs.Prelude.{◌≡◌, ◌+◌, ◌*◌, ◌<◌, ◌≤◌, map, length, slice_index};
 ghost use Rattle.image_fields.specs.Table.{entries};
 ghost use Rattle.tables.specs.Name.{name_of, starts_with};

@@ -3,30 +3,25 @@
 use mathlib.Core.Path.{◌≡◌, refl, sym, ap, ◌∙◌, subst, subst₂}
 use mathlib.Core.List.{List, [], ◌∷◌, ◌++◌, map, map-map}
 use mathlib.Core.Bool.{Bool, true, false, cond, not, ◌&&◌}
-use Prim.Native.Nat.{ℕ, zero, suc, ◌+◌, ◌-◌, ◌*◌, ◌≤◌, ◌<◌}
+use Prim.Native.Nat.{ℕ, zero, suc, ◌+◌, ◌*◌, ◌≤◌, ◌<◌}
 use native.Mathlib.Omega.{arith}
-use native.Mathlib.Nat.{pos_of_ne-zero}
-use borrow.Author.Tests.{eq-eqb, ne_eqb, ltb-true}
-use lib.ListN.{length, get_or, take, set, length-append, length-map}
-use lib.Dec.{eqb, ltb}
+use borrow.Author.Tests.{ne_eqb}
+use lib.ListN.{length, get_or, length-map}
+use lib.Dec.{eqb}
 use Rattle.image_fields.specs.Parsed.{Parsed, ok, fault, bind, ensure}
-use Rattle.image_fields.specs.Number.{two, four, number_in, field_at}
-use Rattle.image_fields.specs.Table.{table_from, table_at, member, entries}
-use Rattle.image_fields.specs.Answer.{read_of, table_of, number_of}
-use Rattle.image_fields.specs.declared.Read.{Read}
+use Rattle.image_fields.specs.Number.{two, number_in, field_at}
+use Rattle.image_fields.specs.Table.{table_at, member, entries}
+use Rattle.image_fields.specs.Answer.{read_of, table_of}
 use Rattle.image_fields.specs.declared.Read.TheVariants.{Next, Fault}
 use Rattle.image_fields.specs.declared.Number.{Number}
 use Rattle.image_fields.specs.declared.Number.TheVariants.{Is, Wrong}
-use Rattle.image_fields.proofs.Inverse.{ensure-ok, bound, impossible}
-use Rattle.image_fields.proofs.Answers.{is-table, wrong-table, bind-fault, bind-next, table-ok, table-wrong}
-use Rattle.image_fields.proofs.Numbers.{Field, field-ok}
-use Rattle.image_fields.proofs.Tables.{Filling, filling-start, filling-stop, filling-done, filling-next, entries-more, entries-map, entries-length, table-entries, table-parts, table-length, table-alike, remade, count-stop, count-good}
+use Rattle.image_fields.proofs.Inverse.{ensure-ok, bound}
+use Rattle.image_fields.proofs.Numbers.{field-ok}
+use Rattle.image_fields.proofs.Tables.{Filling, filling-start, filling-next, entries-more, entries-map, table-entries, table-parts, table-alike, remade}
 use Rattle.tables.specs.Limits.{version1}
 use Rattle.tables.specs.Name.{name_of, below_bytes}
-use Rattle.tables.specs.Signature.{Method, Struct, Global, Param, Entry, Named, method_names, global_names, method_at, rises, struct_rest_at, struct_at, structs_at, global_at, globals_at, param_at, this_width, entry_at, named_at, named_in, method_in, global_in, param_in, struct_in}
-use Rattle.tables.specs.Answer.{Within, Listed}
+use Rattle.tables.specs.Signature.{Method, Struct, Global, Param, Named, method_names, global_names, method_at, rises, struct_rest_at, struct_at, global_at, globals_at, param_at, this_width, entry_at, named_at, named_in, method_in, struct_in}
 use Rattle.tables_signatures.specs.Answer.{struct_name_of, Ends}
-use Rattle.tables.proofs.Placing.{Placing, Lists, placing-start, placing-stop, placing-done, placing-next, lists-nothing}
 
 -- the steps of reading a name with its number
 module _ (k names limit w : ℕ) (d : Bool) (s : List ℕ) (xs : List Named) (at : ℕ) where

@@ -1,4 +1,6 @@
 // The tables of structs and globals, and the entry.
+#![tactic(auto)]
+
 ghost use Rattle.std.specs.Prelude.{◌≡◌, ℕ, ◌+◌, ◌-◌, ◌*◌, ◌≤◌, ◌<◌, true, cond, ◌&&◌, List, map, [], length, get_or, eqb};
 ghost use Rattle.image_fields.specs.Parsed.{ok};
 ghost use Rattle.image_fields.specs.Number.{two};
@@ -12,7 +14,7 @@ ghost use Rattle.tables_signatures.specs.Answer.{struct_name_of, Ends};
 
 // How a table of names with numbers is read: its fault, how many names there are, the numbers' limit and width, and whether the
 // names differ.
-#[derive(Drop)]
+#[derive(Clone, Copy)]
 struct NamedFormat {
     fault: u8,
     names: usize,

@@ -1,0 +1,14 @@
+use mathlib.Core.Path.{sym, ap, ◌∙◌}
+use Rattle.image_reading.specs.Answer.{front_of}
+use Rattle.image_reading.proofs.BodyReading.{head_small, head_ok, head-bad, front-head-bad, front-values}
+use Rattle.image_reading.proofs.read_front.Goals as goal
+
+pub read_values-requires : goal.read_values-requires
+read_values-requires c = head_small _ _ _ _ c.read_stmt_head.ensures c.in-Tag.is
+
+pub returns-in-Bad : goal.returns-in-Bad
+returns-in-Bad c = front-head-bad _ _ _ (head-bad c.read_stmt_head.ensures c.in-Bad.is)
+
+pub returns-in-Tag : goal.returns-in-Tag
+returns-in-Tag c = let g = head_ok c.read_stmt_head.ensures c.in-Tag.is in
+    c.read_values.ensures g.0 g.2 ∙ sym (ap front_of (front-values _ _ _ g.1))

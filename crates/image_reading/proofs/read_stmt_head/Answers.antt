@@ -1,0 +1,34 @@
+use lib.ListN.{length}
+use mathlib.Core.Logic.{⊎_elim}
+use mathlib.Core.Path.{◌∙◌}
+use native.Mathlib.Omega.{arith}
+use borrow.Author.Tests.{lt-ltb, le-ltb, le-leb, lt-leb}
+use Rattle.image_fields.specs.Parsed.{ensure}
+use Rattle.image_fields.proofs.Tests.{less}
+use Rattle.image_fields.proofs.Numbers.{past_end}
+use Rattle.image_body.specs.Stmt.{stmt_head_at}
+use Rattle.image_reading.specs.Answer.{stmt_start_of}
+use Rattle.image_reading.proofs.read_stmt_head.Goals as goal
+
+pub returns-then-tag-eq0 : goal.returns-then-tag-eq0
+unfolding stmt_head_at stmt_start_of ensure
+returns-then-tag-eq0 c = simp (← c.peek-tag.ensures.0, le-ltb 0 c.peek-tag.result (omega arith))
+
+pub returns-then-tag-gt10 : goal.returns-then-tag-gt10
+unfolding stmt_head_at stmt_start_of ensure
+returns-then-tag-gt10 c = simp (← c.peek-tag.ensures.0, lt-ltb 0 c.peek-tag.result (omega arith), le-ltb c.peek-tag.result 11 (omega arith))
+
+pub returns-then-room-size : goal.returns-then-room-size
+unfolding stmt_head_at stmt_start_of ensure
+returns-then-room-size c = simp (← c.peek-tag.ensures.0, lt-ltb 0 c.peek-tag.result (omega arith), lt-ltb c.peek-tag.result 11 (omega arith), ← c.head_bytes-size.ensures.0, ← c.room.ensures, lt-leb _ _ c.if-room-size.true)
+
+pub binds_ok-requires : goal.binds_ok-requires
+binds_ok-requires c = ⊎_elim (λ l. l) (λ l. let z = past_end c.args.s.now c.args.at l in absurd (c.if-tag-eq0.false (c.peek-tag.ensures.0 ∙ z))) (less c.args.at (length c.args.s.now))
+
+pub returns-then-binds_ok : goal.returns-then-binds_ok
+unfolding stmt_head_at stmt_start_of ensure
+returns-then-binds_ok c = simp (← c.peek-tag.ensures.0, lt-ltb 0 c.peek-tag.result (omega arith), lt-ltb c.peek-tag.result 11 (omega arith), ← c.head_bytes-size.ensures.0, ← c.room.ensures, le-leb _ _ c.if-room-size.false, ← c.binds_ok.ensures, c.if-binds_ok.true)
+
+pub returns-else-binds_ok : goal.returns-else-binds_ok
+unfolding stmt_head_at stmt_start_of ensure
+returns-else-binds_ok c = simp (← c.peek-tag.ensures.0, lt-ltb 0 c.peek-tag.result (omega arith), lt-ltb c.peek-tag.result 11 (omega arith), ← c.head_bytes-size.ensures.0, ← c.room.ensures, le-leb _ _ c.if-room-size.false, ← c.binds_ok.ensures, c.if-binds_ok.false)

@@ -1,0 +1,10 @@
+use Rattle.statements_acts.specs.Parts.{sparing}
+use Rattle.statements_acts.specs.Act.{named_of}
+use mathlib.Core.Path.{sym, ap, ◌∙◌}
+use Rattle.statements_acts.proofs.returned_identifier_name.Goals as goal
+
+pub returns-in-Called : goal.returns-in-Called
+returns-in-Called c = λ e next st. sym (ap (λ x. sparing (named_of x)) c.in-Called.is) ∙ ap sparing (c.name_in.ensures e next st)
+
+pub returns-in-Nobody : goal.returns-in-Nobody
+returns-in-Nobody c = λ e next st. sym (ap (λ x. sparing (named_of x)) c.in-Nobody.is) ∙ ap sparing (c.name_in.ensures e next st)
