@@ -1,6 +1,6 @@
 // How long reading an image takes: every image of crates/programs_faults/data/images, and of a folder if one is named, through
 // `image_fault`, the slowest first. At the root of the repository, once the crate `image` is proved:
-//   rt staticlib image && rustc --edition 2021 -O --out-dir target bench/reading.rs -L target/staticlib -l static=image && target/reading
+//   tools/build image && rustc --edition 2021 -O --out-dir target bench/reading.rs -L target/staticlib -l static=image && target/reading
 // `bench bodies FOLDER` writes generated bodies to a folder. How many instructions one image takes:
 //   valgrind --tool=callgrind --toggle-collect=image_fault target/reading --once IMAGE
 use std::time::Instant;

@@ -17,8 +17,8 @@
  * valid for its length; what is written to must overlap neither the image nor any other memory lent in the same call. The calls hold
  * no state, allocate nothing and keep no pointer: threads may call them at one time, each with memory of its own to write to.
  *
- * Machine stack: give a thread that calls them 1 MB. Measured (bench/memory.c), ownership_pass takes up to 238,680 bytes,
- * ownership_room 136,440 and ownership_page 189,672, with switches and without. Nothing proves a bound, and a stack that is too small ends the process.
+ * Machine stack: give a thread that calls them 1 MB. Measured (bench/memory.c), ownership_pass takes up to 253,776 bytes,
+ * ownership_room 151,904 and ownership_page 205,152, with switches and without. Nothing proves a bound, and a stack that is too small ends the process.
  *
  * An image of n bytes without faults 1 to 13 has, with m = n - 28 and rounded down, at most m / 7 errors, m / 21 warnings and
  * 64 * (m / 5) left-behind entries, and n + 90 * m bytes of output; for 65,536 bytes 9,358, 3,119, 838,464 and 5,961,256. With switch 1
@@ -94,12 +94,12 @@ struct ownership_report {
     uint32_t kind, place, hint, count, places[8];
 };
 
-/* Turns the numbers of so many errors, as ownership_pass wrote them, into records: of liblent.a (rt staticlib lent). Answers 0, or 14
+/* Turns the numbers of so many errors, as ownership_pass wrote them, into records: of liblent.a (tools/build lent). Answers 0, or 14
  * with nothing changed if fewer than count records or fewer than 12 * count numbers are lent. Records past count are unchanged. */
 uint32_t ownership_reports(const uint32_t *numbers, size_t numbers_len, size_t count,
                            struct ownership_report *reports, size_t reports_len);
 
-/* Reads an image and answers 0 or its fault of reading, 1 to 11; needs no memory lent and walks nothing: of libimage.a (rt staticlib image). */
+/* Reads an image and answers 0 or its fault of reading, 1 to 11; needs no memory lent and walks nothing: of libimage.a (tools/build image). */
 uint64_t image_fault(const uint8_t *image, size_t image_len);
 
 #ifdef __cplusplus

@@ -82,10 +82,10 @@ const USAGE: &str = "bench compare IMAGES DAMAGED SEED | differ IMAGES DAMAGED S
 
 #[cfg(not(ours))]
 const NO_LIBRARY: &str =
-    "there is no library: rt staticlib ownership_pass makes it, or OWNERSHIP_PASS_LIB names its folder; then build anew";
+    "there is no library: tools/build ownership_pass makes it, or OWNERSHIP_PASS_LIB names its folder; then build anew";
 
 #[cfg(ours)]
-const NO_REPORTS: &str = "ownership_reports: left out, there is no liblent.a: rt staticlib lent makes it";
+const NO_REPORTS: &str = "ownership_reports: left out, there is no liblent.a: tools/build lent makes it";
 
 fn speeds(runs: usize) -> i32 {
     speed::speed(runs);
