@@ -64,7 +64,7 @@ def main():
                 text = f.read()
             new = text
             for file, lemma in LEMMAS:
-                # a copy of a file, Names-2.antt beside Names.antt say, is turned as the file
+                # a copy of a file with an edit applied, NamesXe2.antt beside Names.antt, is turned as the file
                 if re.fullmatch(re.escape(file[:-5]) + r"(?:Xe\d+)?\.antt", os.path.relpath(path, top)):
                     new = re.sub(r"(?<![\w'-])%s(?![\w'-])" % lemma, lemma + "_lem", new)
             new = turned(new, name.endswith(".rt"))
