@@ -17,6 +17,7 @@ use Rattle.rules.specs.State.{State as Status}
 use Rattle.rules.specs.Stack.{Stack as Scope}
 use Rattle.tables_lookup.specs.Lent.{Says}
 use Rattle.image_writing.specs.Memory.{Memory}
+use Rattle.expressions_steps.specs.declared.Open.{Open}
 use Rattle.statements_returns.specs.Returns.{BlockThere}
 use Rattle.statements_returns.proofs.Surely.{block-there}
 use Rattle.statements_acts.specs.declared.Place.{Place}
@@ -31,10 +32,11 @@ use Rattle.statements_changes.specs.Turns.{retold}
 use Rattle.blocks_laws.specs.Walks.{Walked, BlockWalks}
 use Rattle.blocks_laws.specs.Ends.{Merges}
 use Rattle.blocks_ends.specs.declared.Env.{Env}
+use Rattle.blocks_ends.specs.declared.Walk.{Walk}
 use Rattle.blocks_ends.specs.Ends.{place_in, fault_in, sure_in, walked_in}
 use Rattle.blocks_merge.specs.Merges.{behind_of, looped_of, Below, RowsStand, Branches, MergesIn, MergesElse}
 use Rattle.blocks.specs.Blocks.{InLoop, Enters, Comes, block_rows, stmt_rows, ElseMerges}
-use Rattle.blocks_ends.proofs.Numbers.{rows_few, no-fault}
+use Rattle.blocks_ends.proofs.Walks.{rows_few, no-fault}
 use Rattle.blocks.proofs.Standing.{below_both}
 use Rattle.blocks.proofs.Ending.{fault-walks}
 
@@ -142,11 +144,11 @@ module _ (env r : Env) (at : ℕ) {base : ℕ} (is : r ≡ moved_of env at base)
   pub copies_at : {n : ℕ} {kinds rows : List ℕ} {ok : Bool} {new : List ℕ} → Copies n env.width kinds rows env.cur r.cur ok new → Copies n env.width kinds rows env.cur at ok new
   copies_at {n} {kinds} {rows} {ok} {new} h = subst (λ (x : Env). Copies n env.width kinds rows env.cur x.cur ok new) is h
 
-  pub comes-at : {s tb : List ℕ} {l : Locals} {rows : List ℕ} {p : Place} {o : States} {rows' pl' : List ℕ} → Comes s tb r.cur r.width (block_rows r.cur r.left) l rows p o rows' pl'
+  pub comes-at : {s tb : List ℕ} {l : Locals} {rows : List ℕ} {p : Place} {o : States} {rows' : List ℕ} {pl' : Walk} → Comes s tb r.cur r.width (block_rows r.cur r.left) l rows p o rows' pl'
       → Comes s tb at env.width (block_rows at env.left) l rows p o rows' pl'
   comes-at {s} {tb} {l} {rows} {p} {o} {rows'} {pl'} h = subst (λ (x : Env). Comes s tb x.cur x.width (block_rows x.cur x.left) l rows p o rows' pl') is h
 
-  pub walks_at : (s tb : List ℕ) (l : Locals) (t : States) (rows : List ℕ) (p : Place) (m : Memory) (o : States) (rows' pl' : List ℕ) (m' : Memory)
+  pub walks_at : (s tb : List ℕ) (l : Locals) (t : States) (rows : List ℕ) (p : Place) (m : Memory) (o : States) (rows' : List ℕ) (pl' : Walk) (m' : Memory)
       → ((T : Tables) → Says s tb T → (loop : Option ℕ) → InLoop loop r.base (suc (12 - r.left)) l → (fault_in pl' ≡ 254 → ⊥)
       → BlockWalks (switches_of r.switches) T s r.left (suc (12 - r.left)) loop (view l t rows r.cur r.width) p m (walked_in pl' (view l o rows' r.cur r.width)) m')
       → (T : Tables) → Says s tb T → (loop : Option ℕ) → InLoop loop base (suc (12 - env.left)) l → (fault_in pl' ≡ 254 → ⊥)
@@ -158,16 +160,16 @@ module _ (env r : Env) (at : ℕ) {base : ℕ} (is : r ≡ moved_of env at base)
   pub branches_at : {n : ℕ} {t u v : States} {rows : List ℕ} → Branches n t u v rows env.cur env.width at → Branches n t u v rows env.cur env.width r.cur
   branches_at {n} {t} {u} {v} {rows} h = subst (λ (x : Env). Branches n t u v rows env.cur env.width x.cur) (sym is) h
 
-  pub merges-at : {w : Switches} {x : Bool} {n : ℕ} {t u v : States} {rows pl : List ℕ} {o : States} {rows' pl' : List ℕ} → MergesElse w x n t u v rows env.cur env.width r.cur pl o rows' pl'
+  pub merges-at : {w : Switches} {x : Bool} {n : ℕ} {t u v : States} {rows : List ℕ} {pl : Walk} {o : States} {rows' : List ℕ} {pl' : Walk} → MergesElse w x n t u v rows env.cur env.width r.cur pl o rows' pl'
       → MergesElse w x n t u v rows env.cur env.width at pl o rows' pl'
   merges-at {w} {x} {n} {t} {u} {v} {rows} {pl} {o} {rows'} {pl'} h = subst (λ (z : Env). MergesElse w x n t u v rows env.cur env.width z.cur pl o rows' pl') is h
 
   -- what a branch's block is asked
-  pub block-asked : {s tb : List ℕ} {l : Locals} {t : States} {rows : List ℕ} {p : Place} (nodes pl : List ℕ) → Enters s tb r l t rows p → BlockThere s env.left p.at
-      → at ≤ 1152 * (12 - env.left) → length nodes ≡ 26 → length pl ≡ 10
-      → Enters s tb r l t rows p × BlockThere s r.left p.at × (r.cur ≤ 1152 * (12 - r.left)) × (length nodes ≡ 26) × (length pl ≡ 10)
-  block-asked {s} {p = p} nodes pl h there low en ep =
-      (h, subst (λ (x : Env). BlockThere s x.left p.at) (sym is) there, subst (λ (x : Env). x.cur ≤ 1152 * (12 - x.left)) (sym is) low, en, ep)
+  pub block-asked : {s tb : List ℕ} {l : Locals} {t : States} {rows : List ℕ} {p : Place} (nodes : List Open) → Enters s tb r l t rows p → BlockThere s env.left p.at
+      → at ≤ 1152 * (12 - env.left) → length nodes ≡ 26
+      → Enters s tb r l t rows p × BlockThere s r.left p.at × (r.cur ≤ 1152 * (12 - r.left)) × (length nodes ≡ 26)
+  block-asked {s} {p = p} nodes h there low en =
+      (h, subst (λ (x : Env). BlockThere s x.left p.at) (sym is) there, subst (λ (x : Env). x.cur ≤ 1152 * (12 - x.left)) (sym is) low, en)
 
   pub left-same : r.left ≡ env.left
   left-same = ap (λ (x : Env). x.left) is
@@ -179,10 +181,9 @@ behind-asked s tb env l t rows p h low r is =
     subst (λ (x : Env). (l.count ≤ 64) × (x.width ≡ 8) × (x.cur < 4294967296)) (sym is) (h.sound.kept.small, h.width, omega arith)
 
 -- a walk that ends where the rows do not reach, or with a fault
-pub comes-faulty : (s tb : List ℕ) (cur width least : ℕ) (l : Locals) (rows : List ℕ) (p : Place) (r : States) (rows' pl' : List ℕ) → length pl' ≡ 10 → 0 < fault_in pl' → Below cur rows rows'
+pub comes-faulty : (s tb : List ℕ) (cur width least : ℕ) (l : Locals) (rows : List ℕ) (p : Place) (r : States) (rows' : List ℕ) (pl' : Walk) → 0 < fault_in pl' → Below cur rows rows'
     → (fault_in pl' ≡ 254 → length rows < least) → Comes s tb cur width least l rows p r rows' pl'
-comes-faulty s tb cur width least l rows p r rows' pl' room lt below short = record {
-  room = room;
+comes-faulty s tb cur width least l rows p r rows' pl' lt below short = record {
   below = below;
   short = short;
   sound = λ z. absurd (omega arith);
@@ -191,7 +192,7 @@ comes-faulty s tb cur width least l rows p r rows' pl' room lt below short = rec
 }
 
 -- the second block of an IfElse
-module _ (s tb : List ℕ) (env : Env) (l : Locals) (t first : States) (rows pl : List ℕ) (h : Enters s tb env l t rows (place_in pl))
+module _ (s tb : List ℕ) (env : Env) (l : Locals) (t first : States) (rows : List ℕ) (pl : Walk) (h : Enters s tb env l t rows (place_in pl))
     (there : BlockThere s env.left (place_in pl).at) (low : env.cur + 1152 ≤ 1152 * (12 - env.left)) (one : RowsStand l.count first rows (row_of env.cur env.width l.count) env.width) where
   abbrev a : ℕ
   a = row_of env.cur env.width l.count
@@ -208,7 +209,7 @@ module _ (s tb : List ℕ) (env : Env) (l : Locals) (t first : States) (rows pl 
   pub else-short : length rows < row_of b env.width l.count → length rows < stmt_rows env.cur env.left
   else-short lt = let f = few s tb env l t rows (place_in pl) h in let e = enough in omega arith
 
-  module _ {ok : Bool} {rows₁ : List ℕ} (c : Copies l.count env.width t.kinds rows env.cur b ok rows₁) (yes : ok ≡ true) {other : States} {rows₂ pl₂ : List ℕ}
+  module _ {ok : Bool} {rows₁ : List ℕ} (c : Copies l.count env.width t.kinds rows env.cur b ok rows₁) (yes : ok ≡ true) {other : States} {rows₂ : List ℕ} {pl₂ : Walk}
       (come : Comes s tb b env.width (block_rows b env.left) l rows₁ (place_in pl) other rows₂ pl₂) where
     whole : Below b rows rows₂
     whole = below_both b b rows rows₁ rows₂ (omega arith) (branch-below s tb env l t rows (place_in pl) h b c) come.below
@@ -258,7 +259,7 @@ module _ (s tb : List ℕ) (env : Env) (l : Locals) (t first : States) (rows pl 
       }
 
       -- or the merge behind it
-      else-merges : fault_in pl₂ ≡ 0 → {r : States} {rows₃ pl₃ : List ℕ} → MergesIn (switches_of env.switches) (sure_in pl) (sure_in pl₂) l.count t first other rows₂ env.cur env.width b pl₂ r rows₃ pl₃
+      else-merges : fault_in pl₂ ≡ 0 → {r : States} {rows₃ : List ℕ} {pl₃ : Walk} → MergesIn (switches_of env.switches) (sure_in pl) (sure_in pl₂) l.count t first other rows₂ env.cur env.width b pl₂ r rows₃ pl₃
           → (fault_in pl₃ ≡ 254 → ⊥)
           → ElseMerges (switches_of env.switches) T s env.left (12 - env.left) loop (sure_in pl) (view l t rows env.cur env.width) (view l first rows a env.width) (place_in pl) m
           (walked_in pl₃ (view l r rows₃ env.cur env.width)) m₂
@@ -272,10 +273,9 @@ module _ (s tb : List ℕ) (env : Env) (l : Locals) (t first : States) (rows pl 
             (record { fault = g.fault reach l refl; place = g.place; locals = λ x. g.locals x l refl }));
       }
 
-    else-comes : fault_in pl₂ ≡ 0 → {r : States} {rows₃ pl₃ : List ℕ} {x y : Bool} → MergesIn (switches_of env.switches) x y l.count t first other rows₂ env.cur env.width b pl₂ r rows₃ pl₃
+    else-comes : fault_in pl₂ ≡ 0 → {r : States} {rows₃ : List ℕ} {pl₃ : Walk} {x y : Bool} → MergesIn (switches_of env.switches) x y l.count t first other rows₂ env.cur env.width b pl₂ r rows₃ pl₃
         → Comes s tb env.cur env.width (stmt_rows env.cur env.left) l rows (place_in pl) r rows₃ pl₃
     else-comes z {r} {rows₃} {pl₃} g = record {
-      room = g.room;
       below = below_both env.cur env.cur rows rows₂ rows₃ (omega arith) else-below g.below;
       short = λ q.
           let k = g.short q in
@@ -289,14 +289,14 @@ module _ (s tb : List ℕ) (env : Env) (l : Locals) (t first : States) (rows pl 
     }
 
     -- whatever the merge is told
-    module _ {x : Bool} {r : States} {rows₃ pl₃ : List ℕ} (g : MergesElse (switches_of env.switches) x l.count t first other rows₂ env.cur env.width b pl₂ r rows₃ pl₃) where
+    module _ {x : Bool} {r : States} {rows₃ : List ℕ} {pl₃ : Walk} (g : MergesElse (switches_of env.switches) x l.count t first other rows₂ env.cur env.width b pl₂ r rows₃ pl₃) where
       pub merged-comes : Comes s tb env.cur env.width (stmt_rows env.cur env.left) l rows (place_in pl) r rows₃ pl₃
       merged-comes =
           ⊎_elim
           (λ (q : 0 < fault_in pl₂). let e = g.faulty q in
-          subst (λ (z : List ℕ). Comes s tb env.cur env.width (stmt_rows env.cur env.left) l rows (place_in pl) r rows₃ z) (sym e.2)
+          subst (λ (z : Walk). Comes s tb env.cur env.width (stmt_rows env.cur env.left) l rows (place_in pl) r rows₃ z) (sym e.2)
           (subst (λ (z : List ℕ). Comes s tb env.cur env.width (stmt_rows env.cur env.left) l rows (place_in pl) r z pl₂) (sym e.1)
-          (comes-faulty s tb env.cur env.width (stmt_rows env.cur env.left) l rows (place_in pl) r rows₂ pl₂ come.room q else-below else-least)))
+          (comes-faulty s tb env.cur env.width (stmt_rows env.cur env.left) l rows (place_in pl) r rows₂ pl₂ q else-below else-least)))
           (λ (q : fault_in pl₂ ≤ 0). else-comes (no-fault q) (g.merges (no-fault q)))
           (less 0 (fault_in pl₂))
 
@@ -307,7 +307,7 @@ module _ (s tb : List ℕ) (env : Env) (l : Locals) (t first : States) (rows pl 
       abbrev Left : Walked → Type 0
       Left v = ElseMerges (switches_of env.switches) T s env.left (12 - env.left) loop (sure_in pl) (view l t rows env.cur env.width) (view l first rows a env.width) (place_in pl) m v m₂
 
-      pub else-merged : {r : States} {rows₃ pl₃ : List ℕ} → MergesElse (switches_of env.switches) (sure_in pl) l.count t first other rows₂ env.cur env.width b pl₂ r rows₃ pl₃
+      pub else-merged : {r : States} {rows₃ : List ℕ} {pl₃ : Walk} → MergesElse (switches_of env.switches) (sure_in pl) l.count t first other rows₂ env.cur env.width b pl₂ r rows₃ pl₃
           → ((fault_in pl₂ ≡ 254 → ⊥) → BlockWalks (switches_of env.switches) T s env.left (suc (12 - env.left)) loop (view l t rows₁ b env.width) (place_in pl) m (walked_in pl₂ (view l other rows₂ b env.width)) m₂)
           → (fault_in pl₃ ≡ 254 → ⊥)
           → ElseMerges (switches_of env.switches) T s env.left (12 - env.left) loop (sure_in pl) (view l t rows env.cur env.width) (view l first rows a env.width) (place_in pl) m (walked_in pl₃ (view l r rows₃ env.cur env.width)) m₂
@@ -315,7 +315,7 @@ module _ (s tb : List ℕ) (env : Env) (l : Locals) (t first : States) (rows pl 
           let w = walks (reach-first g reach) in
           ⊎_elim
           (λ (q : 0 < fault_in pl₂). let e = g.faulty q in
-          subst (λ (z : List ℕ). Left (walked_in z (view l r rows₃ env.cur env.width))) (sym e.2)
+          subst (λ (z : Walk). Left (walked_in z (view l r rows₃ env.cur env.width))) (sym e.2)
           (subst (λ (z : List ℕ). Left (walked_in pl₂ (view l r z env.cur env.width))) (sym e.1)
           (subst (λ (z : States). Left (walked_in pl₂ (view l z rows₂ env.cur env.width))) (sym e.0) (else-fault T loop m m₂ w q))))
           (λ (q : fault_in pl₂ ≤ 0). else-merges T loop m m₂ w (no-fault q) (g.merges (no-fault q)) reach)

@@ -17,6 +17,7 @@ use Rattle.tables_lookup.specs.Lent.{Says}
 use Rattle.tables_lookup.proofs.Lent.{tables_of, said}
 use Rattle.image_writing.specs.Memory.{Memory, memory}
 use Rattle.image_writing.specs.Stored.{Stored}
+use Rattle.expressions_steps.specs.declared.Open.{Open}
 use Rattle.statements_returns.specs.Returns.{StmtThere, BlockThere}
 use Rattle.statements_returns.proofs.Surely.{block-there}
 use Rattle.statements_steps.specs.Own.{number_of}
@@ -36,13 +37,14 @@ use Rattle.blocks_laws.specs.Ends.{Ends}
 use Rattle.blocks_laws.proofs.Heads.{stmts-in, head-fault, head_walks, depth-inner}
 use Rattle.blocks_ends.specs.declared.Env.{Env}
 use Rattle.blocks_laws.specs.Places.{headed}
+use Rattle.blocks_ends.specs.declared.Walk.{Walk}
 use Rattle.blocks_ends.specs.Ends.{place_in, fault_in, walked_in, inner_of, Frame, EndThere, Ended}
 use Rattle.blocks_merge.specs.Merges.{Below}
 use Rattle.blocks.specs.Blocks.{InLoop, Enters, Comes}
 use Rattle.blocks.proofs.Standing.{loop-deeper, Turned, below_both, blocks-fault}
 
 -- what is promised of the walk of a block with so much depth left, from a place and a stack
-pub record Done (sw : Switches) (s tb : List ℕ) (cur width left base least : ℕ) (start : Place) (outer : Locals) (t₀ : States) (rows₀ : List ℕ) (m : Memory) (r : States) (rows ns' pl : List ℕ) (m' : Memory) : Type 0 where
+pub record Done (sw : Switches) (s tb : List ℕ) (cur width left base least : ℕ) (start : Place) (outer : Locals) (t₀ : States) (rows₀ : List ℕ) (m : Memory) (r : States) (rows : List ℕ) (ns' : List Open) (pl : Walk) (m' : Memory) : Type 0 where
   pub comes : Comes s tb cur width least outer rows₀ start r rows pl
   pub nodes : length ns' ≡ 26
   pub walks : (T : Tables) → Says s tb T → (loop : Option ℕ) → InLoop loop base (suc (12 - left)) outer → (fault_in pl ≡ 254 → ⊥)
@@ -69,14 +71,13 @@ module _ (s tb : List ℕ) (small : Bytes s) (e : Env) (left : ℕ) (low : 0 < l
   inside-loop loop = subst (λ (d : ℕ). InLoop loop e.base d outer) (sym (depth-inner left e.left low high el))
 
   -- a fault, told of the block
-  pub fault-done : (least : ℕ) (r : States) (rows' nodes' pl' : List ℕ) (m' : Memory) → 0 < fault_in pl' → length nodes' ≡ 26 → length pl' ≡ 10 → Below e.cur rows₀ rows'
+  pub fault-done : (least : ℕ) (r : States) (rows' : List ℕ) (nodes' : List Open) (pl' : Walk) (m' : Memory) → 0 < fault_in pl' → length nodes' ≡ 26 → Below e.cur rows₀ rows'
       → (fault_in pl' ≡ 254 → length rows₀ < least) → (w : Walked) → w.fault ≡ fault_in pl'
       → ((T : Tables) → Says s tb T → (loop : Option ℕ) → InLoop loop e.base (12 - e.left) outer → (fault_in pl' ≡ 254 → ⊥)
       → StmtsWalk (switches_of e.switches) T s e.left (12 - e.left) loop (two s (start.at + 4)) (view outer t₀ rows₀ e.cur e.width) (headed start (start.written + 4)) (memory out₁ errs₀ warns₀ lefts₀) w m')
       → Done (switches_of e.switches) s tb e.cur e.width left e.base least start outer t₀ rows₀ (memory out₀ errs₀ warns₀ lefts₀) r rows' nodes' pl' m'
-  fault-done least r rows' nodes' pl' m' lt en ep below short w ew walks = record {
+  fault-done least r rows' nodes' pl' m' lt en below short w ew walks = record {
     comes = record {
-      room = ep;
       below = below;
       short = short;
       sound = λ z. absurd (omega arith);
@@ -89,21 +90,21 @@ module _ (s tb : List ℕ) (small : Bytes s) (e : Env) (left : ℕ) (low : 0 < l
         (head-fault (switches_of e.switches) T s left e.left (two s (start.at + 4)) loop σ₀ start (headed start gap) gap w m₀ (memory out₁ errs₀ warns₀ lefts₀) m' low high el refl refl (walks T sy loop (inside-loop loop o) no) (omega arith));
   }
 
-  module _ {rows nodes out errs warns lefts pl : List ℕ} {l : Locals} {t : States} {c : Cursor} where
+  module _ {rows : List ℕ} {nodes : List Open} {out errs warns lefts : List ℕ} {l : Locals} {t : States} {c : Cursor} where
     -- a fault of the blocks of a statement
-    pub blocks-done : (tag : ℕ) → Turned s tb e start outer t₀ rows₀ out₁ errs₀ warns₀ lefts₀ rows nodes out errs warns lefts pl l t c (Blocks tag) → (p : Place) → p ≡ c.place → {r : States} {rows' pl' : List ℕ}
+    pub blocks-done : (tag : ℕ) → Turned s tb e start outer t₀ rows₀ out₁ errs₀ warns₀ lefts₀ rows nodes out errs warns lefts l t c (Blocks tag) → (p : Place) → p ≡ c.place → {r : States} {rows' : List ℕ} {pl' : Walk}
         (enough : ℕ) → Comes s tb e.cur e.width enough l rows p r rows' pl' → {out' errs' warns' lefts' : List ℕ}
         → ((T : Tables) → Says s tb T → (loop : Option ℕ) → InLoop loop e.base (suc (12 - e.left)) l → (fault_in pl' ≡ 254 → ⊥)
         → TagWalks (switches_of e.switches) T s e.left (12 - e.left) loop tag (view l t rows e.cur e.width) p (memory out errs warns lefts) (walked_in pl' (view l r rows' e.cur e.width)) (memory out' errs' warns' lefts'))
-        → 0 < fault_in pl' → (nodes' : List ℕ) → length nodes' ≡ 26 → (least : ℕ) → (fault_in pl' ≡ 254 → length rows₀ < least)
+        → 0 < fault_in pl' → (nodes' : List Open) → length nodes' ≡ 26 → (least : ℕ) → (fault_in pl' ≡ 254 → length rows₀ < least)
         → Done (switches_of e.switches) s tb e.cur e.width left e.base least start outer t₀ rows₀ (memory out₀ errs₀ warns₀ lefts₀) r rows' nodes' pl' (memory out' errs' warns' lefts')
     blocks-done tag h p ep {r} {rows'} {pl'} enough come {out'} {errs'} {warns'} {lefts'} tag_walks lt nodes' en least short =
-        fault-done least r rows' nodes' pl' (memory out' errs' warns' lefts') lt en come.room (below_both e.cur e.cur rows₀ rows rows' (omega arith) h.owned.below come.below) short
+        fault-done least r rows' nodes' pl' (memory out' errs' warns' lefts') lt en (below_both e.cur e.cur rows₀ rows rows' (omega arith) h.owned.below come.below) short
         (walked_in pl' (view l r rows' e.cur e.width)) refl
         (λ T sy loop o reach. blocks-fault s tb e start outer t₀ rows₀ out₁ errs₀ warns₀ lefts₀ tag h p ep enough come tag_walks lt reach T sy loop o)
 
     -- the end
-    module _ (h : Turned s tb e start outer t₀ rows₀ out₁ errs₀ warns₀ lefts₀ rows nodes out errs warns lefts pl l t c Over) where
+    module _ (h : Turned s tb e start outer t₀ rows₀ out₁ errs₀ warns₀ lefts₀ rows nodes out errs warns lefts l t c Over) where
       pub end-there : (near : Option ℕ) → InLoop near e.base (12 - e.left) outer → EndThere s left start c.place
       end-there near nearby = record {
         low = low;
@@ -134,7 +135,7 @@ module _ (s tb : List ℕ) (small : Bytes s) (e : Env) (left : ℕ) (low : 0 < l
             omega (arith, low, same);
       }
 
-      module _ (least : ℕ) (pl' : List ℕ) (ended : Ended start c.place pl') (r : States) (v : Leaves outer.count l.count t r) (kept : Kept outer)
+      module _ (least : ℕ) (pl' : Walk) (ended : Ended start c.place pl') (r : States) (v : Leaves outer.count l.count t r) (kept : Kept outer)
           (drops : (T : Tables) → Says s tb T → Drops T outer)
           (nested : Nested (12 - left) (shape (view outer t₀ rows₀ e.cur e.width))) where
         popped : view outer r rows e.cur e.width ≡ pop (suc (12 - left)) (view l t rows e.cur e.width)
@@ -172,7 +173,6 @@ module _ (s tb : List ℕ) (small : Bytes s) (e : Env) (left : ℕ) (low : 0 < l
             → Done (switches_of e.switches) s tb e.cur e.width left e.base least start outer t₀ rows₀ (memory out₀ errs₀ warns₀ lefts₀) r rows nodes pl' (memory out' errs warns lefts)
         end-done out' value is ends = record {
           comes = record {
-            room = ended.room;
             below = h.owned.below;
             short = λ z. let q = ended.fault in absurd (omega arith);
             sound = λ z. sound-leave (12 - left) outer l t r rows e.cur e.width outside v kept drops h.owned.sound;
@@ -191,12 +191,11 @@ module _ (s tb : List ℕ) (small : Bytes s) (e : Env) (left : ℕ) (low : 0 < l
         }
 
 -- said of the numbers that the block was given
-pub done-as : (s tb : List ℕ) (env e : Env) (left least : ℕ) (start p : Place) (outer : Locals) (t₀ : States) (rows₀ : List ℕ) (m : Memory) (r : States) (rows ns' pl : List ℕ) (m' : Memory)
-    → e ≡ inner_of env → start ≡ p → Done (switches_of e.switches) s tb e.cur e.width left e.base least start outer t₀ rows₀ m r rows ns' pl m'
+pub done-as : (s tb : List ℕ) (env e : Env) (left least : ℕ) (p : Place) (outer : Locals) (t₀ : States) (rows₀ : List ℕ) (m : Memory) (r : States) (rows : List ℕ) (ns' : List Open) (pl : Walk) (m' : Memory)
+    → e ≡ inner_of env → Done (switches_of e.switches) s tb e.cur e.width left e.base least p outer t₀ rows₀ m r rows ns' pl m'
     → Done (switches_of env.switches) s tb env.cur env.width left env.base least p outer t₀ rows₀ m r rows ns' pl m'
-done-as s tb env e left least start p outer t₀ rows₀ m r rows ns' pl m' is ep d =
-    subst (λ (x : Env). Done (switches_of x.switches) s tb x.cur x.width left x.base least p outer t₀ rows₀ m r rows ns' pl m') is
-    (subst (λ (x : Place). Done (switches_of e.switches) s tb e.cur e.width left e.base least x outer t₀ rows₀ m r rows ns' pl m') ep d)
+done-as s tb env e left least p outer t₀ rows₀ m r rows ns' pl m' is d =
+    subst (λ (x : Env). Done (switches_of x.switches) s tb x.cur x.width left x.base least p outer t₀ rows₀ m r rows ns' pl m') is d
 
 -- a block's statements may be walked where the block may be
 pub enters-inner : (s tb : List ℕ) (env e : Env) (l : Locals) (t : States) (rows : List ℕ) (p : Place) → e ≡ inner_of env → Enters s tb env l t rows p → Enters s tb e l t rows p

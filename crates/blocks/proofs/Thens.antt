@@ -1,6 +1,6 @@
 -- The first block of an IfElse, or that of a While, and what is left behind it.
 -- Assumes nothing.
-use Prim.Native.Nat.{ℕ, zero, suc, ◌+◌, ◌-◌, ◌*◌, ◌≤◌, ◌<◌}
+use Prim.Native.Nat.{ℕ, suc, ◌+◌, ◌-◌, ◌*◌, ◌≤◌, ◌<◌}
 use native.Mathlib.Omega.{arith}
 use mathlib.Core.Path.{◌≡◌, refl, sym, ap, ◌∙◌, subst}
 use mathlib.Core.Bool.{Bool, true, false}
@@ -33,6 +33,7 @@ use Rattle.blocks_laws.specs.Ends.{Merges}
 use Rattle.blocks_laws.proofs.Ifs.{flag-grows, else-none, else-block, then-there, if-first, loop-first, loop-walks, else-there, if-second, if-walks}
 use Rattle.blocks_laws.proofs.Branches.{ElseThere}
 use Rattle.blocks_ends.specs.declared.Env.{Env}
+use Rattle.blocks_ends.specs.declared.Walk.{Walk}
 use Rattle.blocks_ends.specs.Ends.{place_in, fault_in, sure_in, walked_in, Loops, Flags}
 use Rattle.blocks_merge.specs.Merges.{Below, RowsStand, Branches, MergesIn}
 use Rattle.blocks.specs.Blocks.{Enters, Comes, block_rows, stmt_rows, ElseMerges}
@@ -64,24 +65,25 @@ pub not_eight : {tag : ℕ} → tag ≡ 7 → tag ≡ 8 → ⊥
 not_eight e f = omega arith
 
 -- whatever stands behind the first block, its fault is told
-pub told-either : {s out pl : List ℕ} {flag : ℕ} {out' pl' : List ℕ} (tag : ℕ) → (tag ≡ 7) ⊎ (tag ≡ 8) → (tag ≡ 8 → Loops out pl flag out' pl') → ((tag ≡ 8 → ⊥) → Flags s out pl flag out' pl')
-    → fault_in pl ≡ 0 → (fault_in pl' ≡ 0) × (length pl' ≡ 10)
+pub told-either : {s out : List ℕ} {pl : Walk} {flag : Bool} {out' : List ℕ} {pl' : Walk} (tag : ℕ) → (tag ≡ 7) ⊎ (tag ≡ 8) → (tag ≡ 8 → Loops out pl flag out' pl') → ((tag ≡ 8 → ⊥) → Flags s out pl flag out' pl')
+    → fault_in pl ≡ 0 → fault_in pl' ≡ 0
 told-either tag which loops flags z =
     ⊎_elim
-    (λ (q : tag ≡ 7). let f = flags (λ e. omega arith) in (f.tells.fault ∙ z, f.tells.room))
-    (λ (q : tag ≡ 8). let f = loops q in (f.tells.fault ∙ z, f.tells.room))
+    (λ (q : tag ≡ 7). let f = flags (λ e. omega arith) in f.tells.fault ∙ z)
+    (λ (q : tag ≡ 8). let f = loops q in f.tells.fault ∙ z)
     which
 
 -- only an IfElse has a flag that is set; one that is not is 0
-pub flag-seven : (tag flag : ℕ) → (tag ≡ 7) ⊎ (tag ≡ 8) → (tag ≡ 8 → flag ≡ 0) → flag ≡ 1 → tag ≡ 7
-flag-seven tag flag which none e = ⊎_elim (λ (q : tag ≡ 7). q) (λ (q : tag ≡ 8). let z = none q in absurd (omega arith)) which
+pub flag-seven : (tag : ℕ) (b : Bool) → (tag ≡ 7) ⊎ (tag ≡ 8) → (tag ≡ 8 → b ≡ false) → b ≡ true → tag ≡ 7
+flag-seven tag b which none e = ⊎_elim (λ (q : tag ≡ 7). q) (λ (q : tag ≡ 8). false-true (sym (none q) ∙ e)) which
 
-pub flag-none : (flag k : ℕ) → flag ≡ k → k < 2 → (flag ≡ 1 → ⊥) → flag ≡ 0
-flag-none zero k e l ne = refl
-flag-none (suc zero) k e l ne = absurd (ne refl)
-flag-none (suc (suc n)) k e l ne = absurd (omega arith)
+pub flag-none : (b : Bool) (k : ℕ) → b ≡ eqb k 1 → k < 2 → b ≡ false → k ≡ 0
+flag-none b k e l off = let ne = eqb-false k 1 (sym e ∙ off) in ⊎_elim (λ (q : k < 1). omega arith) (λ (q : 1 ≤ k). absurd (ne (omega arith))) (less k 1)
 
-module _ (s tb : List ℕ) (small : Bytes s) (env : Env) (tag : ℕ) (l : Locals) (t : States) (rows pl : List ℕ) (h : Enters s tb env l t rows (place_in pl))
+pub flag-one : (b : Bool) (k : ℕ) → b ≡ eqb k 1 → b ≡ true → k ≡ 1
+flag-one b k e on = eqb-true k 1 (sym e ∙ on)
+
+module _ (s tb : List ℕ) (small : Bytes s) (env : Env) (tag : ℕ) (l : Locals) (t : States) (rows : List ℕ) (pl : Walk) (h : Enters s tb env l t rows (place_in pl))
     (there : TagThere s env.left (place_in pl).at tag) (low : env.cur + 1152 ≤ 1152 * (12 - env.left)) where
   abbrev a : ℕ
   a = row_of env.cur env.width l.count
@@ -117,12 +119,12 @@ module _ (s tb : List ℕ) (small : Bytes s) (env : Env) (tag : ℕ) (l : Locals
   then-short lt = let f = narrow in let e = enough in omega arith
 
   -- a block is walked as it is
-  pub plain-comes : {r : States} {rows' pl' : List ℕ} → Comes s tb env.cur env.width (block_rows env.cur env.left) l rows (place_in pl) r rows' pl'
+  pub plain-comes : {r : States} {rows' : List ℕ} {pl' : Walk} → Comes s tb env.cur env.width (block_rows env.cur env.left) l rows (place_in pl) r rows' pl'
       → Comes s tb env.cur env.width (stmt_rows env.cur env.left) l rows (place_in pl) r rows' pl'
-  plain-comes c = record { room = c.room; below = c.below; short = λ z. let q = c.short z in omega arith; sound = c.sound; within = c.within; grows = c.grows }
+  plain-comes c = record { below = c.below; short = λ z. let q = c.short z in omega arith; sound = c.sound; within = c.within; grows = c.grows }
 
   -- behind the first block
-  module _ {ok : Bool} {rows₁ : List ℕ} (c : Copies l.count env.width t.kinds rows env.cur a ok rows₁) (yes : ok ≡ true) {one : States} {rows₂ pl₂ : List ℕ}
+  module _ {ok : Bool} {rows₁ : List ℕ} (c : Copies l.count env.width t.kinds rows env.cur a ok rows₁) (yes : ok ≡ true) {one : States} {rows₂ : List ℕ} {pl₂ : Walk}
       (come : Comes s tb a env.width (block_rows a env.left) l rows₁ (place_in pl) one rows₂ pl₂) where
     whole : Below a rows rows₂
     whole = below_both a a rows rows₁ rows₂ (omega arith) (branch-below s tb env l t rows (place_in pl) h a c) come.below
@@ -176,16 +178,16 @@ module _ (s tb : List ℕ) (small : Bytes s) (env : Env) (tag : ℕ) (l : Locals
       pub flag-there : (T : Tables) (loop : Option ℕ) (m m₂ : Memory) → Walks T loop m m₂ → tag ≡ 7 → ElseThere s env.left (place_in pl₂).at
       flag-there T loop m m₂ w e = else-there (switches_of env.switches) T s small env.left d (own_loop tag d loop) σ (place_in pl) m (walked_in pl₂ (view l one rows₂ a env.width)) m₂ (walks-here T loop m m₂ w) clear (there.ifs e)
 
-      module _ (out₂ out₃ pl₃ : List ℕ) (flag : ℕ) (errs warns lefts : List ℕ) where
+      module _ (out₂ out₃ : List ℕ) (pl₃ : Walk) (flag : Bool) (errs warns lefts : List ℕ) where
         -- the place behind the flag, or behind the loop's block
         pub flag-further : (f : Flags s out₂ pl₂ flag out₃ pl₃) → (place_in pl₂).at < length s → Further s (place_in pl₂) (place_in pl₃)
-        flag-further f inside = flag-grows s (place_in pl₂) (place_in pl₃) (place_in pl₃).written flag out₂ out₃ f.tells.place f.stored inside
+        flag-further f inside = flag-grows s (place_in pl₂) (place_in pl₃) (place_in pl₃).written (get_or s (place_in pl₂).at 0) out₂ out₃ f.tells.place f.stored inside
 
         retold-further : Further s (place_in pl₂) (place_in pl₃) → Further s (retold (place_in pl₂) 0) (retold (place_in pl₃) 0)
         retold-further g = record { on = g.on; inside = g.inside; written = g.written; errors = omega (arith, g.on); warnings = g.warnings; lefts = g.lefts; inserted = g.inserted }
 
         -- with a second block
-        module _ (f : Flags s out₂ pl₂ flag out₃ pl₃) (e : ElseThere s env.left (place_in pl₂).at) (on : flag ≡ 1) where
+        module _ (f : Flags s out₂ pl₂ flag out₃ pl₃) (e : ElseThere s env.left (place_in pl₂).at) (on : flag ≡ true) where
           pub else-enters : Enters s tb env l t rows₂ (place_in pl₃)
           else-enters = record {
             lent = h.lent;
@@ -200,7 +202,7 @@ module _ (s tb : List ℕ) (small : Bytes s) (env : Env) (tag : ℕ) (l : Locals
           }
 
           at_flag : get_or s (place_in pl₂).at 0 ≡ 1
-          at_flag = sym f.flag ∙ on
+          at_flag = flag-one flag (get_or s (place_in pl₂).at 0) f.flag on
 
           pub else-block-there : BlockThere s env.left (place_in pl₃).at
           else-block-there = subst (BlockThere s env.left) (sym (ap (λ (q : Place). q.at) f.tells.place)) (e.with (let q = at_flag in omega arith))
@@ -208,10 +210,9 @@ module _ (s tb : List ℕ) (small : Bytes s) (env : Env) (tag : ℕ) (l : Locals
           pub else-first : RowsStand l.count one rows₂ (row_of env.cur env.width l.count) env.width
           else-first = stands-in l one rows₂ a env.width (come.sound z)
 
-          pub else-comes-to : {r : States} {rows₄ pl₄ : List ℕ} → Comes s tb env.cur env.width (stmt_rows env.cur env.left) l rows₂ (place_in pl₃) r rows₄ pl₄
+          pub else-comes-to : {r : States} {rows₄ : List ℕ} {pl₄ : Walk} → Comes s tb env.cur env.width (stmt_rows env.cur env.left) l rows₂ (place_in pl₃) r rows₄ pl₄
               → Comes s tb env.cur env.width (stmt_rows env.cur env.left) l rows (place_in pl) r rows₄ pl₄
           else-comes-to {r} {rows₄} {pl₄} x = record {
-            room = x.room;
             below = below_both env.cur env.cur rows rows₂ rows₄ (omega arith) then-below x.below;
             short = λ q. let k = x.short q in let n : length rows₂ ≡ length rows = whole.room in omega arith;
             sound = x.sound;
@@ -227,7 +228,7 @@ module _ (s tb : List ℕ) (small : Bytes s) (env : Env) (tag : ℕ) (l : Locals
               let v = walked_in pl₂ (view l one rows₂ a env.width) in
               let bw = walks-if T loop m (memory out₂ errs warns lefts) seven w in
               let ew = else-block (switches_of env.switches) T s env.left (suc d) loop σ (place_in pl₂) (place_in pl₃) (place_in pl₃).written out₂ out₃ errs warns lefts f.tells.place
-              (subst (λ (k : ℕ). Stored out₂ (place_in pl₂).written (k ∷ []) out₃ (place_in pl₃).written) f.flag f.stored) (λ q. let k = at_flag in omega arith) g.w m₄
+              f.stored (λ q. let k = at_flag in omega arith) g.w m₄
               (subst (λ (τ : Scope Status). BlockWalks (switches_of env.switches) T s env.left (suc d) loop τ (place_in pl₃) (memory out₃ errs warns lefts) g.w m₄) base-view g.walks) in
               let whole-if : IfWalks (switches_of env.switches) T s env.left d loop σ (place_in pl) m r m₄ =
               ⊎_elim
@@ -251,10 +252,9 @@ module _ (s tb : List ℕ) (small : Bytes s) (env : Env) (tag : ℕ) (l : Locals
           low = (cur-low, cur-low);
         }
 
-        module _ {r : States} {rows₄ pl₄ : List ℕ} {x : Bool} (g : MergesIn (switches_of env.switches) x false l.count t one t rows₂ env.cur env.width env.cur pl₃ r rows₄ pl₄) where
+        module _ {r : States} {rows₄ : List ℕ} {pl₄ : Walk} {x : Bool} (g : MergesIn (switches_of env.switches) x false l.count t one t rows₂ env.cur env.width env.cur pl₃ r rows₄ pl₄) where
           pub without-comes : Further s (place_in pl₂) (place_in pl₃) → Comes s tb env.cur env.width (stmt_rows env.cur env.left) l rows (place_in pl) r rows₄ pl₄
           without-comes on = record {
-            room = g.room;
             below = below_both env.cur env.cur rows rows₂ rows₄ (omega arith) then-below g.below;
             short = λ q. then-short (let k = g.short q in let n : length rows₂ ≡ length rows = whole.room in omega arith);
             sound = λ q. sound-merge l t r rows rows₄ env.cur env.cur env.width h.sound (g.stands q);
@@ -266,14 +266,14 @@ module _ (s tb : List ℕ) (small : Bytes s) (env : Env) (tag : ℕ) (l : Locals
           merged reach = subst (λ (τ : Scope Status). Merges (switches_of env.switches) x τ (view l one rows₂ a env.width) (record { fault = 0; sure = false; place = place_in pl₃; locals = τ }) (walked_in pl₄ (view l r rows₄ env.cur env.width))) base-view
               (record { fault = g.fault reach l refl; place = g.place; locals = λ q. g.locals q l refl })
 
-          pub without-if : (f : Flags s out₂ pl₂ flag out₃ pl₃) → x ≡ sure_in pl₃ → flag ≡ 0 → tag ≡ 7 → (T : Tables) (loop : Option ℕ) (m : Memory) → Walks T loop m (memory out₂ errs warns lefts) → (fault_in pl₄ ≡ 254 → ⊥)
+          pub without-if : (f : Flags s out₂ pl₂ flag out₃ pl₃) → x ≡ sure_in pl₃ → get_or s (place_in pl₂).at 0 ≡ 0 → tag ≡ 7 → (T : Tables) (loop : Option ℕ) (m : Memory) → Walks T loop m (memory out₂ errs warns lefts) → (fault_in pl₄ ≡ 254 → ⊥)
               → TagWalks (switches_of env.switches) T s env.left (12 - env.left) loop tag (view l t rows env.cur env.width) (place_in pl) m (walked_in pl₄ (view l r rows₄ env.cur env.width)) (memory out₃ errs warns lefts)
           without-if f ex off seven T loop m w reach =
               let v = walked_in pl₂ (view l one rows₂ a env.width) in
               let u : Walked = record { fault = 0; sure = false; place = place_in pl₃; locals = σ } in
               let bw = walks-if T loop m (memory out₂ errs warns lefts) seven w in
               let ew = else-none (switches_of env.switches) T s env.left (suc d) loop σ (place_in pl₂) (place_in pl₃) (place_in pl₃).written out₂ out₃ errs warns lefts f.tells.place
-              (subst (λ (k : ℕ). Stored out₂ (place_in pl₂).written (k ∷ []) out₃ (place_in pl₃).written) f.flag f.stored) (sym f.flag ∙ off) u refl in
+              f.stored off u refl in
               let done = if-walks (switches_of env.switches) T s small env.left d loop σ (place_in pl) m v (memory out₂ errs warns lefts) bw clear u (memory out₃ errs warns lefts) ew (omega arith) (walked_in pl₄ (view l r rows₄ env.cur env.width))
               (subst (λ (b : Bool). Merges (switches_of env.switches) b σ v.locals u (walked_in pl₄ (view l r rows₄ env.cur env.width))) (ex ∙ f.tells.sure) (merged reach)) in
               record { ifs = λ e7. done; loops = λ e8. absurd (omega arith); others = λ p q. absurd (p seven) }

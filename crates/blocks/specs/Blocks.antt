@@ -16,6 +16,7 @@ use Rattle.statements_changes.specs.Turns.{retold}
 use Rattle.blocks_laws.specs.Walks.{Walked, BlockWalks}
 use Rattle.blocks_laws.specs.Ends.{Merges}
 use Rattle.blocks_ends.specs.declared.Env.{Env}
+use Rattle.blocks_ends.specs.declared.Walk.{Walk}
 use Rattle.blocks_ends.specs.Ends.{place_in, fault_in}
 use Rattle.blocks_merge.specs.Merges.{Below}
 
@@ -38,8 +39,7 @@ pub record Enters (s tb : List ℕ) (env : Env) (l : Locals) (t : States) (rows 
   pub looped : InLoop near env.base (suc (12 - env.left)) l
 
 -- Where a walk with these locals comes to; fault 254 says that there are fewer rows than `least`.
-pub record Comes (s tb : List ℕ) (cur width least : ℕ) (l : Locals) (rows : List ℕ) (p : Place) (r : States) (rows' pl' : List ℕ) : Type 0 where
-  pub room : length pl' ≡ 10
+pub record Comes (s tb : List ℕ) (cur width least : ℕ) (l : Locals) (rows : List ℕ) (p : Place) (r : States) (rows' : List ℕ) (pl' : Walk) : Type 0 where
   pub below : Below cur rows rows'
   pub short : fault_in pl' ≡ 254 → length rows < least
   pub sound : fault_in pl' ≡ 0 → Sound (Says s tb) l r rows' cur width

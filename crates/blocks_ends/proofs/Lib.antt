@@ -1,3 +1,2 @@
-pub mod Numbers
-pub mod Ends
+pub mod Walks
 pub mod Due

@@ -1,5 +1,5 @@
--- What the code before, between and behind blocks requires and does; the numbers of a walk are lent.
-use Rattle.std.specs.Prelude.{ℕ, ◌+◌, ◌-◌, ◌%◌, ◌≤◌, ◌<◌, ◌≡◌, Bool, false, cond, ◌&&◌, List, [], ◌∷◌, eqb, leb, length, get_or}
+-- What the code before, between and behind blocks requires and does; where a walk has come to is lent.
+use Rattle.std.specs.Prelude.{ℕ, ◌+◌, ◌-◌, ◌≤◌, ◌<◌, ◌≡◌, Bool, false, cond, ◌&&◌, Option, Some, None, List, [], ◌∷◌, eqb, leb, length, get_or}
 use Rattle.image_fields.specs.Number.{two, four}
 use Rattle.image_fields.specs.Bytes.{four_bytes}
 use Rattle.rules.specs.State.{State as Status}
@@ -7,8 +7,9 @@ use Rattle.rules.specs.Stack.{Stack as Scope}
 use Rattle.rules.specs.Rules.{Switches, switches_of, at_end, concerns}
 use Rattle.scope_state.specs.Locals.{static_in}
 use Rattle.image_writing.specs.Stored.{Stored}
+use Rattle.scope_rows.specs.declared.Stop.{Stop}
+use Rattle.scope_rows.specs.Stop.{stop_number}
 use Rattle.statements_returns.specs.Returns.{StmtThere}
-use Rattle.statements_acts.specs.declared.Named.TheVariants.{Nobody}
 use Rattle.statements_acts.specs.declared.Place.{Place}
 use Rattle.statements_acts.specs.Act.{Within}
 use Rattle.statements_changes.specs.declared.Cursor.{Cursor}
@@ -16,23 +17,27 @@ use Rattle.statements_changes.specs.Turns.{between_of}
 use Rattle.blocks_laws.specs.Walks.{Walked}
 use Rattle.blocks_laws.specs.Places.{headed, flagged}
 use Rattle.blocks_ends.specs.declared.Env.{Env}
+use Rattle.blocks_ends.specs.declared.Walk.{Walk}
 
--- what the lent numbers of a walk say: its place, its fault or 0, whether it surely returns
-abbrev pub place_in : List ℕ → Place
-place_in pl = record { at = get_or pl 0 0; last = get_or pl 1 0; written = get_or pl 2 0; errors = get_or pl 3 0; warnings = get_or pl 4 0; lefts = get_or pl 5 0; inserted = get_or pl 6 0; fits = eqb (get_or pl 7 0 % 2) 1; paged = leb 2 (get_or pl 7 0) }
+-- where a walk has come to: its place, its fault or 0, whether it surely returns
+abbrev pub place_in : Walk → Place
+place_in pl = pl.place
 
-abbrev pub fault_in : List ℕ → ℕ
-fault_in pl = get_or pl 8 0
+abbrev pub stopped_at : Option Stop → ℕ
+stopped_at None = 0
+stopped_at (Some k) = stop_number k
 
-abbrev pub sure_in : List ℕ → Bool
-sure_in pl = eqb (get_or pl 9 0) 1
+abbrev pub fault_in : Walk → ℕ
+fault_in pl = stopped_at pl.stop
 
-abbrev pub walked_in : List ℕ → Scope Status → Walked
+abbrev pub sure_in : Walk → Bool
+sure_in pl = pl.sure
+
+abbrev pub walked_in : Walk → Scope Status → Walked
 walked_in pl σ = record { fault = fault_in pl; sure = sure_in pl; place = place_in pl; locals = σ }
 
--- they say this
-pub record Tells (pl : List ℕ) (k : ℕ) (b : Bool) (p : Place) : Type 0 where
-  pub room : length pl ≡ 10
+-- it says this
+pub record Tells (pl : Walk) (k : ℕ) (b : Bool) (p : Place) : Type 0 where
   pub fault : fault_in pl ≡ k
   pub sure : sure_in pl ≡ b
   pub place : place_in pl ≡ p
@@ -43,18 +48,18 @@ inner_of env = record { left = env.left - 1; limit = env.limit; width = env.widt
 
 -- the head of the block at a place: its span, and room for its count
 pub record Heads (s : List ℕ) (p : Place) (out : List ℕ) (c : Cursor) (out' : List ℕ) : Type 0 where
-  pub is : c ≡ between_of (two s (p.at + 4)) (headed p (p.written + 4)) Nobody
+  pub is : c ≡ between_of (two s (p.at + 4)) (headed p (p.written + 4)) None
   pub stored : Stored out p.written (four_bytes (four s p.at)) out' (p.written + 4)
 
 -- behind then's block: a loop never surely returns; an IfElse has a flag
-pub record Loops (out pl : List ℕ) (r : ℕ) (out' pl' : List ℕ) : Type 0 where
-  pub flag : r ≡ 0
+pub record Loops (out : List ℕ) (pl : Walk) (r : Bool) (out' : List ℕ) (pl' : Walk) : Type 0 where
+  pub flag : r ≡ false
   pub same : out' ≡ out
   pub tells : Tells pl' (fault_in pl) false (place_in pl)
 
-pub record Flags (s out pl : List ℕ) (r : ℕ) (out' pl' : List ℕ) : Type 0 where
-  pub flag : r ≡ get_or s (place_in pl).at 0
-  pub stored : Stored out (place_in pl).written (r ∷ []) out' (place_in pl').written
+pub record Flags (s out : List ℕ) (pl : Walk) (r : Bool) (out' : List ℕ) (pl' : Walk) : Type 0 where
+  pub flag : r ≡ eqb (get_or s (place_in pl).at 0) 1
+  pub stored : Stored out (place_in pl).written (get_or s (place_in pl).at 0 ∷ []) out' (place_in pl').written
   pub tells : Tells pl' (fault_in pl) (sure_in pl) (flagged (place_in pl) (place_in pl').written)
 
 -- of n locals, at most 64, those from base on, and no others, are of depth d: a block's own frame; those before are of lesser depth
@@ -82,8 +87,7 @@ pub record EndThere (s : List ℕ) (left : ℕ) (start p : Place) : Type 0 where
   pub last : 0 < two s (start.at + 4) → StmtThere s (left - 1) p.last
 
 -- and what is known behind it, whatever was lent
-pub record Ended (start p : Place) (pl : List ℕ) : Type 0 where
-  pub room : length pl ≡ 10
+pub record Ended (start p : Place) (pl : Walk) : Type 0 where
   pub fault : fault_in pl ≡ 0
   pub at : (place_in pl).at ≡ p.at
   pub errors : (place_in pl).errors ≡ p.errors

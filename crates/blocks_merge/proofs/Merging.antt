@@ -1,4 +1,4 @@
--- The merge of two branches: rows copied back, joined, and fault 13.
+-- The merge of two branches: rows copied back, joined, and why a join stops.
 -- Assumes nothing.
 use Prim.Native.Nat.{ℕ, ◌≤◌, ◌<◌}
 use native.Mathlib.Omega.{arith}
@@ -6,7 +6,10 @@ use mathlib.Core.Path.{◌≡◌, refl, sym, ap, ◌∙◌, subst}
 use mathlib.Core.Bool.{Bool, true, false}
 use mathlib.Core.List.{List, []}
 use mathlib.Core.Logic.{inl, inr, ⊎_elim}
-use lib.ListN.{length, get_or, set}
+use lib.ListN.{length, get_or}
+use Rattle.std.specs.Prelude.{Some}
+use Rattle.std.specs.Prelude.{Result, Ok, Err}
+use Rattle.image_fields.specs.declared.Fault.TheVariants as fault
 use Rattle.image_fields.proofs.Tests.{false-true}
 use Rattle.tables.specs.Limits.{version1}
 use Rattle.rules.specs.Rules.{Switches}
@@ -15,9 +18,12 @@ use Rattle.scope_stack.specs.declared.States.{States}
 use Rattle.scope_stack.specs.View.{row_of, said_at, view, Known, Rowed}
 use Rattle.scope_rows.specs.Rows.{Copied, Copies, JoinsAll, Branches as Apart}
 use Rattle.scope_rows.proofs.Elsewhere.{view-copied, rowed-copied}
-use Rattle.blocks_ends.specs.Ends.{place_in, fault_in, sure_in, Tells}
+use Rattle.scope_rows.specs.declared.Stop.{Stop}
+use Rattle.scope_rows.specs.declared.Stop.TheVariants as stop
+use Rattle.blocks_ends.specs.declared.Walk.{Walk}
+use Rattle.blocks_ends.specs.Ends.{fault_in}
 use Rattle.blocks_merge.specs.Merges.{Below, Branches, MergesIn}
-use Rattle.blocks_ends.proofs.Numbers.{fault-told, rows_few}
+use Rattle.blocks_ends.proofs.Walks.{rows_few}
 
 -- a copy back, where the rows do not stand there already
 module _ (n : ℕ) (kinds rows : List ℕ) (src cur width : ℕ)
@@ -54,16 +60,12 @@ module _ (n : ℕ) (t : States) (rows new : List ℕ) (src cur width : ℕ) (h :
       (subst (λ (k : ℕ). Copies k width t.kinds rows src cur true new) (sym e) c)
 
 -- a join by another name of the same answer
-pub joins-as : {k m : Bool} {n width : ℕ} {t u : States} {rows : List ℕ} {a b : ℕ} {r : States} {new : List ℕ} {told : ℕ} → k ≡ m
-    → JoinsAll k n width t u rows a b r new told → JoinsAll m n width t u rows a b r new told
-joins-as {n = n} {width} {t} {u} {rows} {a} {b} {r} {new} {told} e j = subst (λ (x : Bool). JoinsAll x n width t u rows a b r new told) e j
+pub joins-as : {k m : Bool} {n width : ℕ} {t u : States} {rows : List ℕ} {a b : ℕ} {r : Result States Stop} {new : List ℕ} → k ≡ m
+    → JoinsAll k n width t u rows a b r new → JoinsAll m n width t u rows a b r new
+joins-as {n = n} {width} {t} {u} {rows} {a} {b} {r} {new} e j = subst (λ (x : Bool). JoinsAll x n width t u rows a b r new) e j
 
--- the fault of a join, by what it told
-abbrev FaultOf : ℕ → ℕ → Type 0
-FaultOf told k = (told ≡ 255 → k ≡ 13) × ((told ≡ 255 → ⊥) → k ≡ told)
-
-module _ (n : ℕ) (base first other : States) (rows : List ℕ) (cur width b : ℕ) (pl : List ℕ)
-    (h : Branches n base first other rows cur width b × (fault_in pl ≡ 0) × (length pl ≡ 10)) where
+module _ (n : ℕ) (base first other : States) (rows : List ℕ) (cur width b : ℕ) (pl : Walk)
+    (h : Branches n base first other rows cur width b × (fault_in pl ≡ 0)) where
   -- what the copies and the join require
   pub copies-other : (n ≤ 64) × (width ≡ 8) × ((i : ℕ) → i < n → Known rows width (row_of b width i) (get_or other.kinds i 0)) × ((b ≡ cur → ⊥) → row_of cur width n ≤ b) × (b < 4294968000)
   copies-other = (
@@ -105,7 +107,6 @@ module _ (n : ℕ) (base first other : States) (rows : List ℕ) (cur width b : 
   -- both surely return
   pub merges-base : (sw : Switches) (x y : Bool) → x ≡ true → y ≡ true → MergesIn sw x y n base first other rows cur width b pl base rows pl
   merges-base sw x y e f = rw (e, f) (record {
-    room = h.2;
     below = record { room = refl; same = λ k lk. refl };
     place = refl;
     short = λ z. absurd (omega (arith, h.1));
@@ -120,7 +121,6 @@ module _ (n : ℕ) (base first other : States) (rows : List ℕ) (cur width b : 
   merges-other sw x y e f new c =
       let r = h.0.other.rowed in
       rw (e, f) (record {
-        room = h.2;
         below = copied-below n other rows new b cur width r c;
         place = refl;
         short = λ z. absurd (omega (arith, h.1));
@@ -136,7 +136,6 @@ module _ (n : ℕ) (base first other : States) (rows : List ℕ) (cur width b : 
       let c : Copies n width first.kinds rows (row_of cur width n) cur true new = subst (λ (k : ℕ). Copies n width first.kinds rows k cur true new) ea ca in
       let r = h.0.first.rowed in
       rw (e, f) (record {
-        room = h.2;
         below = copied-below n first rows new (row_of cur width n) cur width r c;
         place = refl;
         short = λ z. absurd (omega (arith, h.1));
@@ -145,59 +144,54 @@ module _ (n : ℕ) (base first other : States) (rows : List ℕ) (cur width b : 
         locals = λ z l g. copied-view n first rows new (row_of cur width n) cur width r c l g;
       })
 
-  -- neither: joined states, copied back, or the join's fault
-  module _ (sw : Switches) (r : States) (mid : List ℕ) (told k : ℕ) (a : ℕ) (ea : a ≡ row_of cur width n) (ja : JoinsAll sw.conditional n width first other rows a b r mid told) (is : FaultOf told k) where
-    abbrev j : JoinsAll sw.conditional n width first other rows (row_of cur width n) b r mid told
-    j = subst (λ (i : ℕ). JoinsAll sw.conditional n width first other rows i b r mid told) ea ja
+  -- neither: joined states, copied back, or why the join stops
+  module _ (sw : Switches) {keeps : Bool} (ek : keeps ≡ sw.conditional) (o : Result States Stop) (mid : List ℕ) (a : ℕ) (ea : a ≡ row_of cur width n) (ja : JoinsAll keeps n width first other rows a b o mid) where
+    abbrev j : JoinsAll sw.conditional n width first other rows (row_of cur width n) b o mid
+    j = subst (λ (i : ℕ). JoinsAll sw.conditional n width first other rows i b o mid) ea (joins-as ek ja)
 
-    -- the fault is put beside the place
-    put : Tells (set pl 8 k) k (sure_in pl) (place_in pl)
-    put = fault-told pl h.2 k
-
-    pub merges-joined : (x y : Bool) → x ≡ false → y ≡ false → told ≡ 0 → (new : List ℕ) → Copies n width r.kinds mid a cur true new
-        → MergesIn sw x y n base first other rows cur width b pl r new (set pl 8 k)
-    merges-joined x y e f t new ca =
+    pub merges-joined : (x y : Bool) → x ≡ false → y ≡ false → (r : States) → o ≡ Ok r → (new : List ℕ) → Copies n width r.kinds mid a cur true new
+        → MergesIn sw x y n base first other rows cur width b pl r new pl
+    merges-joined x y e f r t new ca =
         let c : Copies n width r.kinds mid (row_of cur width n) cur true new = subst (λ (i : ℕ). Copies n width r.kinds mid i cur true new) ea ca in
-        let none : k ≡ 0 = is.1 (λ z. omega arith) ∙ t in
-        let w = j.rowed t in
+        let w = j.rowed r t in
         rw (e, f) (record {
-          room = put.room;
           below = record { room = c.rest.room ∙ j.rest.room; same = λ i li. c.rest.same i (inl li) ∙ j.rest.same i (inl (omega arith)) };
-          place = put.place;
-          short = λ z. absurd (omega (arith, put.fault));
-          stands = λ z. record { held = j.held t; rowed = copied-rowed n r mid new (row_of cur width n) cur width w c };
-          fault = λ z l g. put.fault ∙ none ∙ rw (j.calm t version1 (sym h.0.wide) l g);
-          locals = λ z l g. copied-view n r mid new (row_of cur width n) cur width w c l g ∙ j.is t l g;
+          place = refl;
+          short = λ z. absurd (omega (arith, h.1));
+          stands = λ z. record { held = j.held r t; rowed = copied-rowed n r mid new (row_of cur width n) cur width w c };
+          fault = λ z l g. h.1 ∙ rw (j.calm r t version1 (sym h.0.wide) l g);
+          locals = λ z l g. copied-view n r mid new (row_of cur width n) cur width w c l g ∙ j.is r t l g;
         })
 
-    pub merges-fault : (x y : Bool) → x ≡ false → y ≡ false → (told ≡ 0 → ⊥) → MergesIn sw x y n base first other rows cur width b pl r mid (set pl 8 k)
-    merges-fault x y e f ne = ⊎_elim (λ (t : told ≡ 0). absurd (ne t)) (⊎_elim crowds ends) j.three
+    abbrev stopped_of : Stop → Walk
+    stopped_of k = record { place = pl.place; stop = Some k; sure = pl.sure }
+
+    pub merges-stopped : (x y : Bool) → x ≡ false → y ≡ false → (k : Stop) → o ≡ Err k → (r : States) → MergesIn sw x y n base first other rows cur width b pl r mid (stopped_of k)
+    merges-stopped x y e f k t r = ⊎_elim crowds ends (j.two k t)
       where
         below : Below cur rows mid
         below = record { room = j.rest.room; same = λ i li. j.rest.same i (inl (omega arith)) }
 
-        crowds : told ≡ 255 → MergesIn sw x y n base first other rows cur width b pl r mid (set pl 8 k)
-        crowds t =
-            let thirteen : k ≡ 13 = is.0 t in
-            rw (e, f) (record {
-              room = put.room;
+        crowds : k ≡ stop.Fault fault.Places → MergesIn sw x y n base first other rows cur width b pl r mid (stopped_of k)
+        crowds g =
+            subst (λ (z : Stop). MergesIn sw x y n base first other rows cur width b pl r mid (stopped_of z)) (sym g)
+            (rw (e, f) (record {
               below = below;
-              place = put.place;
-              short = λ z. absurd (omega (arith, put.fault));
-              stands = λ z. absurd (omega (arith, put.fault));
-              fault = λ z l g. put.fault ∙ thirteen ∙ rw (j.crowd t version1 (sym h.0.wide) l g);
-              locals = λ z l g. absurd (omega (arith, put.fault));
-            })
+              place = refl;
+              short = λ z. absurd (omega arith);
+              stands = λ z. absurd (omega arith);
+              fault = λ z l c. rw (j.crowd (subst (λ (z : Stop). o ≡ Err z) g t) version1 (sym h.0.wide) l c);
+              locals = λ z l c. absurd (omega arith);
+            }))
 
-        ends : told ≡ 254 → MergesIn sw x y n base first other rows cur width b pl r mid (set pl 8 k)
-        ends t =
-            let same : k ≡ 254 = is.1 (λ z. omega arith) ∙ t in
-            rw (e, f) (record {
-              room = put.room;
+        ends : k ≡ stop.Rows → MergesIn sw x y n base first other rows cur width b pl r mid (stopped_of k)
+        ends g =
+            subst (λ (z : Stop). MergesIn sw x y n base first other rows cur width b pl r mid (stopped_of z)) (sym g)
+            (rw (e, f) (record {
               below = below;
-              place = put.place;
-              short = λ z. j.short t;
-              stands = λ z. absurd (omega (arith, put.fault));
-              fault = λ z l g. absurd (z (put.fault ∙ same));
-              locals = λ z l g. absurd (omega (arith, put.fault));
-            })
+              place = refl;
+              short = λ z. j.short (subst (λ (z : Stop). o ≡ Err z) g t);
+              stands = λ z. absurd (omega arith);
+              fault = λ z l c. absurd (z refl);
+              locals = λ z l c. absurd (omega arith);
+            }))

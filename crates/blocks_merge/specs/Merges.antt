@@ -8,6 +8,7 @@ use Rattle.scope_stack.specs.declared.Locals.{Locals}
 use Rattle.scope_stack.specs.declared.States.{States}
 use Rattle.scope_stack.specs.View.{row_of, view, Held, Rowed}
 use Rattle.blocks_ends.specs.declared.Env.{Env}
+use Rattle.blocks_ends.specs.declared.Walk.{Walk}
 use Rattle.blocks_ends.specs.Ends.{place_in, fault_in, sure_in}
 
 -- the numbers of a branch, whose rows stand behind those of n locals
@@ -39,8 +40,7 @@ pub record Branches (n : ℕ) (t u v : States) (rows : List ℕ) (cur width b : 
   pub low : (cur < 4294967296) × (b < 4294967296)
 
 -- merge_control_flow_states behind two branches, whether each surely returns; 254: the rows do not reach
-pub record MergesIn (w : Switches) (x y : Bool) (n : ℕ) (base first other : States) (rows : List ℕ) (cur width b : ℕ) (pl : List ℕ) (r : States) (rows' pl' : List ℕ) : Type 0 where
-  pub room : length pl' ≡ 10
+pub record MergesIn (w : Switches) (x y : Bool) (n : ℕ) (base first other : States) (rows : List ℕ) (cur width b : ℕ) (pl : Walk) (r : States) (rows' : List ℕ) (pl' : Walk) : Type 0 where
   pub below : Below cur rows rows'
   pub place : place_in pl' ≡ place_in pl
   pub short : fault_in pl' ≡ 254 → length rows < row_of (row_of cur width n) width n
@@ -51,6 +51,6 @@ pub record MergesIn (w : Switches) (x y : Bool) (n : ℕ) (base first other : St
       → view l r rows' cur width ≡ merge (states w) x y (view l base rows cur width) (view l first rows (row_of cur width n) width) (view l other rows b width)
 
 -- the merge behind else's block; where that has a fault, its states as they are
-pub record MergesElse (w : Switches) (x : Bool) (n : ℕ) (base first other : States) (rows : List ℕ) (cur width b : ℕ) (pl : List ℕ) (r : States) (rows' pl' : List ℕ) : Type 0 where
+pub record MergesElse (w : Switches) (x : Bool) (n : ℕ) (base first other : States) (rows : List ℕ) (cur width b : ℕ) (pl : Walk) (r : States) (rows' : List ℕ) (pl' : Walk) : Type 0 where
   pub faulty : 0 < fault_in pl → (r ≡ other) × (rows' ≡ rows) × (pl' ≡ pl)
   pub merges : fault_in pl ≡ 0 → MergesIn w x (sure_in pl) n base first other rows cur width b pl r rows' pl'

@@ -1,5 +1,5 @@
 // The branches of a statement: the numbers for one, and the merge of the states behind them.
-// Throughout, rows has the places of joined states, and pl the place of a walk, its fault and whether it surely returns, both lent.
+// Throughout, rows has the places of joined states, and pl is where a walk has come to, both lent.
 #![tactic(auto)]
 
 ghost use Rattle.std.specs.Prelude.{◌≡◌, true, false, ℕ, ◌≤◌, ◌<◌, length, get_or};
@@ -9,7 +9,7 @@ ghost use Rattle.scope_rows.specs.Rows.{Copied, Copies};
 ghost use Rattle.blocks_ends.specs.Ends.{fault_in, sure_in};
 ghost use Rattle.blocks_merge.specs.Merges.{behind_of, looped_of, Branches, MergesIn, MergesElse};
 
-use blocks_ends::Env;
+use blocks_ends::{Env, Walk};
 use scope_stack::States;
 use scope_state::Kinds;
 
@@ -19,12 +19,8 @@ pub fn behind(env: Env, n: usize) -> Env
     ensures { result ≡ behind_of env n }
 {
     Env {
-        left: env.left,
-        limit: env.limit,
-        width: env.width,
         cur: env.cur + n * (env.width + 1),
-        base: env.base,
-        switches: env.switches,
+        ..env
     }
 }
 
@@ -35,14 +31,7 @@ pub fn in_loop(env: Env, tag: u8, n: usize) -> Env
     if tag != 8 {
         return env;
     }
-    Env {
-        left: env.left,
-        limit: env.limit,
-        width: env.width,
-        cur: env.cur,
-        base: n,
-        switches: env.switches,
-    }
+    Env { base: n, ..env }
 }
 
 // A branch starts from the rows of the stack before it, copied to its own; or false, where the rows end before one that is needed.
@@ -51,16 +40,6 @@ pub fn branch_rows(kinds: &Kinds, n: usize, rows: &mut [u32], env: Env, to: usiz
     ensures { Copies n env.width kinds.now rows.old env.cur to result rows.new }
 {
     scope_rows::copy_rows(kinds, n, rows, env.cur, to, env.width)
-}
-
-// The fault of a join: 13, a place more than the limit; 254, the rows do not reach.
-fn join_fault(told: u8) -> usize
-    ensures { (told ≡ 255 → result ≡ 13) × ((told ≡ 255 → ⊥) → result ≡ told) }
-{
-    if told == 255 {
-        return 13;
-    }
-    told as usize
 }
 
 // The rows of n locals, back to where those of the stack begin.
@@ -86,9 +65,9 @@ fn merge_control_flow_states(
     rows: &mut [u32],
     env: Env,
     b: usize,
-    pl: &mut [usize; 10],
+    pl: &mut Walk,
 ) -> States
-    requires { Branches n base first other rows.old env.cur env.width b × (fault_in pl.old ≡ 0) × (length pl.old ≡ 10) }
+    requires { Branches n base first other rows.old env.cur env.width b × (fault_in pl.old ≡ 0) }
     ensures { MergesIn (switches_of env.switches) then_returns else_returns n base first other rows.old env.cur env.width b pl.old result rows.new pl.new }
 {
     let a = behind(env, n);
@@ -103,14 +82,17 @@ fn merge_control_flow_states(
         copy_back(&first.kinds, n, rows, a.cur, env.cur, env.width);
         return first;
     }
-    let mut told = 0;
     let keeps = statements_acts::has_switch(env.switches, 4);
-    let r = scope_rows::join(first, other, n, rows, a.cur, b, env.width, keeps, &mut told);
-    pl[8] = join_fault(told);
-    if told == 0 {
-        copy_back(&r.kinds, n, rows, a.cur, env.cur, env.width);
+    match scope_rows::join(first, other, n, rows, a.cur, b, env.width, keeps) {
+        Ok(joined) => {
+            copy_back(&joined.kinds, n, rows, a.cur, env.cur, env.width);
+            joined
+        }
+        Err(stop) => {
+            pl.stop = Some(stop);
+            base
+        }
     }
-    r
 }
 
 // The merge behind a block that has no other: first's, which pl says of whether it surely returns.
@@ -120,12 +102,12 @@ pub fn merge_first(
     n: usize,
     rows: &mut [u32],
     env: Env,
-    pl: &mut [usize; 10],
+    pl: &mut Walk,
 ) -> States
-    requires { Branches n base first base rows.old env.cur env.width env.cur × (fault_in pl.old ≡ 0) × (length pl.old ≡ 10) }
+    requires { Branches n base first base rows.old env.cur env.width env.cur × (fault_in pl.old ≡ 0) }
     ensures { MergesIn (switches_of env.switches) (sure_in pl.old) false n base first base rows.old env.cur env.width env.cur pl.old result rows.new pl.new }
 {
-    let sure = pl[9] == 1;
+    let sure = pl.sure;
     merge_control_flow_states(sure, false, base, first, base, n, rows, env, env.cur, pl)
 }
 
@@ -139,14 +121,14 @@ pub fn merge_else(
     rows: &mut [u32],
     env: Env,
     b: usize,
-    pl: &mut [usize; 10],
+    pl: &mut Walk,
 ) -> States
-    requires { (fault_in pl.old ≡ 0 → Branches n base first other rows.old env.cur env.width b) × (length pl.old ≡ 10) }
+    requires { fault_in pl.old ≡ 0 → Branches n base first other rows.old env.cur env.width b }
     ensures { MergesElse (switches_of env.switches) «sure» n base first other rows.old env.cur env.width b pl.old result rows.new pl.new }
 {
-    if 0 < pl[8] {
+    if pl.stop.is_some() {
         return other;
     }
-    let else_sure = pl[9] == 1;
+    let else_sure = pl.sure;
     merge_control_flow_states(sure, else_sure, base, first, other, n, rows, env, b, pl)
 }

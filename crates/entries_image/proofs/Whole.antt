@@ -4,13 +4,14 @@ use Prim.Native.Nat.{ℕ, suc, ◌+◌, ◌-◌, ◌*◌, ◌%◌, ◌≤◌, �
 use native.Mathlib.Omega.{arith}
 use mathlib.Core.Path.{◌≡◌, refl, sym, ap, ◌∙◌, subst}
 use mathlib.Core.Bool.{Bool, true, false}
-use mathlib.Core.Logic.{◌⊎◌, inl, inr, ⊎_elim}
-use borrow.Author.Tests.{eqb-true, eqb-false}
 use mathlib.Core.List.{List, [], ◌∷◌, ◌++◌, append_assoc}
 use mathlib.Core.Option.{Option, none, some}
-use lib.Dec.{eqb}
 use lib.ListN.{length, length-append}
 use lib.Seq.{slice, length-slice}
+use Rattle.std.specs.Prelude.{Option as Maybe, Some, None, Result, Ok, Err}
+use Rattle.image_fields.specs.declared.Fault.{Fault}
+use Rattle.image_fields.specs.declared.Fault.TheVariants.{Length, Version, Names, Types, Structs, Globals, Entry, Body, Depth, BytesLeft, GenericReceiver, Locals as TooMany, Places, Lists, Output, Page, Switches as Unknown}
+use Rattle.image_fields.specs.Fault.{fault_number}
 use Rattle.image_fields.specs.Parsed.{ok}
 use Rattle.image_fields.specs.Bytes.{Bytes, four_bytes}
 use Rattle.tables.specs.Limits.{version1}
@@ -30,10 +31,11 @@ use Rattle.rules.specs.Rules.{Switches, switches_of, states, entered, locals_of}
 use Rattle.rules.specs.Report.{Report, report, reports, body_start, errors, warnings, lefts, returned_image}
 use Rattle.rules.specs.Walk.{too_many, walk_fault, image_fault}
 use Rattle.rules.specs.Verdict.{entries_of}
-use Rattle.rules.proofs.Numbers.{Real, real-image}
+use Rattle.rules.proofs.Numbers.{real-image}
 use Rattle.image_writing.specs.Stored.{Stored}
 use Rattle.image_writing.proofs.Stores.{both_stored, patched, four-length}
 use Rattle.statements_steps.specs.Own.{number_of, block_own}
+use Rattle.statements_steps.proofs.Faults.{real-none}
 use Rattle.statements_steps.proofs.Plain.{few-locals}
 use Rattle.statements_acts.specs.declared.Place.{Place}
 use Rattle.statements_acts.specs.Act.{Within, cursors_at}
@@ -50,12 +52,40 @@ use Rattle.scope_stack.specs.declared.Locals.{Locals}
 use Rattle.scope_stack.specs.declared.States.{States}
 use Rattle.scope_stack.specs.View.{view, Held, Nested}
 use Rattle.scope_stack.proofs.Scopes.{length-view, rowed-none, sound-of}
+use Rattle.scope_rows.specs.declared.Stop.{Stop}
+use Rattle.scope_rows.specs.declared.Stop.TheVariants.{Rows, Fault as Stopped}
+use Rattle.scope_rows.specs.Stop.{stop_number}
 use Rattle.scope_entered.specs.Entered.{EntryThere, Fresh, Enters as Entered}
 use Rattle.blocks_ends.specs.declared.Env.{Env}
-use Rattle.blocks_ends.specs.Ends.{place_in, fault_in, walked_in}
+use Rattle.blocks_ends.specs.declared.Walk.{Walk}
+use Rattle.blocks_ends.specs.Ends.{place_in, stopped_at, fault_in, walked_in}
 use Rattle.blocks.specs.Blocks.{InLoop, Enters, Comes, block_rows}
-use Rattle.entries_image.specs.declared.Seen.{Seen}
-use Rattle.entries_image.specs.Images.{ImageThere, begins, Begins, body_own, BodyWalks, ImageDone, ImageWalks, Closes, PageWalks, MeasuresIn}
+use Rattle.entries_image.specs.Images.{ImageThere, begins, Begins, body_own, fault_of_walk, BodyWalks, ImageDone, ImageWalks, PageWalks, Measures}
+
+-- a walk's answer, by why it stopped
+abbrev pub came : Maybe Stop → Place → Result Place Stop
+came None p = Ok p
+came (Some k) p = Err k
+
+-- the faults' numbers
+pub fault-bounds : (f : Fault) → (0 < fault_number f) × (fault_number f ≤ 17)
+fault-bounds Length = (omega arith, omega arith)
+fault-bounds Version = (omega arith, omega arith)
+fault-bounds Names = (omega arith, omega arith)
+fault-bounds Types = (omega arith, omega arith)
+fault-bounds Structs = (omega arith, omega arith)
+fault-bounds Globals = (omega arith, omega arith)
+fault-bounds Entry = (omega arith, omega arith)
+fault-bounds Body = (omega arith, omega arith)
+fault-bounds Depth = (omega arith, omega arith)
+fault-bounds BytesLeft = (omega arith, omega arith)
+fault-bounds GenericReceiver = (omega arith, omega arith)
+fault-bounds TooMany = (omega arith, omega arith)
+fault-bounds Places = (omega arith, omega arith)
+fault-bounds Lists = (omega arith, omega arith)
+fault-bounds Output = (omega arith, omega arith)
+fault-bounds Page = (omega arith, omega arith)
+fault-bounds Unknown = (omega arith, omega arith)
 
 one-image : (s : List ℕ) {i j : Image} → decode version1 s ≡ accepted i → decode version1 s ≡ accepted j → i ≡ j
 one-image s {i} {j} a b = let e : accepted i ≡ accepted j = sym a ∙ b in cc
@@ -197,18 +227,6 @@ module _ (sw : Switches) (s : List ℕ) (small : Bytes s) (i : Image) (e : decod
     pub page-long : written ≡ body → q.written ≡ length (encode version1 (returned_image sw i))
     page-long e = let h = whole_length in let k = head-length in omega (arith, from-begin.long)
 
--- the numbers of faults of a walk
-real-low : (x : Option ℕ) → Real x → number_of x < 14
-real-low none r = omega arith
-real-low (some n) r = (r.is n refl).1
-
-apart : (n k : ℕ) → (n ≡ k) ⊎ (n ≡ k → ⊥)
-apart n k = go (eqb n k) refl
-  where
-    go : (b : Bool) → eqb n k ≡ b → (n ≡ k) ⊎ (n ≡ k → ⊥)
-    go true e = inl (eqb-true n k e)
-    go false e = inr (eqb-false n k e)
-
 -- the walk may begin
 module _ (s tb : List ℕ) (small : Bytes s) (env : Env) (entry body : ℕ) (h : ImageThere s tb env entry body) where
   pub entry-there : EntryThere s entry
@@ -262,7 +280,7 @@ module _ (s tb : List ℕ) (small : Bytes s) (env : Env) (entry body : ℕ) (h :
     few-locals-in : length stack ≤ 64
     few-locals-in = let n = length-view l t rows env.cur env.width in omega (arith, entered.few)
 
-    module _ (m m' : Memory) (r : States) (rows' pl' : List ℕ)
+    module _ (m m' : Memory) (r : States) (rows' : List ℕ) (pl' : Walk)
         (c : Comes s tb env.cur env.width (block_rows env.cur env.left) l rows q r rows' pl')
         (w : (T : Tables) → Says s tb T → (loop : Option ℕ) → InLoop loop env.base (suc (12 - env.left)) l → (fault_in pl' ≡ 254 → ⊥)
         → BlockWalks (switches_of env.switches) T s env.left (suc (12 - env.left)) loop stack q m (walked_in pl' (view l r rows' env.cur env.width)) m') where
@@ -271,12 +289,6 @@ module _ (s tb : List ℕ) (small : Bytes s) (env : Env) (entry body : ℕ) (h :
 
       found : (fault_in pl' ≡ 254 → ⊥) → fault_in pl' ≡ number_of (image_fault version1 (switches_of env.switches) h.i)
       found z = image-fault (switches_of env.switches) s small h.i h.read body h.walked stack locals_are few-locals-in q at_body m m' W env.left h.left (w h.i.tables h.says none h.base z)
-
-      -- a fault is 254 or the walk's
-      pub low-fault : fault_in pl' < 256
-      low-fault = ⊎_elim (λ (e : fault_in pl' ≡ 254). omega arith) (λ (z : fault_in pl' ≡ 254 → ⊥).
-          let n = real-low (image_fault version1 (switches_of env.switches) h.i) (real-image version1 (switches_of env.switches) h.i) in
-          omega (arith, n, found z)) (apart (fault_in pl') 254)
 
       wrote : (z : fault_in pl' ≡ 254 → ⊥) → image_fault version1 (switches_of env.switches) h.i ≡ none → Wrote (body_own (switches_of env.switches) h.i p.at) p m (place_in pl') m'
       wrote z f = subst (λ (x : Place). Wrote (body_own (switches_of env.switches) h.i x.at) x m (place_in pl') m') eq
@@ -288,38 +300,50 @@ module _ (s tb : List ℕ) (small : Bytes s) (env : Env) (entry body : ℕ) (h :
           subst (λ (j : Image). (fault_in pl' ≡ number_of (image_fault version1 (switches_of env.switches) j)) × (image_fault version1 (switches_of env.switches) j ≡ none → Wrote (body_own (switches_of env.switches) j p.at) p m (place_in pl') m'))
           (one-image s h.read e) (found z, wrote z)
 
-      pub body-walked : (x : Seen) → x ≡ record { fault = fault_in pl'; place = place_in pl' } → BodyWalks (switches_of env.switches) s (length rows) p m x m'
-      body-walked x ex = subst (λ (y : Seen). BodyWalks (switches_of env.switches) s (length rows) p m y m') (sym ex) (record {
-        short = λ e. omega (arith, c.short e, h.cur, h.left);
-        walks = walks;
-        written = λ e. bounded (λ (y : Place). y.written) e (c.grows e).written;
-        errors = λ e. let g = c.within e in omega (arith, g.errors, g.inside, g.small);
-        warnings = λ e. bounded (λ (y : Place). y.warnings) e (c.grows e).warnings;
-        lefts = λ e. bounded (λ (y : Place). y.lefts) e (c.grows e).lefts;
-      })
-        where
-          bounded : (f : Place → ℕ) → fault_in pl' ≡ 0 → f (place_in pl') + 1000 * q.at ≤ f q + 1000 * (place_in pl').at → f (place_in pl') ≤ f p + 65536000
-          bounded f e g =
-              let a = (c.within e).inside in
-              let b = (c.within e).small in
-              let k = ap f eq in
-              omega arith
+      bounded : (f : Place → ℕ) → fault_in pl' ≡ 0 → f (place_in pl') + 1000 * q.at ≤ f q + 1000 * (place_in pl').at → f (place_in pl') ≤ f p + 65536000
+      bounded f e g =
+          let a = (c.within e).inside in
+          let b = (c.within e).small in
+          let k = ap f eq in
+          omega arith
 
--- from a place that the code made
-pub seen_as : {x : Seen} {f : ℕ} {p q : Place} → x ≡ record { fault = f; place = p } → p ≡ q → x ≡ record { fault = f; place = q }
-seen_as {x} {f} e h = e ∙ ap (λ (y : Place). record { fault = f; place = y }) h
+      -- the answer by why the walk stopped
+      pub body-walked : (k : Maybe Stop) → pl'.stop ≡ k → BodyWalks (switches_of env.switches) s (length rows) p m (came k (place_in pl')) m'
+      body-walked None e =
+          let f : fault_in pl' ≡ 0 = ap stopped_at e in
+          record {
+            short = λ z. absurd (let y : ◌≡◌ {A = ℕ} 0 254 = z in omega arith);
+            walks = λ z i d.
+                let g = walks (λ y. omega arith) i d in
+                (sym f ∙ g.0, g.1 (real-none (image_fault version1 (switches_of env.switches) i) (real-image version1 (switches_of env.switches) i) (sym g.0 ∙ f)));
+            written = bounded (λ (y : Place). y.written) f (c.grows f).written;
+            errors = let g = c.within f in omega (arith, g.errors, g.inside, g.small);
+            warnings = bounded (λ (y : Place). y.warnings) f (c.grows f).warnings;
+            lefts = bounded (λ (y : Place). y.lefts) f (c.grows f).lefts;
+          }
+      body-walked (Some k) e =
+          let f : fault_in pl' ≡ stop_number k = ap stopped_at e in
+          record {
+            short = λ z. omega (arith, c.short (f ∙ z), h.cur, h.left);
+            walks = λ z i d. (sym f ∙ (walks (λ y. z (sym f ∙ y)) i d).0, tt);
+            written = tt;
+            errors = tt;
+            warnings = tt;
+            lefts = tt;
+          }
+
+-- a walk without a fault came to a place
+pub walk-came : (v : Result Place Stop) → fault_of_walk v ≡ 0 → (q : Place) × (v ≡ Ok q)
+walk-came (Ok q) e = (q, refl)
+walk-came (Err Rows) e = absurd (let x : ◌≡◌ {A = ℕ} 254 0 = e in omega arith)
+walk-came (Err (Stopped f)) e = absurd (let l = (fault-bounds f).0 in omega arith)
+
+-- a walk's answer, as the code takes it apart
+pub answers : {sw : Switches} {s : List ℕ} {rows : ℕ} {p : Place} {m m' : Memory} {x y : Result Place Stop} → x ≡ y → BodyWalks sw s rows p m x m' → BodyWalks sw s rows p m y m'
+answers {sw} {s} {rows} {p} {m} {m'} e g = subst (λ r. BodyWalks sw s rows p m r m') e g
 
 pub begins-at : {body written w l : ℕ} {b : Bool} {p : Place} → p ≡ begins body written w l b → written ≤ 200000000 → w ≤ 200000000 → l ≤ 200000000 → Begins body p
 begins-at {body} {written} {w} {l} {b} {p} e x y z = subst (Begins body) (sym e) (record { is = refl; written = x; warnings = y; lefts = z })
-
--- the end of the walk, with a fault and without
-pub closes-fault : (out : List ℕ) (w : Seen) → 0 < w.fault → Closes out w w out
-closes-fault out w h = record { is = refl; last = λ z. absurd (omega arith) }
-
-pub closes-done : (out out' : List ℕ) (n : ℕ) (w : Seen) → Stored out 0 (four_bytes ((w.place.written + 4294967292) % 4294967296)) out' n → Closes out w w out'
-closes-done out out' n w g =
-    let k : n ≡ 4 = g.place ∙ (let l = four-length ((w.place.written + 4294967292) % 4294967296) in omega arith) in
-    record { is = refl; last = λ y. subst (Stored out 0 (four_bytes ((w.place.written + 4294967292) % 4294967296)) out') k g }
 
 -- of a walk into memory
 module _ (s tb : List ℕ) (small : Bytes s) (env : Env) (entry body : ℕ) (h : ImageThere s tb env entry body) (written : ℕ) (m m₁ : Memory) (p : Place)
@@ -331,58 +355,65 @@ module _ (s tb : List ℕ) (small : Bytes s) (env : Env) (entry body : ℕ) (h :
       let f = front.place in
       subst (Begins body) (sym ep) (record { is = refl; written = omega arith; warnings = omega arith; lefts = omega arith })
 
-  module _ (rows : ℕ) (m₂ m₃ : Memory) (w r : Seen) (g : BodyWalks (switches_of env.switches) s rows p m₁ w m₂) where
-    pub low-written : w.fault ≡ 0 → w.place.written < 4294967296
-    low-written e = let b = g.written e in let k = begins-head.written in omega arith
+  -- a walk that stops, and one that comes to a place, with the length in front
+  pub image-stopped : (rows : ℕ) (m₂ : Memory) (k : Stop) → BodyWalks (switches_of env.switches) s rows p m₁ (Err k) m₂ → ImageWalks (switches_of env.switches) s rows m (Err k) m₂
+  image-stopped rows m₂ k g = record { short = g.short; walks = λ z i e. ((g.walks z i e).0, tt) }
 
-    pub image-walked : Closes m₂.out w r m₃.out → m₁.errs ≡ m.errs → m₁.warns ≡ m.warns → m₁.lefts ≡ m.lefts → m₃.errs ≡ m₂.errs → m₃.warns ≡ m₂.warns → m₃.lefts ≡ m₂.lefts
-        → ImageWalks (switches_of env.switches) s rows m r m₃
-    image-walked k a₁ a₂ a₃ b₁ b₂ b₃ = subst (λ (y : Seen). ImageWalks (switches_of env.switches) s rows m y m₃) (sym k.is) (record {
-      short = g.short;
-      walks = λ z i e.
-          let x = g.walks z i e in (
-            x.0,
-            λ f.
-                let none_found : w.fault ≡ 0 = x.0 ∙ ap number_of f in
-                subst (λ (j : Image). ImageDone (switches_of env.switches) j m w.place m₃) (one-image s h.read e)
-                (image-done (switches_of env.switches) s small h.i h.read body h.walked p m m₁ m₂ m₃ w.place written ep (subst (λ (j : Image). Wrote (body_own (switches_of env.switches) j p.at) p m₁ w.place m₂) (sym (one-image s h.read e)) (x.1 f)) front
-                (low-written none_found) (k.last none_found) a₁ a₂ a₃ b₁ b₂ b₃),
-          );
-    })
+  module _ (rows : ℕ) (m₂ m₃ : Memory) (q : Place) (g : BodyWalks (switches_of env.switches) s rows p m₁ (Ok q) m₂) where
+    pub low-written : q.written < 4294967296
+    low-written = let b = g.written in let k = begins-head.written in omega arith
+
+    pub image-walked : (n : ℕ) → Stored m₂.out 0 (four_bytes ((q.written + 4294967292) % 4294967296)) m₃.out n
+        → m₁.errs ≡ m.errs → m₁.warns ≡ m.warns → m₁.lefts ≡ m.lefts → m₃.errs ≡ m₂.errs → m₃.warns ≡ m₂.warns → m₃.lefts ≡ m₂.lefts
+        → ImageWalks (switches_of env.switches) s rows m (Ok q) m₃
+    image-walked n last a₁ a₂ a₃ b₁ b₂ b₃ =
+        let k : n ≡ 4 = last.place ∙ (let l = four-length ((q.written + 4294967292) % 4294967296) in omega arith) in
+        record {
+          short = g.short;
+          walks = λ z i e.
+              let x = g.walks z i e in (
+                x.0,
+                subst (λ (j : Image). ImageDone (switches_of env.switches) j m q m₃) (one-image s h.read e)
+                    (image-done (switches_of env.switches) s small h.i h.read body h.walked p m m₁ m₂ m₃ q written ep (subst (λ (j : Image). Wrote (body_own (switches_of env.switches) j p.at) p m₁ q m₂) (sym (one-image s h.read e)) x.1) front
+                    low-written (subst (Stored m₂.out 0 (four_bytes ((q.written + 4294967292) % 4294967296)) m₃.out) k last) a₁ a₂ a₃ b₁ b₂ b₃),
+              );
+        }
 
 -- of a walk into a page, or into nothing
-module _ (s tb : List ℕ) (small : Bytes s) (env : Env) (entry body : ℕ) (h : ImageThere s tb env entry body) (rows : ℕ) (m m' : Memory) (p : Place) (r : Seen) (g : BodyWalks (switches_of env.switches) s rows p m r m') where
-  module _ (written w l : ℕ) (b : Bool) (ep : p ≡ begins body written w l b) where
-    wrote-in : (z : r.fault ≡ 254 → ⊥) → (i : Image) → decode version1 s ≡ accepted i → image_fault version1 (switches_of env.switches) i ≡ none → Wrote (body_own (switches_of env.switches) h.i p.at) p m r.place m'
-    wrote-in z i e f = subst (λ (j : Image). Wrote (body_own (switches_of env.switches) j p.at) p m r.place m') (sym (one-image s h.read e)) ((g.walks z i e).1 f)
+module _ (s tb : List ℕ) (small : Bytes s) (env : Env) (entry body : ℕ) (h : ImageThere s tb env entry body) (rows : ℕ) (m m' : Memory) (p : Place) where
+  module _ (q : Place) (g : BodyWalks (switches_of env.switches) s rows p m (Ok q) m') (written w l : ℕ) (b : Bool) (ep : p ≡ begins body written w l b) where
+    wrote-in : (i : Image) → decode version1 s ≡ accepted i → Wrote (body_own (switches_of env.switches) h.i p.at) p m q m'
+    wrote-in i e = subst (λ (j : Image). Wrote (body_own (switches_of env.switches) j p.at) p m q m') (sym (one-image s h.read e)) (g.walks (λ z. let y : ◌≡◌ {A = ℕ} 0 254 = z in omega arith) i e).1
 
-    pub lined-in : b ≡ true → length m.out ≤ written → (z : r.fault ≡ 254 → ⊥) → (i : Image) → decode version1 s ≡ accepted i → image_fault version1 (switches_of env.switches) i ≡ none
-        → Lined (cursors 0 w l) (reports (switches_of env.switches) i) m.out (cursors_at r.place) m'.out
-    lined-in y k z i e f =
-        subst (λ (j : Image). Lined (cursors 0 w l) (reports (switches_of env.switches) j) m.out (cursors_at r.place) m'.out) (one-image s h.read e)
-        (page-done (switches_of env.switches) s small h.i h.read body h.walked p m m' r.place written w l b ep (wrote-in z i e f) y k)
+    pub lined-in : b ≡ true → length m.out ≤ written → (i : Image) → decode version1 s ≡ accepted i
+        → Lined (cursors 0 w l) (reports (switches_of env.switches) i) m.out (cursors_at q) m'.out
+    lined-in y k i e =
+        subst (λ (j : Image). Lined (cursors 0 w l) (reports (switches_of env.switches) j) m.out (cursors_at q) m'.out) (one-image s h.read e)
+        (page-done (switches_of env.switches) s small h.i h.read body h.walked p m m' q written w l b ep (wrote-in i e) y k)
 
-    pub page-walked : b ≡ true → length m.out ≤ written → PageWalks (switches_of env.switches) s rows (cursors 0 w l) m.out r m'.out
-    page-walked y k = record { short = g.short; walks = λ z i e. ((g.walks z i e).0, λ f. lined-in y k z i e f) }
+  pub page-walked : (r : Result Place Stop) → BodyWalks (switches_of env.switches) s rows p m r m' → (written w l : ℕ) (b : Bool) → p ≡ begins body written w l b
+      → b ≡ true → length m.out ≤ written → PageWalks (switches_of env.switches) s rows (cursors 0 w l) m.out r m'.out
+  page-walked (Ok q) g written w l b ep y k = record { short = g.short; walks = λ z i e. ((g.walks z i e).0, lined-in q g written w l b ep y k i e) }
+  page-walked (Err x) g written w l b ep y k = record { short = g.short; walks = λ z i e. ((g.walks z i e).0, tt) }
 
-  pub measured : (b : Bool) → p ≡ begins body body 0 0 b → m.out ≡ [] → MeasuresIn (switches_of env.switches) s rows b r
-  measured b ep none_lent = record {
-    short = g.short;
-    measures = λ z. record {
-      walks = λ i e. (
-        (g.walks z i e).0,
-        λ f. (
-          subst (λ (j : Image). r.place.written ≡ length (encode version1 (returned_image (switches_of env.switches) j))) (one-image s h.read e)
-              (page-long (switches_of env.switches) s small h.i h.read body h.walked p m m' r.place body 0 0 b ep (wrote-in body 0 0 b ep z i e f) refl),
-          λ y. (lined-in body 0 0 b ep y (let l = ap length none_lent in omega arith) z i e f).cursors,
-        ),
-      );
-      few = λ e.
-          let a = g.errors e in
-          let c = g.warnings e in
-          let d = g.lefts e in
-          let w = ap (λ (x : Place). x.warnings) ep in
-          let l = ap (λ (x : Place). x.lefts) ep in
-          (a, omega arith, omega arith);
-    };
+  pub measured : (q : Place) → BodyWalks (switches_of env.switches) s rows p m (Ok q) m' → (b : Bool) → p ≡ begins body body 0 0 b → m.out ≡ [] → Measures (switches_of env.switches) s b (Ok q)
+  measured q g b ep none_lent = record {
+    walks = λ i e. (
+      (g.walks (λ z. let y : ◌≡◌ {A = ℕ} 0 254 = z in omega arith) i e).0,
+      (
+        subst (λ (j : Image). q.written ≡ length (encode version1 (returned_image (switches_of env.switches) j))) (one-image s h.read e)
+            (page-long (switches_of env.switches) s small h.i h.read body h.walked p m m' q body 0 0 b ep (wrote-in q g body 0 0 b ep i e) refl),
+        λ y. (lined-in q g body 0 0 b ep y (let l = ap length none_lent in omega arith) i e).cursors,
+      ),
+    );
+    few =
+        let a = g.errors in
+        let c = g.warnings in
+        let d = g.lefts in
+        let w = ap (λ (x : Place). x.warnings) ep in
+        let l = ap (λ (x : Place). x.lefts) ep in
+        (a, omega arith, omega arith);
   }
+
+  pub measure-refused : (f : Fault) → BodyWalks (switches_of env.switches) s rows p m (Err (Stopped f)) m' → (b : Bool) → Measures (switches_of env.switches) s b (Err f)
+  measure-refused f g b = record { walks = λ i e. ((g.walks (λ z. let l = (fault-bounds f).1 in omega arith) i e).0, tt); few = tt }

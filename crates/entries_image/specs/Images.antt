@@ -1,8 +1,9 @@
 -- The walk of a whole image: what it stores, of whatever image was read.
-use Rattle.std.specs.Prelude.{ℕ, ◌+◌, ◌%◌, ◌≤◌, ◌<◌, ◌≡◌, Bool, true, List, [], length}
+use Rattle.std.specs.Prelude.{ℕ, ◌+◌, ◌≤◌, ◌<◌, ◌≡◌, Bool, true, List, [], length, Result, Ok, Err, IfOk}
 use Rattle.std.proofs.Math.Option.{none}
+use Rattle.image_fields.specs.declared.Fault.{Fault}
+use Rattle.image_fields.specs.Fault.{fault_number}
 use Rattle.image_fields.specs.Parsed.{ok}
-use Rattle.image_fields.specs.Bytes.{four_bytes}
 use Rattle.tables.specs.Limits.{version1}
 use Rattle.tables.specs.Signature.{entry_at}
 use Rattle.image_body.specs.Stmt.{block_at}
@@ -21,7 +22,8 @@ use Rattle.image_lines.specs.Told.{Lined}
 use Rattle.blocks_laws.specs.Walks.{Wrote}
 use Rattle.rules.specs.Rules.{Switches, states, entered, locals_of}
 use Rattle.blocks_ends.specs.declared.Env.{Env}
-use Rattle.entries_image.specs.declared.Seen.{Seen}
+use Rattle.scope_rows.specs.declared.Stop.{Stop}
+use Rattle.scope_rows.specs.Stop.{stop_number}
 
 -- an image was read, and its parts stand there
 pub record ImageThere (s tb : List ℕ) (env : Env) (entry body : ℕ) : Type 0 where
@@ -53,15 +55,25 @@ pub record Begins (body : ℕ) (p : Place) : Type 0 where
 abbrev pub body_own : Switches → Image → ℕ → Own
 body_own sw i at = block_own sw i.tables i.body.span i.body.code 1 none at (entered (states sw) i.tables (locals_of i.entry) [])
 
--- the walk of a body from its beginning, with so many rows; fault 254: there are fewer than an image may need
-pub record BodyWalks (sw : Switches) (s : List ℕ) (rows : ℕ) (p : Place) (m : Memory) (r : Seen) (m' : Memory) : Type 0 where
-  pub short : r.fault ≡ 254 → rows < 13248
-  pub walks : (r.fault ≡ 254 → ⊥) → (i : Image) → decode version1 s ≡ accepted i
-      → (r.fault ≡ number_of (image_fault version1 sw i)) × (image_fault version1 sw i ≡ none → Wrote (body_own sw i p.at) p m r.place m')
-  pub written : r.fault ≡ 0 → r.place.written ≤ p.written + 65536000
-  pub errors : r.fault ≡ 0 → r.place.errors ≤ 65536000
-  pub warnings : r.fault ≡ 0 → r.place.warnings ≤ p.warnings + 65536000
-  pub lefts : r.fault ≡ 0 → r.place.lefts ≤ p.lefts + 65536000
+-- the number of what a walk came to: 0, or of why it stopped
+abbrev pub fault_of_walk : Result Place Stop → ℕ
+fault_of_walk (Ok p) = 0
+fault_of_walk (Err e) = stop_number e
+
+-- the number that C gets: 0, or the fault's
+abbrev pub number_in : {A : Type 0} → Result A Fault → ℕ
+number_in (Ok x) = 0
+number_in (Err f) = fault_number f
+
+-- the walk of a body from its beginning, with so many rows; 254: there are fewer than an image may need
+pub record BodyWalks (sw : Switches) (s : List ℕ) (rows : ℕ) (p : Place) (m : Memory) (r : Result Place Stop) (m' : Memory) : Type 0 where
+  pub short : fault_of_walk r ≡ 254 → rows < 13248
+  pub walks : (fault_of_walk r ≡ 254 → ⊥) → (i : Image) → decode version1 s ≡ accepted i
+      → (fault_of_walk r ≡ number_of (image_fault version1 sw i)) × IfOk r (λ q. Wrote (body_own sw i p.at) p m q m')
+  pub written : IfOk r (λ q. q.written ≤ p.written + 65536000)
+  pub errors : IfOk r (λ q. q.errors ≤ 65536000)
+  pub warnings : IfOk r (λ q. q.warnings ≤ p.warnings + 65536000)
+  pub lefts : IfOk r (λ q. q.lefts ≤ p.lefts + 65536000)
 
 -- an image without a fault, walked into memory as far as that reaches
 pub record ImageDone (sw : Switches) (i : Image) (m : Memory) (p : Place) (m' : Memory) : Type 0 where
@@ -72,30 +84,21 @@ pub record ImageDone (sw : Switches) (i : Image) (m : Memory) (p : Place) (m' : 
   pub long : p.written ≡ length (encode version1 (returned_image sw i))
   pub fits : p.fits ≡ image_counts_fit 65535 (returned_image sw i)
 
--- the walk with so many rows; fault 254: there are fewer than an image may need
-pub record ImageWalks (sw : Switches) (s : List ℕ) (rows : ℕ) (m : Memory) (r : Seen) (m' : Memory) : Type 0 where
-  pub short : r.fault ≡ 254 → rows < 13248
-  pub walks : (r.fault ≡ 254 → ⊥) → (i : Image) → decode version1 s ≡ accepted i
-      → (r.fault ≡ number_of (image_fault version1 sw i)) × (image_fault version1 sw i ≡ none → ImageDone sw i m r.place m')
-
--- the end of a walk: without a fault the length is stored in front
-pub record Closes (out : List ℕ) (w r : Seen) (out' : List ℕ) : Type 0 where
-  pub is : r ≡ w
-  pub last : w.fault ≡ 0 → Stored out 0 (four_bytes ((w.place.written + 4294967292) % 4294967296)) out' 4
+-- the walk with so many rows; 254: there are fewer than an image may need
+pub record ImageWalks (sw : Switches) (s : List ℕ) (rows : ℕ) (m : Memory) (r : Result Place Stop) (m' : Memory) : Type 0 where
+  pub short : fault_of_walk r ≡ 254 → rows < 13248
+  pub walks : (fault_of_walk r ≡ 254 → ⊥) → (i : Image) → decode version1 s ≡ accepted i
+      → (fault_of_walk r ≡ number_of (image_fault version1 sw i)) × IfOk r (λ q. ImageDone sw i m q m')
 
 -- the reports of an image, as lines of a page from some cursors on
-pub record PageWalks (sw : Switches) (s : List ℕ) (rows : ℕ) (c : Cursors) (page : List ℕ) (r : Seen) (page' : List ℕ) : Type 0 where
-  pub short : r.fault ≡ 254 → rows < 13248
-  pub walks : (r.fault ≡ 254 → ⊥) → (i : Image) → decode version1 s ≡ accepted i
-      → (r.fault ≡ number_of (image_fault version1 sw i)) × (image_fault version1 sw i ≡ none → Lined c (reports sw i) page (cursors_at r.place) page')
+pub record PageWalks (sw : Switches) (s : List ℕ) (rows : ℕ) (c : Cursors) (page : List ℕ) (r : Result Place Stop) (page' : List ℕ) : Type 0 where
+  pub short : fault_of_walk r ≡ 254 → rows < 13248
+  pub walks : (fault_of_walk r ≡ 254 → ⊥) → (i : Image) → decode version1 s ≡ accepted i
+      → (fault_of_walk r ≡ number_of (image_fault version1 sw i)) × IfOk r (λ q. Lined c (reports sw i) page (cursors_at q) page')
 
 -- without what is stored: the length of the image given back, and, where a page is made, the bytes of its lists
-pub record Measures (sw : Switches) (s : List ℕ) (paged : Bool) (r : Seen) : Type 0 where
+pub record Measures (sw : Switches) (s : List ℕ) (paged : Bool) (r : Result Place Fault) : Type 0 where
   pub walks : (i : Image) → decode version1 s ≡ accepted i
-      → (r.fault ≡ number_of (image_fault version1 sw i)) × (image_fault version1 sw i ≡ none → (r.place.written ≡ length (encode version1 (returned_image sw i)))
-      × (paged ≡ true → cursors_at r.place ≡ onward_all (cursors 0 0 0) (reports sw i)))
-  pub few : r.fault ≡ 0 → (r.place.errors ≤ 65536000) × (r.place.warnings ≤ 65536000) × (r.place.lefts ≤ 65536000)
-
-pub record MeasuresIn (sw : Switches) (s : List ℕ) (rows : ℕ) (paged : Bool) (r : Seen) : Type 0 where
-  pub short : r.fault ≡ 254 → rows < 13248
-  pub measures : (r.fault ≡ 254 → ⊥) → Measures sw s paged r
+      → (number_in r ≡ number_of (image_fault version1 sw i)) × IfOk r (λ q. (q.written ≡ length (encode version1 (returned_image sw i)))
+      × (paged ≡ true → cursors_at q ≡ onward_all (cursors 0 0 0) (reports sw i)))
+  pub few : IfOk r (λ q. (q.errors ≤ 65536000) × (q.warnings ≤ 65536000) × (q.lefts ≤ 65536000))

@@ -15,13 +15,7 @@ ghost use Rattle.entries_page.specs.Pages.{Pages};
 
 use blocks_ends::Env;
 use image::ImageRead;
-
-// What the entry that writes the page answers; of a refusal, the fault.
-#[derive(Clone, Copy)]
-pub enum Paged {
-    Written(usize),
-    Refused(u8),
-}
+use image_fields::Fault;
 
 // The lines, each list's from its place on, with rows that suffice for every image.
 fn write_page(
@@ -38,25 +32,26 @@ fn write_page(
         → page.new ≡ lined (cursors 0 warnings lefts) (reports (switches_of env.switches) i) page.old }
 {
     let mut rows = [0u32; 13248];
-    entries_image::page_image(s, tb, env, read, &mut rows, page, warnings, lefts);
+    let _ = entries_image::page_image(s, tb, env, read, &mut rows, page, warnings, lefts);
 }
 
 // The verdict: nothing of the page is changed before it is known that all of it fits.
-pub fn page_verdict(s: &[u8], tb: &[u32], env: Env, read: ImageRead, page: &mut [u8]) -> Paged
+pub fn page_verdict(
+    s: &[u8],
+    tb: &[u32],
+    env: Env,
+    read: ImageRead,
+    page: &mut [u8],
+) -> Result<usize, Fault>
     requires { ImageThere s.now tb.now env read.entry read.body }
     ensures { Pages env.switches s.now page.old result page.new }
 {
-    let w = entries_image::measure(s, tb, env, read, true);
-    let fault = w.fault;
-    if 0 < fault {
-        return Paged::Refused(fault);
-    }
-    let p = w.place;
+    let p = entries_image::measure(s, tb, env, read, true)?;
     let lefts = p.errors + p.warnings;
     let end = lefts + p.lefts;
     if page.len() < end {
-        return Paged::Refused(16);
+        return Err(Fault::Page);
     }
     write_page(s, tb, env, read, &mut page[..end], p.errors, lefts);
-    Paged::Written(end)
+    Ok(end)
 }

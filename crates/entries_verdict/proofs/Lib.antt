@@ -1,2 +1,1 @@
-pub mod Lacks
 pub mod Rooms

@@ -6,7 +6,7 @@ use mathlib.Core.Path.{◌≡◌, refl, sym, ap, ◌∙◌, subst}
 use mathlib.Core.Bool.{Bool, true, false, cond, ◌&&◌}
 use mathlib.Core.List.{List, [], ◌∷◌, ◌++◌}
 use mathlib.Core.Option.{Option, none, some}
-use borrow.Author.Tests.{lt-ltb, le-ltb, lt-leb, le-leb, leb-true, eq-eqb, ne_eqb}
+use borrow.Author.Tests.{lt-ltb, le-ltb, lt-leb, le-leb, leb-true}
 use lib.Dec.{leb}
 use lib.ListN.{length, length-append, take, drop, replicate}
 use lib.Seq.{sets, sets-eq, slice, take-append_seam, length-take-le}
@@ -25,12 +25,19 @@ use Rattle.rules.proofs.Numbers.{real-image}
 use Rattle.statements_steps.proofs.Faults.{real-none}
 use Rattle.statements_acts.specs.declared.Place.{Place}
 use Rattle.image_writing.specs.Memory.{Memory, memory}
-use Rattle.entries_verdict.specs.declared.Outcome.{Outcome}
-use Rattle.entries_verdict.specs.declared.Outcome.TheVariants.{Accepted, Refused}
+use Rattle.std.specs.Prelude.{Result, Ok, Err, IsOk, is_ok, MatchResult}
+use Rattle.std.specs.Result.{IsErrAnd}
+use Rattle.std.proofs.lemmas.Result.{IfOk-at_ok}
+use Rattle.image_fields.specs.declared.Fault.{Fault}
+use Rattle.image_fields.specs.declared.Fault.TheVariants.{Switches as Unknown}
+use Rattle.image_fields.specs.Fault.{fault_number}
+use Rattle.scope_rows.specs.declared.Stop.{Stop}
+use Rattle.scope_rows.specs.declared.Stop.TheVariants.{Rows, Fault as Stopped}
+use Rattle.entries_verdict.specs.declared.Totals.{Totals}
 use Rattle.entries_verdict.specs.Passes.{lent_of, outcome_of, over, memory_after, verdict_on, Passes}
-use Rattle.entries_image.specs.declared.Seen.{Seen}
-use Rattle.entries_image.specs.Images.{ImageDone, ImageWalks}
-use Rattle.entries_verdict.specs.Verdicts.{lack_of, Fits, CopiesAll, outcome_in, Judges}
+use Rattle.entries_image.specs.Images.{fault_of_walk, number_in, ImageDone, ImageWalks}
+use Rattle.entries_image.proofs.Whole.{fault-bounds, walk-came}
+use Rattle.entries_verdict.specs.Verdicts.{lack_of, Fits, CopiesAll, totals_at, outcome_in, Judges}
 
 -- numbers stored where there is room for them
 pub front-stored : (old vs : List ℕ) → length vs ≤ length old → sets old 0 vs ≡ over vs old
@@ -40,6 +47,11 @@ front-stored old vs h =
 
 pub stored-front : {old vs new : List ℕ} {k : ℕ} → Stored old 0 vs new k → k ≤ length old → new ≡ over vs old
 stored-front {old} {vs} {new} {k} a h = a.cells ∙ front-stored old vs (let e = a.place in omega arith)
+
+pub copied-over : (old from : List ℕ) (many : ℕ) {new : List ℕ} → many ≤ length from → many ≤ length old → new ≡ take many from → new ++ drop many old ≡ sets old 0 (take many from)
+copied-over old from many h g e =
+    let l = length-take-le many from h in
+    ap (λ v. v ++ drop many old) e ∙ ap (λ n. take many from ++ drop n old) (sym l) ∙ sym (front-stored old (take many from) (omega arith))
 
 -- and copied from there
 pub stored-copied : {old vs new : List ℕ} {k : ℕ} → Stored old 0 vs new k → k ≤ length old → slice 0 k new ≡ vs
@@ -94,25 +106,44 @@ pub fault-some : (x : Option ℕ) (n : ℕ) → n ≡ number_of x → 0 < n → 
 fault-some none n e h = absurd (omega arith)
 fault-some (some m) n e h = ap some (sym e)
 
+-- a room without a lack
+none-in : (q : Result (Unit {0}) Fault) → IsOk q → ◌≡◌ {A = ℕ} 0 (number_in q)
+none-in (Ok u) e = refl
+none-in (Err f) e = absurd (false-true e)
+
+-- what a room lacks, as a walk stops for it
+abbrev Turned : Result (Unit {0}) Fault → Result (Unit {0}) Stop → Type 0
+Turned r q = MatchResult r (λ x. q ≡ Ok x) (λ e. IsErrAnd q (λ y. y ≡ Stopped e))
+
+pub lacking : (r : Result (Unit {0}) Fault) (q : Result (Unit {0}) Stop) → Turned r q → (k : Stop) → q ≡ Err k → (f : Fault) × (r ≡ Err f) × (k ≡ Stopped f)
+lacking (Ok x) q c k e = let z : ◌≡◌ {A = Result (Unit {0}) Stop} (Ok x) (Err k) = sym c ∙ e in absurd (false-true (sym (ap is_ok z)))
+lacking (Err f) (Ok u) c k e = absurd c
+lacking (Err f) (Err y) c k e = let z : y ≡ k = cc in (f, refl, sym z ∙ c)
+
+pub fine-of : (r : Result (Unit {0}) Fault) (q : Result (Unit {0}) Stop) → Turned r q → (u : Unit {0}) → q ≡ Ok u → (x : Unit {0}) × (r ≡ Ok x)
+fine-of (Ok x) q c u e = (x, refl)
+fine-of (Err f) (Ok x) c u e = absurd c
+fine-of (Err f) (Err y) c u e = absurd (false-true (ap is_ok e))
+
 -- a value of the switches up to 15, and above
 pub not-high : {A : Type 0} (value : ℕ) → value ≤ 15 → (x y : A) → cond (too_high value) x y ≡ y
 not-high value h x y = ap (λ (b : Bool). cond b x y) (le-ltb 15 value h)
 
-pub refused-value : (value : ℕ) → 15 < value → (s : List ℕ) (m : Memory) → Passes value s m (Refused 17) m
+pub refused-value : (value : ℕ) → 15 < value → (s : List ℕ) (m : Memory) → Passes value s m (Err Unknown) m
 unfolding pass_verdict
 refused-value value h s m =
     let v : verdict_on value s m ≡ refuses 17 = ap (λ (b : Bool). cond b (refuses 17) (decided version1 (switches_of value) (lent_of m) (decode version1 s))) (lt-ltb 15 value h) in
     record { outcome = sym (ap outcome_of v); leaves = sym (ap (λ w. memory_after w m) v) }
 
 -- a read fault
-pub refused-read : (value : ℕ) → value ≤ 15 → (s : List ℕ) (m : Memory) (n : ℕ) → n ≡ fault_of (decode version1 s) → 0 < n → Passes value s m (Refused n) m
+pub refused-read : (value : ℕ) → value ≤ 15 → (s : List ℕ) (m : Memory) (f : Fault) → fault_number f ≡ fault_of (decode version1 s) → Passes value s m (Err f) m
 unfolding pass_verdict fault_of
-refused-read value high s m n e h = go (decode version1 s) refl
+refused-read value high s m f e = go (decode version1 s) refl
   where
-    go : (d : Decoded) → decode version1 s ≡ d → Passes value s m (Refused n) m
-    go (accepted i) z = absurd (omega (arith, e ∙ ap fault_of z))
+    go : (d : Decoded) → decode version1 s ≡ d → Passes value s m (Err f) m
+    go (accepted i) z = let k : fault_number f ≡ 0 = e ∙ ap fault_of z in absurd (omega (arith, (fault-bounds f).0))
     go (refused k) z =
-        let v : verdict_on value s m ≡ refuses n = not-high value high (refuses 17) (decided version1 (switches_of value) (lent_of m) (decode version1 s)) ∙ ap (decided version1 (switches_of value) (lent_of m)) z ∙ ap refuses (sym (e ∙ ap fault_of z)) in
+        let v : verdict_on value s m ≡ refuses (fault_number f) = not-high value high (refuses 17) (decided version1 (switches_of value) (lent_of m) (decode version1 s)) ∙ ap (decided version1 (switches_of value) (lent_of m)) z ∙ ap refuses (sym (e ∙ ap fault_of z)) in
         record { outcome = sym (ap outcome_of v); leaves = sym (ap (λ w. memory_after w m) v) }
 
 module _ (value : ℕ) (high : value ≤ 15) (s : List ℕ) (i : Image) (e : decode version1 s ≡ accepted i) (m : Memory) where
@@ -121,13 +152,10 @@ module _ (value : ℕ) (high : value ≤ 15) (s : List ℕ) (i : Image) (e : dec
   verdict-is = not-high value high (refuses 17) (decided version1 (switches_of value) (lent_of m) (decode version1 s)) ∙ ap (decided version1 (switches_of value) (lent_of m)) e
 
   -- faults 12 and 13
-  pub refused-walk : (n : ℕ) → n ≡ number_of (image_fault version1 (switches_of value) i) → 0 < n → Passes value s m (Refused n) m
-  refused-walk n f h =
-      let v : verdict_on value s m ≡ refuses n = verdict-is ∙ ap (walked version1 (switches_of value) (lent_of m) i) (fault-some (image_fault version1 (switches_of value) i) n f h) in
+  pub refused-walk : (f : Fault) → fault_number f ≡ number_of (image_fault version1 (switches_of value) i) → Passes value s m (Err f) m
+  refused-walk f k =
+      let v : verdict_on value s m ≡ refuses (fault_number f) = verdict-is ∙ ap (walked version1 (switches_of value) (lent_of m) i) (fault-some (image_fault version1 (switches_of value) i) (fault_number f) k (fault-bounds f).0) in
       record { outcome = sym (ap outcome_of v); leaves = sym (ap (λ w. memory_after w m) v) }
-
-  pub none_found : (n : ℕ) → n ≡ number_of (image_fault version1 (switches_of value) i) → (0 < n → ⊥) → image_fault version1 (switches_of value) i ≡ none
-  none_found n f z = real-none (image_fault version1 (switches_of value) i) (real-image version1 (switches_of value) i) (omega (arith, z, f))
 
   module _ (z : image_fault version1 (switches_of value) i ≡ none) {own own' : Memory} {p : Place} (d : ImageDone (switches_of value) i own p own') where
     abbrev a : Answer
@@ -160,34 +188,32 @@ module _ (value : ℕ) (high : value ≤ 15) (s : List ℕ) (i : Image) (e : dec
     lack-is : lack ≡ cond (lists_fit (lent_of m) a) (cond (output_fits (switches_of value) (lent_of m) i a) 0 15) 14
     lack-is = ap (λ x. cond x (cond (leb p.written (length m.out) && p.fits) 0 15) 14) lists-fit ∙ ap (λ x. cond (lists_fit (lent_of m) a) (cond x 0 15) 14) output-fits
 
-    pub refused-room : (n : ℕ) → n ≡ lack → 0 < n → Passes value s m (Refused n) m
-    refused-room n f h =
-        let v : verdict_on value s m ≡ refuses n = fitted-is ∙ go (lists_fit (lent_of m) a) (output_fits (switches_of value) (lent_of m) i a) (f ∙ lack-is) in
+    pub refused-room : (f : Fault) → fault_number f ≡ lack → Passes value s m (Err f) m
+    refused-room f k =
+        let v : verdict_on value s m ≡ refuses (fault_number f) = fitted-is ∙ go (lists_fit (lent_of m) a) (output_fits (switches_of value) (lent_of m) i a) (k ∙ lack-is) in
         record { outcome = sym (ap outcome_of v); leaves = sym (ap (λ w. memory_after w m) v) }
       where
-        go : (b c : Bool) → n ≡ cond b (cond c 0 15) 14 → cond b (cond c (answers a) (refuses 15)) (refuses 14) ≡ refuses n
-        go true true g = absurd (omega arith)
+        go : (b c : Bool) → fault_number f ≡ cond b (cond c 0 15) 14 → cond b (cond c (answers a) (refuses 15)) (refuses 14) ≡ refuses (fault_number f)
+        go true true g = absurd (let l = (fault-bounds f).0 in omega arith)
         go true false g = ap refuses (sym g)
         go false c g = ap refuses (sym g)
 
     -- enough room, and the memory after
-    pub answered : (n : ℕ) → n ≡ lack → (0 < n → ⊥) → (r : Outcome)
-        → r ≡ Accepted (record { written = p.written; errors = p.errors / 12; warnings = p.warnings / 2; lefts = p.lefts / 3 })
-        → (m' : Memory) → m'.out ≡ over a.output m.out → m'.errs ≡ over a.error_numbers m.errs → m'.warns ≡ over a.warning_numbers m.warns → m'.lefts ≡ over a.left_numbers m.lefts
-        → Passes value s m r m'
-    answered n f h r er m' e₀ e₁ e₂ e₃ =
+    pub answered : ◌≡◌ {A = ℕ} 0 lack → (m' : Memory) → m'.out ≡ over a.output m.out → m'.errs ≡ over a.error_numbers m.errs → m'.warns ≡ over a.warning_numbers m.warns → m'.lefts ≡ over a.left_numbers m.lefts
+        → Passes value s m (Ok (totals_at p)) m'
+    answered f m' e₀ e₁ e₂ e₃ =
         let v : verdict_on value s m ≡ answers a = fitted-is ∙ go (lists_fit (lent_of m) a) (output_fits (switches_of value) (lent_of m) i a) (f ∙ lack-is) in
         record {
-          outcome = er ∙ totals ∙ sym (ap outcome_of v);
+          outcome = totals ∙ sym (ap outcome_of v);
           leaves = made ∙ sym (ap (λ w. memory_after w m) v);
         }
       where
-        go : (b c : Bool) → n ≡ cond b (cond c 0 15) 14 → cond b (cond c (answers a) (refuses 15)) (refuses 14) ≡ answers a
+        go : (b c : Bool) → ◌≡◌ {A = ℕ} 0 (cond b (cond c 0 15) 14) → cond b (cond c (answers a) (refuses 15)) (refuses 14) ≡ answers a
         go true true g = refl
-        go true false g = absurd (h (omega arith))
-        go false c g = absurd (h (omega arith))
+        go true false g = absurd (omega arith)
+        go false c g = absurd (omega arith)
 
-        totals : Accepted (record { written = p.written; errors = p.errors / 12; warnings = p.warnings / 2; lefts = p.lefts / 3 }) ≡ outcome_of (answers a)
+        totals : Ok (totals_at p) ≡ outcome_of (answers a)
         totals =
             let x : p.errors / 12 ≡ a.error_count = omega (arith, error-count) in
             let y : p.warnings / 2 ≡ a.warning_count = omega (arith, warning-count) in
@@ -198,43 +224,18 @@ module _ (value : ℕ) (high : value ≤ 15) (s : List ℕ) (i : Image) (e : dec
         made = rw (sym e₀, sym e₁, sym e₂, sym e₃)
 
 -- no lack
-pub fits-of : (p : Place) (bytes errs warns many n : ℕ) → n ≡ lack_of p bytes errs warns many → (0 < n → ⊥) → Fits p bytes errs warns many
-fits-of p bytes errs warns many n f h =
+pub fits-of : (p : Place) (bytes errs warns many : ℕ) → ◌≡◌ {A = ℕ} 0 (lack_of p bytes errs warns many) → Fits p bytes errs warns many
+fits-of p bytes errs warns many f =
     go (leb p.errors errs) refl (leb p.warnings warns) refl (leb p.lefts many) refl (leb p.written bytes) refl p.fits refl f
   where
     go : (b : Bool) → leb p.errors errs ≡ b → (c : Bool) → leb p.warnings warns ≡ c → (d : Bool) → leb p.lefts many ≡ d → (e : Bool) → leb p.written bytes ≡ e
-        → (g : Bool) → p.fits ≡ g → n ≡ cond (b && c && d) (cond (e && g) 0 15) 14 → Fits p bytes errs warns many
+        → (g : Bool) → p.fits ≡ g → ◌≡◌ {A = ℕ} 0 (cond (b && c && d) (cond (e && g) 0 15) 14) → Fits p bytes errs warns many
     go true eb true ec true ed true ee true eg z = record { errors = leb-true _ _ eb; warnings = leb-true _ _ ec; lefts = leb-true _ _ ed; written = leb-true _ _ ee; fits = eg }
-    go true eb true ec true ed true ee false eg z = absurd (h (omega arith))
-    go true eb true ec true ed false ee g eg z = absurd (h (omega arith))
-    go true eb true ec false ed e ee g eg z = absurd (h (omega arith))
-    go true eb false ec d ed e ee g eg z = absurd (h (omega arith))
-    go false eb c ec d ed e ee g eg z = absurd (h (omega arith))
-
-lack-low : (p : Place) (bytes errs warns many : ℕ) → lack_of p bytes errs warns many ≤ 15
-lack-low p bytes errs warns many = go (leb p.errors errs && leb p.warnings warns && leb p.lefts many) (leb p.written bytes && p.fits)
-  where
-    go : (b c : Bool) → cond b (cond c 0 15) 14 ≤ 15
-    go true true = omega arith
-    go true false = omega arith
-    go false c = omega arith
-
--- the outcome of a fault, and without one
-abbrev accepted_at : Place → Outcome
-accepted_at p = Accepted (record { written = p.written; errors = p.errors / 12; warnings = p.warnings / 2; lefts = p.lefts / 3 })
-
-outcome-refused : (r : Seen) → 0 < r.fault → outcome_in r ≡ Refused r.fault
-outcome-refused r h = ap (λ (b : Bool). cond b (accepted_at r.place) (Refused r.fault)) (ne_eqb r.fault 0 (λ e. omega arith))
-
-outcome-accepted : (r : Seen) → r.fault ≡ 0 → outcome_in r ≡ accepted_at r.place
-outcome-accepted r e = ap (λ (b : Bool). cond b (accepted_at r.place) (Refused r.fault)) (eq-eqb r.fault 0 e)
-
--- the outcome as the code makes it
-pub outcome-fault : (r : Seen) → 0 < r.fault → Refused r.fault ≡ outcome_in r
-outcome-fault r h = sym (outcome-refused r h)
-
-pub outcome-place : (r : Seen) → r.fault ≤ 0 → accepted_at r.place ≡ outcome_in r
-outcome-place r h = sym (outcome-accepted r (omega arith))
+    go true eb true ec true ed true ee false eg z = absurd (omega arith)
+    go true eb true ec true ed false ee g eg z = absurd (omega arith)
+    go true eb true ec false ed e ee g eg z = absurd (omega arith)
+    go true eb false ec d ed e ee g eg z = absurd (omega arith)
+    go false eb c ec d ed e ee g eg z = absurd (omega arith)
 
 -- with so many rows the largest comes to no 254
 reaches : (largest : Bool) (rows : ℕ) → (largest ≡ true → 13248 ≤ rows) → rows < 13248 → largest ≡ false
@@ -243,76 +244,88 @@ reaches true rows h l = absurd (omega (arith, h refl))
 
 -- an image that was read, walked into some memory of our own
 module _ (value : ℕ) (high : value ≤ 15) (s : List ℕ) (i : Image) (e : decode version1 s ≡ accepted i) (largest : Bool) (rows : ℕ) (many : largest ≡ true → 13248 ≤ rows)
-    {own own' : Memory} {w : Seen} (g : ImageWalks (switches_of value) s rows own w own') where
-  pub judge-walk : (m : Memory) → 0 < w.fault → Judges value largest s m w m
-  judge-walk m f = record {
-    short = λ z. (reaches largest rows many (g.short z), refl);
-    passes = λ z. subst (λ (o : Outcome). Passes value s m o m) (sym (outcome-refused w f)) (refused-walk value high s i e m w.fault (g.walks z i e).0 f);
-  }
+    {own own' : Memory} {w : Result Place Stop} (g : ImageWalks (switches_of value) s rows own w own') where
+  stopped : (m : Memory) (k : Stop) → ImageWalks (switches_of value) s rows own (Err k) own' → Judges value largest s m (Err k) m
+  stopped m Rows h = record { short = λ z. (reaches largest rows many (h.short refl), refl); passes = tt }
+  stopped m (Stopped f) h =
+      let k : fault_number f ≡ 254 → ⊥ = λ z. omega (arith, (fault-bounds f).1) in
+      record { short = λ z. absurd (k z); passes = refused-walk value high s i e m f (h.walks k i e).0 }
 
-  module _ (f : w.fault ≤ 0) where
-    calm : w.fault ≡ 254 → ⊥
-    calm z = omega arith
+  pub judge-walk : (m : Memory) (k : Stop) → w ≡ Err k → Judges value largest s m (Err k) m
+  judge-walk m k z = stopped m k (subst (λ x. ImageWalks (switches_of value) s rows own x own') z g)
+
+  module _ (p : Place) (z : w ≡ Ok p) where
+    walked-whole : (◌≡◌ {A = ℕ} 0 (number_of (image_fault version1 (switches_of value) i))) × ImageDone (switches_of value) i own p own'
+    walked-whole =
+        let h : ImageWalks (switches_of value) s rows own (Ok p) own' = subst (λ x. ImageWalks (switches_of value) s rows own x own') z g in
+        h.walks (λ y. let x : ◌≡◌ {A = ℕ} 0 254 = y in omega arith) i e
 
     found_none : image_fault version1 (switches_of value) i ≡ none
-    found_none = none_found value high s i e own w.fault (g.walks calm i e).0 (λ z. omega arith)
+    found_none = real-none (image_fault version1 (switches_of value) i) (real-image version1 (switches_of value) i) (sym walked-whole.0)
 
-    image-is-done : ImageDone (switches_of value) i own w.place own'
-    image-is-done = (g.walks calm i e).1 found_none
+    module _ (m : Memory) (r : Result (Unit {0}) Fault) (en : number_in r ≡ lack_of p (length m.out) (length m.errs) (length m.warns) (length m.lefts)) where
+      pub judge-room : (f : Fault) → r ≡ Err f → Judges value largest s m (Err (Stopped f)) m
+      judge-room f k = record {
+        short = λ y. absurd (let l = (fault-bounds f).1 in omega arith);
+        passes = refused-room value high s i e m found_none walked-whole.1 f (sym (ap number_in k) ∙ en);
+      }
 
-    module _ (m : Memory) (n : ℕ) (en : n ≡ lack_of w.place (length m.out) (length m.errs) (length m.warns) (length m.lefts)) where
-      pub judge-room : (x : Seen) → x ≡ record { fault = n; place = w.place } → 0 < n → Judges value largest s m x m
-      judge-room x ex k =
-          let ef : x.fault ≡ n = ap (λ (y : Seen). y.fault) ex in
-          record {
-            short = λ z. absurd (omega (arith, ef, en, lack-low w.place (length m.out) (length m.errs) (length m.warns) (length m.lefts)));
-            passes = λ z. subst (λ (o : Outcome). Passes value s m o m) (sym (outcome-refused x (omega arith) ∙ ap Refused ef)) (refused-room value high s i e m found_none image-is-done n en k);
-          }
+      module _ (u : Unit {0}) (k : r ≡ Ok u) where
+        lent-none : ◌≡◌ {A = ℕ} 0 (lack_of p (length m.out) (length m.errs) (length m.warns) (length m.lefts))
+        lent-none = sym (ap number_in k) ∙ en
 
-      module _ (k : n ≤ 0) where
-        pub room-lent : Fits w.place (length m.out) (length m.errs) (length m.warns) (length m.lefts)
-        room-lent = fits-of w.place _ _ _ _ n en (λ z. omega arith)
+        pub room-lent : Fits p (length m.out) (length m.errs) (length m.warns) (length m.lefts)
+        room-lent = fits-of p _ _ _ _ lent-none
 
-        pub room-own : (l : ℕ) → l ≡ lack_of w.place (length own'.out) (length own'.errs) (length own'.warns) (length own'.lefts) → l ≡ 0
-            → Fits w.place (length own'.out) (length own'.errs) (length own'.warns) (length own'.lefts)
-        room-own l el zl = fits-of w.place _ _ _ _ l el (λ z. omega arith)
-
-        answers-it : (m' : Memory) → Passes value s m (outcome_in w) m' → Judges value largest s m w m'
-        answers-it m' a = record { short = λ z. absurd (calm z); passes = λ z. a }
+        answers-it : (m' : Memory) → Passes value s m (Ok (totals_at p)) m' → Judges value largest s m (Ok p) m'
+        answers-it m' a = record { short = λ y. absurd (let x : ◌≡◌ {A = ℕ} 0 254 = y in omega arith); passes = a }
 
         -- what our own memory holds is copied
-        pub judge-copied : (l : ℕ) → l ≡ lack_of w.place (length own'.out) (length own'.errs) (length own'.warns) (length own'.lefts) → l ≡ 0
-            → (m' : Memory) → CopiesAll w.place own' m m' → Judges value largest s m w m'
-        judge-copied l el zl m' c =
-            let d = image-is-done in
-            let a = room-lent in
-            let b = room-own l el zl in
-            answers-it m' (answered value high s i e m found_none d n en (λ z. omega arith) (outcome_in w) (outcome-accepted w (omega arith)) m'
-            (c.bytes ∙ copied-front m.out (d.bytes b.fits) b.written a.written) (c.errors ∙ copied-front m.errs d.errors b.errors a.errors)
-            (c.warnings ∙ copied-front m.warns d.warnings b.warnings a.warnings) (c.lefts ∙ copied-front m.lefts d.lefts b.lefts a.lefts))
+        module _ (q : Result (Unit {0}) Fault) (eq : number_in q ≡ lack_of p (length own'.out) (length own'.errs) (length own'.warns) (length own'.lefts)) (fine : IsOk q) where
+          pub room-own : Fits p (length own'.out) (length own'.errs) (length own'.warns) (length own'.lefts)
+          room-own = fits-of p _ _ _ _ (none-in q fine ∙ eq)
+
+          pub judge-copied : (m' : Memory) → CopiesAll p own' m m' → Judges value largest s m (Ok p) m'
+          judge-copied m' c =
+              let d = walked-whole.1 in
+              let a = room-lent in
+              let b = room-own in
+              answers-it m' (answered value high s i e m found_none d lent-none m'
+              (c.bytes ∙ copied-front m.out (d.bytes b.fits) b.written a.written) (c.errors ∙ copied-front m.errs d.errors b.errors a.errors)
+              (c.warnings ∙ copied-front m.warns d.warnings b.warnings a.warnings) (c.lefts ∙ copied-front m.lefts d.lefts b.lefts a.lefts))
 
         -- or the largest walks again, into the memory lent
-        pub judge-again : largest ≡ true → (rows' : ℕ) → rows' ≡ rows → {v : Seen} (m' : Memory) → ImageWalks (switches_of value) s rows' m v m' → Judges value largest s m w m'
+        pub judge-again : largest ≡ true → (rows' : ℕ) → rows' ≡ rows → {v : Result Place Stop} (m' : Memory) → ImageWalks (switches_of value) s rows' m v m' → Judges value largest s m (Ok p) m'
         judge-again big rows' er {v} m' again =
-            let d = image-is-done in
+            let d = walked-whole.1 in
             let a = room-lent in
-            let u = (again.walks (λ z. let b = again.short z in let c = many big in omega arith) i e).1 found_none in
-            answers-it m' (answered value high s i e m found_none d n en (λ z. omega arith) (outcome_in w) (outcome-accepted w (omega arith)) m'
+            let o : fault_of_walk v ≡ 254 → ⊥ = λ y. let b = again.short y in let c = many big in omega arith in
+            let x = again.walks o i e in
+            let y = walk-came v (x.0 ∙ ap number_of found_none) in
+            let u = IfOk-at_ok (λ (k : Place). ImageDone (switches_of value) i m k m') y.1 x.1 in
+            answers-it m' (answered value high s i e m found_none d lent-none m'
             (stored-front (u.bytes (u.fits ∙ sym d.fits ∙ a.fits)) (omega (arith, u.long, d.long, a.written)))
             (stored-front u.errors (omega (arith, u.errors.place, d.errors.place, a.errors)))
             (stored-front u.warnings (omega (arith, u.warnings.place, d.warnings.place, a.warnings)))
             (stored-front u.lefts (omega (arith, u.lefts.place, d.lefts.place, a.lefts))))
 
 -- or a smaller one says that its memory does not reach
-pub judge-small : (value : ℕ) (largest : Bool) (s : List ℕ) (m : Memory) (p : Place) (x : Seen) → x ≡ record { fault = 254; place = p } → largest ≡ false → Judges value largest s m x m
-judge-small value largest s m p x ex e = record { short = λ z. (e, refl); passes = λ z. absurd (z (ap (λ (y : Seen). y.fault) ex)) }
+pub judge-small : (value : ℕ) (largest : Bool) (s : List ℕ) (m : Memory) → largest ≡ false → Judges value largest s m (Err Rows) m
+judge-small value largest s m e = record { short = λ z. (e, refl); passes = tt }
 
 -- a size that reaches, and the next where one does not
-pub judged : (value : ℕ) (largest : Bool) (s : List ℕ) (m : Memory) (w : Seen) (m' : Memory) → Judges value largest s m w m' → (w.fault ≡ 254 → ⊥) → (o : Outcome) → o ≡ outcome_in w → Passes value s m o m'
-judged value largest s m w m' j z o e = subst (λ (x : Outcome). Passes value s m x m') (sym e) (j.passes z)
+module _ {value : ℕ} {largest : Bool} {s : List ℕ} {m m' : Memory} {w : Result Place Stop} (j : Judges value largest s m w m') where
+  at-answer : (x : Result Place Stop) → w ≡ x → Judges value largest s m x m'
+  at-answer x e = subst (λ (y : Result Place Stop). Judges value largest s m y m') e j
 
-pub judged-next : (value : ℕ) (s : List ℕ) (m : Memory) (w : Seen) (m' : Memory) → Judges value false s m w m' → w.fault ≡ 254 → (r : Outcome) (m'' : Memory) → Passes value s m' r m'' → Passes value s m r m''
-judged-next value s m w m' j z r m'' p = subst (λ (x : Memory). Passes value s x r m'') (j.short z).1 p
+  pub judged : (p : Place) → w ≡ Ok p → Passes value s m (Ok (totals_at p)) m'
+  judged p e = (at-answer (Ok p) e).passes
 
-pub judged-long : (value : ℕ) (s : List ℕ) (m : Memory) (w : Seen) (m' : Memory) → Judges value true s m w m' → (o : Outcome) → o ≡ outcome_in w → Passes value s m o m'
-judged-long value s m w m' j o e = judged value true s m w m' j (λ z. false-true (sym (j.short z).0)) o e
+  pub judged-fault : (f : Fault) → w ≡ Err (Stopped f) → Passes value s m (Err f) m'
+  judged-fault f e = (at-answer (Err (Stopped f)) e).passes
+
+  pub judged-larger : w ≡ Err Rows → largest ≡ false
+  judged-larger e = (j.short (ap fault_of_walk e)).0
+
+  pub judged-next : w ≡ Err Rows → (r : Result Totals Fault) (m'' : Memory) → Passes value s m' r m'' → Passes value s m r m''
+  judged-next e r m'' p = subst (λ (x : Memory). Passes value s x r m'') (j.short (ap fault_of_walk e)).1 p

@@ -7,16 +7,18 @@ ghost use Rattle.std.proofs.lemmas.List.Edits.{sets};
 ghost use Rattle.std.proofs.Math.Seq.{slice};
 ghost use Rattle.image_writing.specs.Memory.{memory};
 ghost use Rattle.entries_verdict.specs.Passes.{Passes};
-ghost use Rattle.entries_image.specs.Images.{ImageThere};
+ghost use Rattle.entries_image.specs.Images.{ImageThere, number_in};
 ghost use Rattle.entries_verdict.specs.Verdicts.{lack_of, Fits, CopiesAll, Judges};
 
 use blocks_ends::Env;
-use entries_image::{Seen, seen_at, walk_image};
+use entries_image::walk_image;
 use image::ImageRead;
+use image_fields::Fault;
+use scope_rows::Stop;
 use statements_acts::Place;
 
-// Bytes written and entries of each list.
-#[derive(Clone, Copy)]
+// Of an image that is accepted: bytes written and entries of each list.
+#[derive(Clone, Copy, Debug, PartialEq, Eq)]
 pub struct Totals {
     pub written: usize,
     pub errors: usize,
@@ -24,30 +26,23 @@ pub struct Totals {
     pub lefts: usize,
 }
 
-// What the entry that gives back the body answers; of a refusal, the fault.
-#[derive(Clone, Copy)]
-pub enum Outcome {
-    Accepted(Totals),
-    Refused(u8),
-}
-
-// Faults 14 and 15 of a walk that ended at a place, by the lengths lent, or 0.
-pub fn room_fault(p: Place, bytes: usize, errs: usize, warns: usize, lefts: usize) -> u8
-    ensures { result ≡ lack_of p bytes errs warns lefts }
+// Faults 14 and 15 of a walk that ended at a place, by the lengths lent.
+pub fn room_fault(
+    p: Place,
+    bytes: usize,
+    errs: usize,
+    warns: usize,
+    lefts: usize,
+) -> Result<(), Fault>
+    ensures { number_in result ≡ lack_of p bytes errs warns lefts }
 {
-    if errs < p.errors {
-        return 14;
+    if errs < p.errors || warns < p.warnings || lefts < p.lefts {
+        return Err(Fault::Lists);
     }
-    if warns < p.warnings {
-        return 14;
+    if bytes < p.written || !p.fits {
+        return Err(Fault::Output);
     }
-    if lefts < p.lefts {
-        return 14;
-    }
-    if bytes < p.written {
-        return 15;
-    }
-    if p.fits { 0 } else { 15 }
+    Ok(())
 }
 
 // The first numbers of a list in front of another.
@@ -55,11 +50,7 @@ pub fn copy_numbers(from: &[u32], many: usize, to: &mut [u32])
     requires { (many ≤ length from.now) × (many ≤ length to.old) }
     ensures { to.new ≡ sets to.old 0 (slice 0 many from.now) }
 {
-    let mut i = 0;
-    while i < many {
-        to[i] = from[i];
-        i += 1;
-    }
+    to[..many].copy_from_slice(&from[..many]);
 }
 
 // What our own memory holds, in front of what is lent.
@@ -84,7 +75,7 @@ fn copy_all(
 }
 
 // The image that was read, walked into memory of our own first: what is lent changes only once no fault is left. If our own memory
-// holds all of it, that is copied; else the largest walks again, and a smaller one says so.
+// holds all of it, that is copied; else the largest walks again, and a smaller one says so (`Stop::Rows`).
 pub fn judge(
     s: &[u8],
     tb: &[u32],
@@ -100,26 +91,20 @@ pub fn judge(
     errs: &mut [u32],
     warns: &mut [u32],
     lefts: &mut [u32],
-) -> Seen
+) -> Result<Place, Stop>
     requires { ImageThere s.now tb.now env read.entry read.body × (length bytes.old ≤ 65536) × (largest ≡ true → 13248 ≤ length rows.old) }
     ensures { Judges env.switches largest s.now (memory out.old errs.old warns.old lefts.old) result (memory out.new errs.new warns.new lefts.new) }
 {
-    let w = walk_image(s, tb, env, read, rows, bytes, told, warned, left);
-    if 0 < w.fault {
-        return w;
-    }
-    let p = w.place;
-    let lack = room_fault(p, out.len(), errs.len(), warns.len(), lefts.len());
-    if 0 < lack {
-        return seen_at(lack, p);
-    }
-    if room_fault(p, bytes.len(), told.len(), warned.len(), left.len()) == 0 {
+    let p = walk_image(s, tb, env, read, rows, bytes, told, warned, left)?;
+    room_fault(p, out.len(), errs.len(), warns.len(), lefts.len()).map_err(Stop::Fault)?;
+    if room_fault(p, bytes.len(), told.len(), warned.len(), left.len()).is_ok() {
         copy_all(p, bytes, told, warned, left, out, errs, warns, lefts);
-        return w;
+        return Ok(p);
     }
     if largest {
-        walk_image(s, tb, env, read, rows, out, errs, warns, lefts);
-        return w;
+        // It comes to the same place.
+        let _ = walk_image(s, tb, env, read, rows, out, errs, warns, lefts);
+        return Ok(p);
     }
-    seen_at(254, p)
+    Err(Stop::Rows)
 }

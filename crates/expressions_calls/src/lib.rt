@@ -19,18 +19,15 @@ ghost use Rattle.expressions_effects.specs.Asked.{emits};
 
 use expressions_effects::{Effect, is_temp, name_at, span_at};
 use image_body::Node;
-use image_fields::{peek, peek_two, wide16};
+use image_fields::{peek, peek_two};
 
 // Whether a name is the table's `std::move`.
 fn is_move(s: &[u8], names: &[u32], n: u16) -> bool
     requires { AllWithin s.now names.now }
     ensures { (T : Tables) → map (name_of s.now) names.now ≡ T.names → result ≡ is_move_of T n }
 {
-    let k = wide16(n);
-    if k < names.len() {
-        return tables_named::is_move(s, names, k);
-    }
-    false
+    let k = usize::from(n);
+    k < names.len() && tables_named::is_move(s, names, k)
 }
 
 // Whether a method consumes a receiver of the type.
@@ -39,10 +36,7 @@ fn consumes(s: &[u8], types: &[u32], structs: &[u32], ty: usize, method: usize) 
     ensures { (T : Tables) → map (type_in s.now) types.now ≡ T.types
         → map (struct_in s.now) structs.now ≡ T.structs → result ≡ consuming T ty method }
 {
-    match tables_named::method_modifier(s, types, structs, ty, method) {
-        tables_lookup::Found::At(k) => k == 3,
-        tables_lookup::Found::Nothing => false,
-    }
+    tables_named::method_modifier(s, types, structs, ty, method) == Some(3)
 }
 
 // The receiver that the call with the callee at `at` consumes.
@@ -63,9 +57,10 @@ fn consuming_method_receiver(s: &[u8], types: &[u32], structs: &[u32], at: usize
     let ty = peek_two(s, target + 5);
     let method = peek_two(s, q + 9);
     if consumes(s, types, structs, ty, method) {
-        return Effect::Consume(name_at(s, q + 7), span_at(s, p + 1));
+        Effect::Consume(name_at(s, q + 7), span_at(s, p + 1))
+    } else {
+        Effect::Nothing
     }
-    Effect::Nothing
 }
 
 fn move_local(s: &[u8], names: &[u32], n: u16, p: u32) -> Effect
@@ -73,9 +68,10 @@ fn move_local(s: &[u8], names: &[u32], n: u16, p: u32) -> Effect
     ensures { (T : Tables) → map (name_of s.now) names.now ≡ T.names → emits result ≡ move_local T n p ∷ [] }
 {
     if is_temp(s, names, n) {
-        return Effect::MoveTemp(n, p);
+        Effect::MoveTemp(n, p)
+    } else {
+        Effect::Move(n, p)
     }
-    Effect::Move(n, p)
 }
 
 fn move_ident(s: &[u8], names: &[u32], count: usize, first: usize, n: u16, p: u32) -> Effect
@@ -83,9 +79,9 @@ fn move_ident(s: &[u8], names: &[u32], count: usize, first: usize, n: u16, p: u3
     ensures { (T : Tables) → map (name_of s.now) names.now ≡ T.names
         → entries (global_in s.now) 6 count first ≡ T.globals → emits result ≡ move_ident T n p ∷ [] }
 {
-    match tables_named::global_span(s, count, first, wide16(n)) {
-        tables_lookup::Found::At(def) => Effect::GlobalMove(p, def as u32),
-        tables_lookup::Found::Nothing => move_local(s, names, n, p),
+    match tables_named::global_span(s, count, first, usize::from(n)) {
+        Some(def) => Effect::GlobalMove(p, def as u32),
+        None => move_local(s, names, n, p),
     }
 }
 
@@ -97,14 +93,11 @@ fn validate_move_argument(s: &[u8], names: &[u32], count: usize, first: usize, a
         → (e : Expr) (next : ℕ) → Stands e s.now at next → emits result ≡ move_head T (head_of e).span (head_of (through e)) ∷ [] }
 {
     let p = image_body::strip_noop_unary(s, at);
-    let tag = peek(s, p);
-    if tag == 1 {
-        return move_ident(s, names, count, first, name_at(s, p + 7), span_at(s, p + 1));
+    match peek(s, p) {
+        1 => move_ident(s, names, count, first, name_at(s, p + 7), span_at(s, p + 1)),
+        2 => move_local(s, names, 0, span_at(s, p + 1)),
+        _ => Effect::BadMove(span_at(s, at + 1)),
     }
-    if tag == 2 {
-        return move_local(s, names, 0, span_at(s, p + 1));
-    }
-    Effect::BadMove(span_at(s, at + 1))
 }
 
 // What the Intrinsic that starts there does after its arguments: `std::move` moves the first of them.
@@ -114,13 +107,12 @@ fn moves(s: &[u8], names: &[u32], count: usize, first: usize, start: usize) -> E
         → entries (global_in s.now) 6 count first ≡ T.globals
         → (e : Expr) (next : ℕ) → Stands e s.now start next → (head_of e).tag ≡ 14 → emits result ≡ finished T e }
 {
-    if is_move(s, names, name_at(s, start + 7)) {
-        if 0 < peek_two(s, start + 9) {
-            return validate_move_argument(s, names, count, first, start + 11);
-        }
-        return Effect::Nothing;
+    let many = peek_two(s, start + 9);
+    if is_move(s, names, name_at(s, start + 7)) && 0 < many {
+        validate_move_argument(s, names, count, first, start + 11)
+    } else {
+        Effect::Nothing
     }
-    Effect::Nothing
 }
 
 // What the node that starts there does after its children.
@@ -129,14 +121,16 @@ pub fn finish(s: &[u8], tb: &[u32], tag: u8, start: usize) -> Effect
     ensures { (T : Tables) → Says s.now tb.now T
         → (e : Expr) → (0 < tag → Placed s.now start e) → (head_of e).tag ≡ tag → emits result ≡ finished T e }
 {
-    if tag == 6 {
-        let types = 520 + tb[1] as usize;
-        let structs = 776 + tb[2] as usize;
-        return consuming_method_receiver(s, &tb[520..types], &tb[776..structs], start + 7);
+    match tag {
+        6 => {
+            let types = 520 + tb[1] as usize;
+            let structs = 776 + tb[2] as usize;
+            consuming_method_receiver(s, &tb[520..types], &tb[776..structs], start + 7)
+        },
+        14 => {
+            let names = 8 + tb[0] as usize;
+            moves(s, &tb[8..names], tb[3] as usize, tb[4] as usize, start)
+        },
+        _ => Effect::Nothing,
     }
-    if tag == 14 {
-        let names = 8 + tb[0] as usize;
-        return moves(s, &tb[8..names], tb[3] as usize, tb[4] as usize, start);
-    }
-    Effect::Nothing
 }

@@ -4,6 +4,8 @@ use mathlib.Core.Path.{◌≡◌, refl, sym, ap, ◌∙◌, subst}
 use mathlib.Core.List.{List, [], ◌∷◌, map}
 use mathlib.Core.Bool.{Bool, false}
 use mathlib.Core.Option.{Option, none, some}
+use Rattle.std.specs.Prelude as std
+use Rattle.std.specs.Option.{option_eq}
 use Prim.Native.Nat.{ℕ, zero, suc, ◌+◌, ◌≤◌, ◌<◌}
 use native.Mathlib.Omega.{arith}
 use lib.ListN.{length, get_or}
@@ -19,8 +21,6 @@ use Rattle.tables_lookup.specs.Name.{is_temp, is_move}
 use Rattle.tables_lookup.specs.Signature.{modifier_of, is_consuming, global_no, global_of}
 use Rattle.tables_lookup.specs.First.{first_from, and_then}
 use Rattle.tables_lookup.specs.Answer.{found_of}
-use Rattle.tables_lookup.specs.declared.Found.{Found}
-use Rattle.tables_lookup.specs.declared.Found.TheVariants.{At, Nothing}
 use Rattle.tables_lookup.proofs.First.{viewed, was-found, was-missing}
 use Rattle.rules.specs.Questions.{is_temp_of, is_move_of, consumes}
 use Rattle.rules.specs.Questions as questions
@@ -56,18 +56,19 @@ module _ (s ns : List ℕ) (T : Tables) (e : map (name_of s) ns ≡ T.names) {k 
   move-out le = sym (ap is_move (name_out le))
 
 -- methods
-module _ (s ts xs : List ℕ) (T : Tables) (et : map (type_in s) ts ≡ T.types) (ex : map (struct_in s) xs ≡ T.structs) (ty m : ℕ) {r : Found}
+said-consuming : (o : Option ℕ) → option_eq eqb (found_of o) (std.Some 3) ≡ is_consuming o
+unfolding found_of is_consuming
+said-consuming none = refl
+said-consuming (some k) = refl
+
+module _ (s ts xs : List ℕ) (T : Tables) (et : map (type_in s) ts ≡ T.types) (ex : map (struct_in s) xs ≡ T.structs) (ty m : ℕ) {r : std.Option ℕ}
     (er : r ≡ found_of (modifier_of (map (type_in s) ts) (map (struct_in s) xs) ty m)) where
   same : r ≡ found_of (modifier_of T.types T.structs ty m)
   same = er ∙ ap (λ x. found_of (modifier_of x (map (struct_in s) xs) ty m)) et ∙ ap (λ x. found_of (modifier_of T.types x ty m)) ex
 
-  pub modifier-is : {k : ℕ} → r ≡ At k → eqb k 3 ≡ consumes T ty m
-  unfolding consumes is_consuming
-  modifier-is e = sym (ap is_consuming (was-found same e))
-
-  pub no-modifier : r ≡ Nothing → false ≡ consumes T ty m
-  unfolding consumes is_consuming
-  no-modifier e = sym (ap is_consuming (was-missing same e))
+  pub asked-consuming : option_eq eqb r (std.Some 3) ≡ consumes T ty m
+  unfolding consumes
+  asked-consuming = ap (λ x. option_eq eqb x (std.Some 3)) same ∙ said-consuming (modifier_of T.types T.structs ty m)
 
 -- places in bytes fit 32 bits
 module _ (s : List ℕ) (bytes : Bytes s) where
@@ -85,7 +86,7 @@ module _ (s : List ℕ) (bytes : Bytes s) where
   span_small (suc n) first zero = four-small (first + 2)
   span_small (suc n) first (suc i) = span_small n (first + 6) i
 
-  pub global-small : (count first k : ℕ) {r : Found} {def : ℕ} → r ≡ found_of (global_of (entries (global_in s) 6 count first) k) → r ≡ At def → def < 4294967296
+  pub global-small : (count first k : ℕ) {r : std.Option ℕ} {def : ℕ} → r ≡ found_of (global_of (entries (global_in s) 6 count first) k) → r ≡ std.Some def → def < 4294967296
   unfolding global_of and_then
   global-small count first k er ed = go (first_from (λ x. eqb x.name k) 0 (entries (global_in s) 6 count first)) (was-found er ed)
     where
@@ -94,14 +95,14 @@ module _ (s : List ℕ) (bytes : Bytes s) where
       go (some i) {def} e = let z : (global_no (entries (global_in s) 6 count first) i).span ≡ def = cc in subst (λ x. x < 4294967296) z (span_small count first i)
 
 -- globals
-module _ (s : List ℕ) (count first : ℕ) (T : Tables) (e : entries (global_in s) 6 count first ≡ T.globals) {k n : ℕ} (ek : k ≡ n) (p : ℕ) {r : Found}
+module _ (s : List ℕ) (count first : ℕ) (T : Tables) (e : entries (global_in s) 6 count first ≡ T.globals) {k n : ℕ} (ek : k ≡ n) (p : ℕ) {r : std.Option ℕ}
     (er : r ≡ found_of (global_of (entries (global_in s) 6 count first) k)) where
   asked : r ≡ found_of (questions.global_in T n)
   unfolding questions.global_in
   asked = er ∙ ap (λ x. found_of (global_of x k)) e ∙ ap (λ x. found_of (global_of T.globals x)) ek
 
-  pub a-global : {def : ℕ} → r ≡ At def → moves_global p def ≡ move_ident T n p
+  pub a-global : {def : ℕ} → r ≡ std.Some def → moves_global p def ≡ move_ident T n p
   a-global ed = sym (ap (move_global T n p) (was-found asked ed))
 
-  pub no-global : r ≡ Nothing → move_local T n p ≡ move_ident T n p
+  pub no-global : r ≡ std.None → move_local T n p ≡ move_ident T n p
   no-global ed = sym (ap (move_global T n p) (was-missing asked ed))

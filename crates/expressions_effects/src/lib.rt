@@ -11,7 +11,7 @@ ghost use Rattle.rules.specs.Questions.{is_temp_of};
 ghost use Rattle.expressions_effects.specs.Asked.{leaf as leaf_at, leaf_of};
 ghost use Rattle.expressions_effects.specs.Asked.{emits};
 
-use image_fields::{peek, peek_two, wide16};
+use image_fields::{peek, peek_two};
 
 // A name and a place. UseHand is a use and then the hand-over of a temporary; MoveTemp a move of a temporary. BadMove, the move of
 // what is no name, has a place; GlobalMove a place and the place of the global's definition.
@@ -44,15 +44,13 @@ pub fn span_at(s: &[u8], at: usize) -> u32
 }
 
 // Whether a name is one of the table that begins with `__tmp`.
+// As is_move in expressions_calls with another question: one function that is handed the question would be no plainer.
 pub fn is_temp(s: &[u8], names: &[u32], n: u16) -> bool
     requires { AllWithin s.now names.now }
     ensures { (T : Tables) → map (name_of s.now) names.now ≡ T.names → result ≡ is_temp_of T n }
 {
-    let k = wide16(n);
-    if k < names.len() {
-        return tables_named::is_compiler_temp_name(s, names, k);
-    }
-    false
+    let k = usize::from(n);
+    k < names.len() && tables_named::is_compiler_temp_name(s, names, k)
 }
 
 // What is handed over: its use, and the hand-over of a temporary.
@@ -61,9 +59,10 @@ fn mark_compiler_temp_consumed(s: &[u8], names: &[u32], n: u16, p: u32) -> Effec
     ensures { (T : Tables) → map (name_of s.now) names.now ≡ T.names → emits result ≡ leaf_at T true n p }
 {
     if is_temp(s, names, n) {
-        return Effect::UseHand(n, p);
+        Effect::UseHand(n, p)
+    } else {
+        Effect::Use(n, p)
     }
-    Effect::Use(n, p)
 }
 
 // The use of a name, and its hand-over where it is handed over.
@@ -72,9 +71,10 @@ fn identifier_effect(s: &[u8], names: &[u32], handed: bool, n: u16, p: u32) -> E
     ensures { (T : Tables) → map (name_of s.now) names.now ≡ T.names → emits result ≡ leaf_at T handed n p }
 {
     if handed {
-        return mark_compiler_temp_consumed(s, names, n, p);
+        mark_compiler_temp_consumed(s, names, n, p)
+    } else {
+        Effect::Use(n, p)
     }
-    Effect::Use(n, p)
 }
 
 // What the node at p does before its children.
@@ -83,12 +83,9 @@ pub fn own(s: &[u8], names: &[u32], handed: bool, p: usize) -> Effect
     ensures { (T : Tables) → map (name_of s.now) names.now ≡ T.names
         → emits result ≡ leaf_of T handed (get_or s.now p 0) (two s.now (p + 7)) (four s.now (p + 1)) }
 {
-    let tag = peek(s, p);
-    if tag == 1 {
-        return identifier_effect(s, names, handed, name_at(s, p + 7), span_at(s, p + 1));
+    match peek(s, p) {
+        1 => identifier_effect(s, names, handed, name_at(s, p + 7), span_at(s, p + 1)),
+        2 => identifier_effect(s, names, handed, 0, span_at(s, p + 1)),
+        _ => Effect::Nothing,
     }
-    if tag == 2 {
-        return identifier_effect(s, names, handed, 0, span_at(s, p + 1));
-    }
-    Effect::Nothing
 }

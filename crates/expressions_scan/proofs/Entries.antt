@@ -4,14 +4,12 @@ use Prim.Native.Nat.{ℕ, zero, suc, ◌+◌, ◌-◌, ◌≤◌, ◌<◌}
 use mathlib.Core.Path.{◌≡◌, refl, sym, ap, ◌∙◌, subst}
 use mathlib.Core.Bool.{Bool, true, false, cond}
 use mathlib.Core.List.{List, [], ◌∷◌, ◌++◌, append_assoc, append-nil}
-use mathlib.Core.Logic.{⊎_elim}
-use borrow.Author.Tests.{eqb-true, eqb-false, eq-eqb, ne_eqb, lt-ltb, le-ltb}
+use borrow.Author.Tests.{ne_eqb, lt-ltb, le-ltb}
 use native.Mathlib.Omega.{arith}
 use native.Mathlib.Numerals.{add-one}
 use lib.Dec.{eqb, ltb}
 use lib.ListN.{length, get_or, take, drop, replicate, length-append, length-drop, length-take, get_or-append}
 use lib.Seq.{get_or-take, get_or-drop, length-take-le}
-use Rattle.image_fields.proofs.Tests.{less, split}
 use Rattle.tables.specs.Limits.{version1}
 use Rattle.rules.specs.Report.{Report, error, first, bad_use}
 use Rattle.rules.specs.Verdict.{entry_of, entries_of}
@@ -111,20 +109,6 @@ entry-most k p h ps le {n = n} {r} s =
     let t : length (take 8 (ps ++ replicate 8 0)) ≡ 8 = length-take-le 8 (ps ++ replicate 8 0) (omega arith) in
     let b = s.place in
     omega arith
-
--- the kinds that give all places
-pub gives-3 : (k : ℕ) → k ≡ 3 → true ≡ eqb (base_of k) 3
-gives-3 k e = rw e
-
-pub gives-6 : (k : ℕ) → (k ≡ 3 → ⊥) → eqb k 6 ≡ eqb (base_of k) 3
-gives-6 k n = ⊎_elim (λ h. high h) (λ h. low h) (less 3 k)
-  where
-    low : k ≤ 3 → eqb k 6 ≡ eqb (base_of k) 3
-    low h = rw (le-ltb 3 k h, ne_eqb k 6 (λ e. omega arith), ne_eqb k 3 n)
-
-    high : 3 < k → eqb k 6 ≡ eqb (base_of k) 3
-    high h = rw (lt-ltb 3 k h) (⊎_elim (λ (e : eqb k 6 ≡ true). e ∙ sym (eq-eqb (k - 3) 3 (let z = eqb-true k 6 e in omega arith)))
-        (λ (e : eqb k 6 ≡ false). e ∙ sym (ne_eqb (k - 3) 3 (λ q. eqb-false k 6 e (omega arith)))) (split (eqb k 6)))
 
 first_of : (n : ℕ) (xs : List ℕ) → 0 < n → 0 < length xs → first (take n xs) ≡ get_or xs 0 0 ∷ []
 first_of zero xs a b = absurd (omega arith)

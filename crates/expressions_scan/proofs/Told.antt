@@ -30,7 +30,7 @@ use Rattle.image_lines.proofs.Entries.{error-entry}
 use Rattle.image_lines.proofs.Told.{true-false, listed-none, listed-lines}
 use Rattle.expressions_scan.specs.States.{Kept, AllKept}
 use Rattle.expressions_scan.specs.declared.Answer.{Answer}
-use Rattle.expressions_scan.specs.declared.Change.TheVariants as change
+use Rattle.std.specs.Prelude.{None}
 use Rattle.expressions_scan.specs.Changes.{told, Answers, Tells}
 use Rattle.expressions_scan.proofs.Effects.{hand-told, gives-told}
 
@@ -165,6 +165,6 @@ module _ {b : Bool} {rs : List Raw} {σ : Scope Status} {old out : List ℕ} {n 
     }
 
 -- no effect
-pub tells_none : {b : Bool} {e : Effect} {σ : Scope Status} {old out : List ℕ} {n : ℕ} → e ≡ effect.Nothing → Tells b (emits e) σ old out n old out (record { told = n; change = change.Nothing })
+pub tells_none : {b : Bool} {e : Effect} {σ : Scope Status} {old out : List ℕ} {n : ℕ} → e ≡ effect.Nothing → Tells b (emits e) σ old out n old out (record { told = n; change = None })
 unfolding resolve_all
-tells_none {b} {e} {σ} {old} {out} {n} q = subst (λ (x : Effect). Tells b (emits x) σ old out n old out (record { told = n; change = change.Nothing })) (sym q) (record { locals = refl; errors = listed-none b old out n })
+tells_none {b} {e} {σ} {old} {out} {n} q = subst (λ (x : Effect). Tells b (emits x) σ old out n old out (record { told = n; change = None })) (sym q) (record { locals = refl; errors = listed-none b old out n })

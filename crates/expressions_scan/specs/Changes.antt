@@ -1,5 +1,5 @@
 -- What raw effects do to the locals of a stack, what they report of them, and the change that the code hands out instead.
-use Rattle.std.specs.Prelude.{ℕ, ◌+◌, ◌≤◌, ◌<◌, ◌≡◌, Bool, List, [], ◌∷◌}
+use Rattle.std.specs.Prelude.{ℕ, ◌+◌, ◌≤◌, ◌<◌, ◌≡◌, Bool, List, [], ◌∷◌, Option, None, Some}
 use Rattle.tables.specs.Limits.{version1}
 use Rattle.image_body.specs.Expr.{Exprs}
 use Rattle.image_body.specs.Stands.{StandAll, count}
@@ -13,8 +13,7 @@ use Rattle.rules.specs.Effects.{Raw, resolve_all}
 use Rattle.scope_state.specs.Kinds.{said, put}
 use Rattle.image_writing.specs.Stored.{Stored}
 use Rattle.image_lines.specs.Told.{Listed}
-use Rattle.expressions_scan.specs.declared.Change.{Change}
-use Rattle.expressions_scan.specs.declared.Change.TheVariants.{Nothing, Mark}
+use Rattle.expressions_scan.specs.declared.Mark.{Mark}
 use Rattle.expressions_scan.specs.declared.Answer.{Answer}
 
 -- the locals after raw effects, and what is reported
@@ -25,9 +24,9 @@ abbrev pub told : List Raw → Scope Status → List Report
 told rs σ = report_all (resolve_all (shape σ) rs) σ
 
 -- a change: of a name, a kind, a place, and whether only what is Alive is marked
-abbrev pub applied : Change → Scope Status → Scope Status
-applied Nothing σ = σ
-applied (Mark n k p o) σ = mark n (put o (said k (p ∷ []))) σ
+abbrev pub applied : Option Mark → Scope Status → Scope Status
+applied None σ = σ
+applied (Some m) σ = mark m.name (put m.only_alive (said m.kind (m.place ∷ []))) σ
 
 -- the change that raw effects make of a stack, and what they report stored behind the first n numbers
 pub record Answers (rs : List Raw) (σ : Scope Status) (old : List ℕ) (n : ℕ) (new : List ℕ) (r : Answer) : Type 0 where
@@ -40,9 +39,9 @@ pub record Tells (paged : Bool) (rs : List Raw) (σ : Scope Status) (old out : L
   pub errors : Listed paged (told rs σ) old out n new out' r.told
 
 -- a mark is one of the kinds 1 to 6
-abbrev pub Marks : Change → Type 0
-Marks Nothing = Unit {0}
-Marks (Mark n k p o) = (0 < k) × (k < 7)
+abbrev pub Marks : Option Mark → Type 0
+Marks None = Unit {0}
+Marks (Some m) = (0 < m.kind) × (m.kind < 7)
 
 -- at most one error, of 12 numbers
 pub record Small (n : ℕ) (old new : List ℕ) (r : Answer) : Type 0 where

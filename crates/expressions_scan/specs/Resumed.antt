@@ -1,5 +1,5 @@
--- Open nodes in a lent array of numbers, and what a scan that goes on from them does up to the next change.
-use Rattle.std.specs.Prelude.{ℕ, ◌+◌, ◌*◌, ◌/◌, ◌%◌, ◌≤◌, ◌<◌, ◌≡◌, Bool, List, ◌++◌, map}
+-- What a scan that goes on from open nodes does up to the next change.
+use Rattle.std.specs.Prelude.{ℕ, ◌+◌, ◌*◌, ◌≤◌, ◌<◌, ◌≡◌, Bool, List, ◌++◌, Option, None, Some}
 use Rattle.tables.specs.Tables.{Tables}
 use Rattle.rules.specs.State.{State as Status}
 use Rattle.rules.specs.Stack.{Stack as Scope}
@@ -7,17 +7,9 @@ use Rattle.rules.specs.Report.{Report}
 use Rattle.expressions_steps.specs.Scan.{Stage, Stacked, pending, Ready, fuel}
 use Rattle.expressions_steps.specs.declared.Open.{Open}
 use Rattle.image_lines.specs.Told.{Listed}
-use Rattle.expressions_scan.specs.declared.Change.{Change}
-use Rattle.expressions_scan.specs.declared.Change.TheVariants.{Nothing, Mark}
+use Rattle.expressions_scan.specs.declared.Mark.{Mark}
 use Rattle.expressions_scan.specs.declared.Scanned.{Scanned}
 use Rattle.expressions_scan.specs.Changes.{after, told, Marks}
-
--- an open node as one number: where it starts, children left, tag, bytes of the count
-abbrev pub open_of : ℕ → Open
-open_of x = record { start = x / 4294967296; left = x / 65536 % 65536; tag = x / 256 % 256; counted = x % 256 }
-
-unfoldable pub opens : List ℕ → List Open
-opens ns = map open_of ns
 
 -- of open nodes with trees: the open nodes now, with what is left of the trees; what was pending is what was done and what is
 -- pending now, on the locals now
@@ -35,9 +27,9 @@ pub record Onward (T : Tables) (s : List ℕ) (os : List Open) (n p : ℕ) (σ :
   pub goes : (frames : List Stage) (end : ℕ) → Stacked os n frames s p end → Rest T s frames end σ os' n' p' τ reports
 
 -- without a change no node is open; with one the scan came forward
-abbrev pub Came : Change → ℕ → ℕ → ℕ → Type 0
-Came Nothing nodes before now = nodes ≡ 0
-Came (Mark n k p o) nodes before now = now < before
+abbrev pub Came : Option Mark → ℕ → ℕ → ℕ → Type 0
+Came None nodes before now = nodes ≡ 0
+Came (Some m) nodes before now = now < before
 
 -- it can go on, to the end that the open nodes had, and stores at most 12 numbers or 219 bytes for a step
 pub record Going (s : List ℕ) (old : List Open) (n p m : ℕ) (os : List Open) (r : Scanned) : Type 0 where

@@ -1,3 +1,4 @@
+mod Takes
 -- Laws for whoever scans: the scan's start, steps and end.
 pub mod Start
 pub mod Follows

@@ -25,6 +25,7 @@ use Rattle.expressions_steps.specs.Scan.{blank, Stage, Fits, Stacked, rest, pend
 use Rattle.expressions_effects.specs.declared.Effect.{Effect}
 use Rattle.expressions_effects.specs.declared.Effect.TheVariants.{Nothing}
 use Rattle.expressions_steps.specs.declared.Open.{Open}
+use Rattle.expressions_steps.specs.declared.Innermost.TheVariants.{Ends, Stays, Opens}
 use Rattle.expressions_effects.proofs.Laws.{through-depth, later, opened, regroup, inside_of, leaf-empty}
 
 -- the innermost open node
@@ -147,18 +148,17 @@ module _ (s : List ℕ) (os : List Open) (n p e : ℕ) (frames : List Stage) (lt
         low-items = omega arith;
       }
 
-  count-stacked : (l : ℕ) (i : Open) → o.left ≤ 0 → 0 < o.counted → l ≡ two s p
-      → Stacked (set (set os (n - 1) (after-count l).code) n i) (n - 1 + 1) (after-count l ∷ t.fs) s (p + 2) e
+  count-stacked : (l : ℕ) → o.left ≤ 0 → 0 < o.counted → l ≡ two s p
+      → Stacked (set os (n - 1) (after-count l).code) (n - 1 + 1) (after-count l ∷ t.fs) s (p + 2) e
   unfolding Stacked
-  count-stacked l i le pos el =
-      let ix = (sees s os n p e frames lt g).index in
-      let os1 = set os (n - 1) (after-count l).code in (
+  count-stacked l le pos el =
+      let ix = (sees s os n p e frames lt g).index in (
         n - 1,
         t.q,
         omega arith,
-        get_or-set_other os1 n (n - 1) i blank (λ x. omega arith) ∙ get_or-set_same os (n - 1) (after-count l).code blank (omega arith),
+        get_or-set_same os (n - 1) (after-count l).code blank (omega arith),
         count_fits l le pos el,
-        set-above os1 n i (n - 1) t.fs s t.q e (omega arith) (set-above os (n - 1) (after-count l).code (n - 1) t.fs s t.q e (omega arith) t.below),
+        set-above os (n - 1) (after-count l).code (n - 1) t.fs s t.q e (omega arith) t.below,
       )
 
   count-tells : (T : Tables) (l : ℕ) → o.left ≤ 0 → pending T frames ≡ pending T (after-count l ∷ t.fs)
@@ -358,18 +358,16 @@ module _ (s : List ℕ) (os : List Open) (n p e : ℕ) (frames : List Stage) (lt
           let c0 = none_of.2 in let a0 = none_of.3 in
           omega arith
 
-      leaf-stacked : (i : Open) → Stacked (set (set os (n - 1) lower-stage.code) n i) (n - 1 + 1) (lower-stage ∷ t.fs) s (r + 7 + b) e
+      leaf-stacked : Stacked (set os (n - 1) lower-stage.code) (n - 1 + 1) (lower-stage ∷ t.fs) s (r + 7 + b) e
       unfolding Stacked
-      leaf-stacked i =
-          let ix = child-sees.index in
-          let os1 = set os (n - 1) lower-stage.code in (
+      leaf-stacked =
+          let ix = child-sees.index in (
             n - 1,
             t.q,
             omega arith,
-            get_or-set_other os1 n (n - 1) i blank (λ x. omega arith) ∙ get_or-set_same os (n - 1) lower-stage.code blank (omega arith),
+            get_or-set_same os (n - 1) lower-stage.code blank (omega arith),
             subst (λ x. Fits s lower-stage (n - 1) x t.q) leaf-end lower-fits,
-            set-above os1 n i (n - 1) t.fs s t.q e (omega arith)
-                (set-above os (n - 1) lower-stage.code (n - 1) t.fs s t.q e (omega arith) t.below),
+            set-above os (n - 1) lower-stage.code (n - 1) t.fs s t.q e (omega arith) t.below,
           )
 
       leaf-rest : (T : Tables) (l ct : ℕ) → rest T (opened-stage tag l ct) ≡ []
@@ -402,7 +400,7 @@ module _ (s : List ℕ) (os : List Open) (n p : ℕ) (ready : Ready s os n p) (l
   pub goes-child : (T : Tables) (r : ℕ) → Looked s p r → 0 < o.left
       → (told : Effect) (hd : Bool) (tag l ct b : ℕ) → tag ≡ get_or s r 0 → l ≡ get_or fixed_count tag 0 → ct ≡ get_or count_width tag 0 → b ≡ get_or arg_width tag 0
       → hd ≡ handed o.counted o.tag → emits told ≡ leaf_of T hd (get_or s r 0) (two s (r + 7)) (four s (r + 1))
-      → Goes T s os n p (record { effect = told; at = r + 7 + b; held = 2; top = record { start = o.start; left = o.left - 1; tag = o.tag; counted = o.counted }; inner = record { start = r; left = l; tag = tag; counted = ct } })
+      → Goes T s os n p (record { effect = told; at = r + 7 + b; innermost = Opens (record { start = o.start; left = o.left - 1; tag = o.tag; counted = o.counted }) (record { start = r; left = l; tag = tag; counted = ct }) })
   goes-child T r look pos told hd tag l ct b et el ec eb eh tl =
       let z = seen-child r look pos in
       let rm = z.room in
@@ -420,10 +418,10 @@ module _ (s : List ℕ) (os : List Open) (n p : ℕ) (ready : Ready s os n p) (l
       }
 
   pub goes-leaf : (T : Tables) (r : ℕ) → Looked s p r → 0 < o.left
-      → (told : Effect) (hd : Bool) (tag b : ℕ) (i : Open) → tag ≡ get_or s r 0 → b ≡ get_or arg_width tag 0 → leaf tag ≡ true
+      → (told : Effect) (hd : Bool) (tag b : ℕ) → tag ≡ get_or s r 0 → b ≡ get_or arg_width tag 0 → leaf tag ≡ true
       → hd ≡ handed o.counted o.tag → emits told ≡ leaf_of T hd (get_or s r 0) (two s (r + 7)) (four s (r + 1))
-      → Goes T s os n p (record { effect = told; at = r + 7 + b; held = 1; top = record { start = o.start; left = o.left - 1; tag = o.tag; counted = o.counted }; inner = i })
-  goes-leaf T r look pos told hd tag b i et eb lf eh tl =
+      → Goes T s os n p (record { effect = told; at = r + 7 + b; innermost = Stays (record { start = o.start; left = o.left - 1; tag = o.tag; counted = o.counted }) })
+  goes-leaf T r look pos told hd tag b et eb lf eh tl =
       let z = seen-child r look pos in
       let rm = z.room in
       let le = z.later in
@@ -431,7 +429,7 @@ module _ (s : List ℕ) (os : List Open) (n p : ℕ) (ready : Ready s os n p) (l
       record {
         steps = λ frames end g. record {
           after = lower-stage s os n p end frames lt ready.room g o eo r look pos ∷ (top s os n p end frames lt g).fs;
-          stacked = leaf-stacked s os n p end frames lt ready.room g o eo r look pos tag b et eb lf i;
+          stacked = leaf-stacked s os n p end frames lt ready.room g o eo r look pos tag b et eb lf;
           tells = leaf-tells s os n p end frames lt ready.room g o eo r look pos tag b et eb lf T hd (emits told) eh tl;
         };
         held = omega arith;
@@ -447,15 +445,15 @@ module _ (s : List ℕ) (os : List Open) (n p : ℕ) (ready : Ready s os n p) (l
       let e = w.end in let d = w.inside in
       omega arith
 
-  pub goes-count : (T : Tables) (l : ℕ) (i : Open) → o.left ≤ 0 → 0 < o.counted → l ≡ two s p
-      → Goes T s os n p (record { effect = Nothing; at = p + 2; held = 1; top = record { start = o.start; left = l; tag = o.tag; counted = 0 }; inner = i })
-  goes-count T l i le pos el =
+  pub goes-count : (T : Tables) (l : ℕ) → o.left ≤ 0 → 0 < o.counted → l ≡ two s p
+      → Goes T s os n p (record { effect = Nothing; at = p + 2; innermost = Stays (record { start = o.start; left = l; tag = o.tag; counted = 0 }) })
+  goes-count T l le pos el =
       let z = seen-count le pos in
       let ix = seen.index in
       record {
         steps = λ frames end g. record {
           after = after-count s os n p end frames lt ready.room g o eo l ∷ (top s os n p end frames lt g).fs;
-          stacked = count-stacked s os n p end frames lt ready.room g o eo l i le pos el;
+          stacked = count-stacked s os n p end frames lt ready.room g o eo l le pos el;
           tells = count-tells s os n p end frames lt ready.room g o eo T l le;
         };
         held = omega arith;
@@ -463,11 +461,11 @@ module _ (s : List ℕ) (os : List Open) (n p : ℕ) (ready : Ready s os n p) (l
         falls = omega arith;
       }
 
-  pub goes_end : (T : Tables) (told : Effect) (k st : ℕ) (u v : Open) → o.left ≤ 0 → o.counted ≤ 0 → k ≡ get_or last_width o.tag 0 → st ≡ o.start
+  pub goes_end : (T : Tables) (told : Effect) (k st : ℕ) → o.left ≤ 0 → o.counted ≤ 0 → k ≡ get_or last_width o.tag 0 → st ≡ o.start
       → ((x : Expr) → (0 < o.tag → Placed s st x) → (head_of x).tag ≡ o.tag → emits told ≡ finish T x)
-      → Goes T s os n p (record { effect = told; at = p + k; held = 0; top = u; inner = v })
+      → Goes T s os n p (record { effect = told; at = p + k; innermost = Ends })
   unfolding Stacked
-  goes_end T told k st u v le lc ek est fin =
+  goes_end T told k st le lc ek est fin =
       let ix = seen.index in
       record {
         steps = λ frames end g. (
@@ -480,8 +478,7 @@ module _ (s : List ℕ) (os : List Open) (n p : ℕ) (ready : Ready s os n p) (l
             let m0 : n - 1 ≡ n - 1 + 0 = omega arith in
             record {
               after = t.fs;
-              stacked = set-above (set os (n - 1) u) n v (n - 1 + 0) t.fs s (p + k) end (omega arith) (set-above os (n - 1) u (n - 1 + 0) t.fs s (p + k) end (omega arith)
-                  (subst (λ y. Stacked os y t.fs s (p + k) end) m0 (subst (λ x. Stacked os (n - 1) t.fs s x end) q t.below)));
+              stacked = subst (λ y. Stacked os y t.fs s (p + k) end) m0 (subst (λ x. Stacked os (n - 1) t.fs s x end) q t.below);
               tells = end-tells s os n p end frames lt ready.room g o eo T le lc ∙ ap (λ x. x ++ pending T t.fs) (sym d);
             });
         held = omega arith;

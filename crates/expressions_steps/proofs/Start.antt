@@ -12,9 +12,11 @@ use Rattle.image_body.specs.Stands.{StandAll, count}
 use Rattle.image_body.specs.Depth.{depth_all, WalkableAll}
 use Rattle.image_body.proofs.Standing.{end-all}
 use Rattle.rules.specs.Effects.{handed, takes, group, finish}
-use Rattle.expressions_steps.specs.Scan.{Stage, Fits, Stacked, rest, pending, root_of, top_of, Ready, Goes, nodes_after, open_after}
+use Rattle.expressions_steps.specs.Scan.{Stage, Fits, Stacked, rest, pending, root_of, top_of, Ready, Goes, nodes_with, nodes_after, open_after}
 use Rattle.expressions_steps.specs.declared.Open.{Open}
 use Rattle.expressions_steps.specs.declared.Step.{Step}
+use Rattle.expressions_steps.specs.declared.Innermost.{Innermost}
+use Rattle.expressions_steps.specs.declared.Innermost.TheVariants.{Ends, Stays, Opens}
 
 -- the start: the expressions are the children of a node of tag 0
 abbrev pub root : Exprs → Stage
@@ -73,11 +75,16 @@ ready-start s os k at eo room le w small = record {
   small = small;
 }
 
+room-after : (os : List Open) (n : ℕ) (i : Innermost) → length os ≡ 26 → length (nodes_with os n i) ≡ 26
+room-after os n Ends h = h
+room-after os n (Stays o) h = simp length-set h
+room-after os n (Opens o i) h = simp length-set h
+
 pub ready-next : (T : Tables) (s : List ℕ) (os : List Open) (n p : ℕ) (r : Step) → Ready s os n p → Goes T s os n p r
     → Ready s (nodes_after os n r) (open_after n r) r.at
 ready-next T s os n p r k g =
     let x = g.steps k.frames k.end k.stacked in
-    record { frames = x.after; end = k.end; stacked = x.stacked; room = simp length-set k.room; small = k.small }
+    record { frames = x.after; end = k.end; stacked = x.stacked; room = room-after os n r.innermost k.room; small = k.small }
 
 few-nodes : (s : List ℕ) (os : List Open) (n p e : ℕ) (frames : List Stage) → Stacked os n frames s p e → n ≤ 25
 unfolding Stacked

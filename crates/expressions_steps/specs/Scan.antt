@@ -9,6 +9,8 @@ use Rattle.rules.specs.Effects.{handed, Raw, group, finish}
 use Rattle.expressions_effects.specs.Asked.{emits}
 use Rattle.expressions_steps.specs.declared.Open.{Open}
 use Rattle.expressions_steps.specs.declared.Step.{Step}
+use Rattle.expressions_steps.specs.declared.Innermost.{Innermost}
+use Rattle.expressions_steps.specs.declared.Innermost.TheVariants.{Ends, Stays, Opens}
 
 abbrev pub blank : Open
 blank = record { start = 0; left = 0; tag = 0; counted = 0 }
@@ -78,12 +80,23 @@ pub record Waits (s : List ℕ) (o : Open) (p : ℕ) : Type 0 where
   pub some : 0 < n
   pub is : top_of os n ≡ o
 
+-- the array of open nodes, and how many there are in place of the innermost one, once that became so
+abbrev pub nodes_with : List Open → ℕ → Innermost → List Open
+nodes_with os n Ends = os
+nodes_with os n (Stays o) = set os (n - 1) o
+nodes_with os n (Opens o i) = set (set os (n - 1) o) n i
+
+abbrev pub held_by : Innermost → ℕ
+held_by Ends = 0
+held_by (Stays o) = 1
+held_by (Opens o i) = 2
+
 -- the array and the number of open nodes after a step
 abbrev pub nodes_after : List Open → ℕ → Step → List Open
-nodes_after os n r = set (set os (n - 1) r.top) n r.inner
+nodes_after os n r = nodes_with os n r.innermost
 
 abbrev pub open_after : ℕ → Step → ℕ
-open_after n r = n - 1 + r.held
+open_after n r = n - 1 + held_by r.innermost
 
 -- one step: what was pending is what the step hands out and what is pending after it; the end is the same
 pub record Next (T : Tables) (s : List ℕ) (os : List Open) (n : ℕ) (r : Step) (frames : List Stage) (end : ℕ) : Type 0 where
@@ -96,6 +109,6 @@ fuel s n p = 2 * (length s - p) + n
 
 pub record Goes (T : Tables) (s : List ℕ) (os : List Open) (n p : ℕ) (r : Step) : Type 0 where
   pub steps : (frames : List Stage) (end : ℕ) → Stacked os n frames s p end → Next T s os n r frames end
-  pub held : r.held ≤ 2
+  pub held : held_by r.innermost ≤ 2
   pub index : n ≤ 25
   pub falls : fuel s (open_after n r) r.at < fuel s n p

@@ -25,27 +25,31 @@ pub struct Open {
     pub counted: u8,
 }
 
-// One step at the innermost open node: what it does, where to go on, the node after it, the child that begins, and how many of
-// these two are open: 2 a child begins, 1 a leaf or the count was read, 0 the node ends.
+// The open nodes of a scan, outermost first.
+pub type Nodes = [Open; 26];
+
+// What becomes of the innermost open node: it ends; it stays, as it is now; or it stays, as it is now, and a child begins.
+#[derive(Clone, Copy)]
+pub enum Innermost {
+    Ends,
+    Stays(Open),
+    Opens(Open, Open),
+}
+
+// One step at the innermost open node: what it does, where to go on, and what becomes of the node.
 #[derive(Clone, Copy)]
 pub struct Step {
     pub effect: Effect,
     pub at: usize,
-    pub held: usize,
-    pub top: Open,
-    pub inner: Open,
+    pub innermost: Innermost,
 }
 
 // Whether a node of a tag takes its items or its child over.
+#[tactic(auto, using(crate::proofs::Takes::takes_6, crate::proofs::Takes::takes_8, crate::proofs::Takes::takes_low, crate::proofs::Takes::takes_high))]
 fn takes_over(tag: u8) -> bool
     ensures { result ≡ eqb (get_or takes tag 0) 1 }
 {
-    match tag {
-        6 => true,
-        8 => true,
-        9 => true,
-        _ => false,
-    }
+    matches!(tag, 6 | 8 | 9)
 }
 
 // Whether a child being scanned is handed over: the callee, before the count of the arguments, is not.
@@ -53,10 +57,7 @@ fn is_handed(counted: u8, tag: u8) -> bool
     requires { tag < 16 }
     ensures { result ≡ is_handed counted tag }
 {
-    if counted == 0 {
-        return takes_over(tag);
-    }
-    false
+    counted == 0 && takes_over(tag)
 }
 
 // Whoever holds k expressions: so many children.
@@ -83,32 +84,26 @@ fn next_child(s: &[u8], names: &[u32], top: Open, at: usize) -> Step
     let k = wide(tag);
     let next = p + 7 + layout::arg_width(k);
     let lower = Open {
-        start: top.start,
         left: top.left - 1,
-        tag: top.tag,
-        counted: top.counted,
+        ..top
     };
     if layout::is_leaf(k) {
         return Step {
-            effect: effect,
+            effect,
             at: next,
-            held: 1,
-            top: lower,
-            inner: lower,
+            innermost: Innermost::Stays(lower),
         };
     }
     let inner = Open {
         start: p as u32,
         left: layout::fixed_count(k) as u16,
-        tag: tag,
+        tag,
         counted: layout::count_width(k) as u8,
     };
     Step {
-        effect: effect,
+        effect,
         at: next,
-        held: 2,
-        top: lower,
-        inner: inner,
+        innermost: Innermost::Opens(lower, inner),
     }
 }
 
@@ -118,17 +113,14 @@ fn count_items(s: &[u8], top: Open, at: usize) -> Step
     ensures { (T : Tables) (os : List Open) (n : ℕ) → Ready s.now os n at → 0 < n → top_of os n ≡ top → Goes T s.now os n at result }
 {
     let lower = Open {
-        start: top.start,
         left: expressions_effects::name_at(s, at),
-        tag: top.tag,
         counted: 0,
+        ..top
     };
     Step {
         effect: Effect::Nothing,
         at: at + 2,
-        held: 1,
-        top: lower,
-        inner: lower,
+        innermost: Innermost::Stays(lower),
     }
 }
 
@@ -145,14 +137,10 @@ pub fn advance(s: &[u8], tb: &[u32], top: Open, at: usize) -> Step
     if 0 < top.counted {
         return count_items(s, top, at);
     }
-    let tag = top.tag;
-    let start = wide32(top.start);
-    let effect = expressions_calls::finish(s, tb, tag, start);
+    let effect = expressions_calls::finish(s, tb, top.tag, wide32(top.start));
     Step {
-        effect: effect,
-        at: at + layout::last_width(wide(tag)),
-        held: 0,
-        top: top,
-        inner: top,
+        effect,
+        at: at + layout::last_width(wide(top.tag)),
+        innermost: Innermost::Ends,
     }
 }

@@ -1,6 +1,6 @@
 -- The tables as the reader leaves them.
 -- Assumes nothing.
-use mathlib.Core.Path.{◌≡◌, sym, ap, ◌∙◌, subst}
+use mathlib.Core.Path.{◌≡◌, refl, sym, ap, ◌∙◌, subst}
 use mathlib.Core.List.{List, [], ◌∷◌, ◌++◌, map, append_assoc}
 use Prim.Native.Nat.{ℕ, ◌+◌, ◌-◌, ◌≤◌, ◌<◌}
 use native.Mathlib.Omega.{arith}
@@ -9,9 +9,10 @@ use lib.ListN.{length, take, drop, length-take, length-drop, take-append-drop}
 use lib.Seq.{length-take-le, get_or-take, drop_at, drop-drop, take-append-le, take-take, drop-append-le, paste, length-paste, slice}
 use Rattle.image_fields.specs.Parsed.{ok}
 use Rattle.image_fields.specs.Answer.{table_of}
-use Rattle.image_fields.specs.declared.Number.{Number}
-use Rattle.image_fields.specs.declared.Number.TheVariants.{Is}
-use Rattle.image_fields.proofs.Answers.{table-ok}
+use Rattle.std.specs.Prelude.{Result, Ok, Err}
+use Rattle.image_fields.specs.declared.Fault.{Fault}
+use Rattle.image_fields.specs.Fault.{fault_number}
+use Rattle.image_fields.proofs.Answers.{table_at}
 use Rattle.image_fields.proofs.Tables.{entries-length}
 use Rattle.tables.specs.Limits.{version1}
 use Rattle.tables.specs.Name.{name_of, names_at}
@@ -25,7 +26,7 @@ use Rattle.tables_lookup.proofs.Lower.{types-lower}
 use Rattle.tables_lookup.proofs.Lent.{part-is, says-kept}
 use Rattle.image_encoding.proofs.TablesValid.{structs-valid, globals-valid}
 use Rattle.image.specs.Image.{Image, accepted, decode, fault_of}
-use Rattle.image.specs.Layout.{head_fault, RestStands, RestReads, Counts, Placed, Places, Reads}
+use Rattle.image.specs.Layout.{head_fault, fault_in, RestStands, RestReads, Counts, Placed, Places, Reads}
 use Rattle.image.specs.declared.Rest.{Rest}
 use Rattle.image.specs.declared.ImageRead.{ImageRead}
 use Rattle.image.proofs.Numbered.{zero-accepted}
@@ -148,123 +149,127 @@ taken view s starts {xs} {n} e l = (
 )
 
 -- names and types were read: within their limits
-pub names-few : (s : List ℕ) {a : Number} {n p : ℕ} → a ≡ table_of (names_at version1 s 5) → a ≡ Is n p → (n ≤ 512) × (0 < n)
-names-few s ea ia = let g = table-ok ea ia in let h = name-limit s 5 _ _ g.1 in let e = g.2 in (omega arith, omega arith)
+pub names-few : (s : List ℕ) {n p : ℕ} → Ok (n, p) ≡ table_of (names_at version1 s 5) → (n ≤ 512) × (0 < n)
+names-few s ea = let g = table_at ea in let h = name-limit s 5 _ _ g.1 in let e = g.2 in (omega arith, omega arith)
 
-pub types-few : (names p : ℕ) (s : List ℕ) {b : Number} {m q : ℕ} → b ≡ table_of (types_at version1 names s p) → b ≡ Is m q → m ≤ 256
-types-few names p s eb ib = let g = table-ok eb ib in let h = type-limit names s p _ _ g.1 in let e = g.2 in omega arith
+pub types-few : (names p : ℕ) (s : List ℕ) {m q : ℕ} → Ok (m, q) ≡ table_of (types_at version1 names s p) → m ≤ 256
+types-few names p s eb = let g = table_at eb in let h = type-limit names s p _ _ g.1 in let e = g.2 in omega arith
 
 module _ (s tb names types flags : List ℕ) (size : length tb ≡ 1096) (kn : length names ≡ length (take 512 (drop 8 tb)))
-    (kt : length types ≡ length (take 256 (drop 520 (put_mid 8 512 tb names)))) {r : ℕ} (er : r ≡ head_fault version1 s) (le : r ≤ 0)
-    {a b : Number} {n p m q : ℕ} (ea : a ≡ table_of (names_at version1 s 5)) (ia : a ≡ Is n p)
+    (kt : length types ≡ length (take 256 (drop 520 (put_mid 8 512 tb names)))) (er : 0 ≡ head_fault version1 s)
+    {n p m q : ℕ} (ea : Ok (n, p) ≡ table_of (names_at version1 s 5))
     (la : (ns : List (List ℕ)) (next : ℕ) → names_at version1 s 5 ≡ ok ns next → Listed (name_of s) s names ns)
-    (eb : b ≡ table_of (types_at version1 n s p)) (ib : b ≡ Is m q)
+    (eb : Ok (m, q) ≡ table_of (types_at version1 n s p))
     (lb : (ts : List Ty) (next : ℕ) → types_at version1 n s p ≡ ok ts next → Listed (type_in s) s types ts × (take (length ts) flags ≡ generic_flags [] ts)) where
   abbrev lent_names : List ℕ
   lent_names = take (8 + n - 8) (drop 8 (typed tb names types size kn kt))
 
   names-lent : lent_names ≡ take n names
-  names-lent = so-many 8 n (typed tb names types size kn kt) ∙ names-typed tb names types size kn kt n (names-few s ea ia).0
+  names-lent = so-many 8 n (typed tb names types size kn kt) ∙ names-typed tb names types size kn kt n (names-few s ea).0
 
   pub rest-required : (0 < length lent_names) × AllWithin s lent_names × (length s ≤ 65536)
   rest-required =
-      let g = table-ok ea ia in
-      let k = length-take-le n names (let f = names-few s ea ia in let l = names-long tb names types size kn kt in omega arith) in
+      let g = table_at ea in
+      let k = length-take-le n names (let f = names-few s ea in let l = names-long tb names types size kn kt in omega arith) in
       let w = taken (name_of s) s names g.2 (la g.0 p g.1) in
       let e = ap length names-lent in
-      (let f = names-few s ea ia in omega arith, rw names-lent w.1, head-short s er le)
+      (let f = names-few s ea in omega arith, rw names-lent w.1, head-short s er)
 
-  -- the rest was read
+  -- how the rest was read, of the names and the types that were
+  rest-taken : (structs : List ℕ) {z : Result Rest Fault}
+      → ((ts : List Ty) → take m flags ≡ generic_flags [] ts → RestReads (map (name_of s) lent_names) ts s q structs z)
+      → RestReads (table_at ea).0 (table_at eb).0 s q structs z
+  rest-taken structs {z} rest =
+      let g = table_at ea in
+      let h = table_at eb in
+      subst (λ ns. RestReads ns h.0 s q structs z) (ap (map (name_of s)) names-lent ∙ (taken (name_of s) s names g.2 (la g.0 p g.1)).0)
+      (rest h.0 (subst (λ k. take k flags ≡ generic_flags [] h.0) h.2 (lb h.0 q h.1).1))
+
+  pub rest-refused : (structs : List ℕ) (f : Fault)
+      → ((ts : List Ty) → take m flags ≡ generic_flags [] ts → RestReads (map (name_of s) lent_names) ts s q structs (Err f))
+      → {x : Result ImageRead Fault} {tb' : List ℕ} → fault_in x ≡ fault_number f → Places s tb' x
+  rest-refused structs f rest e = let g = table_at ea in rest-stop s er g.1 g.2 (table_at eb).1 f (rest-taken structs rest) e
+
   module _ (structs : List ℕ) {z : Rest}
-      (rest : (ts : List Ty) → take m flags ≡ generic_flags [] ts → RestReads (map (name_of s) lent_names) ts s q structs z) where
-    abbrev rest_read : RestReads (table-ok ea ia).0 (table-ok eb ib).0 s q structs z
-    rest_read =
-        let g = table-ok ea ia in
-        let h = table-ok eb ib in
-        subst (λ ns. RestReads ns h.0 s q structs z) (ap (map (name_of s)) names-lent ∙ (taken (name_of s) s names g.2 (la g.0 p g.1)).0)
-        (rest h.0 (subst (λ k. take k flags ≡ generic_flags [] h.0) h.2 (lb h.0 q h.1).1))
+      (rest : (ts : List Ty) → take m flags ≡ generic_flags [] ts → RestReads (map (name_of s) lent_names) ts s q structs (Ok z)) where
+    abbrev passes : 0 ≡ fault_of (decode version1 s)
+    passes = let g = table_at ea in rest-passes s er g.1 g.2 (table_at eb).1 (rest-taken structs rest)
 
-    pub rest-refused : {x : ImageRead} {tb' : List ℕ} → 0 < z.fault → x.fault ≡ z.fault → Places s tb' x
-    rest-refused some e = let g = table-ok ea ia in rest-stop s er le g.1 g.2 (table-ok eb ib).1 rest_read some e
+    abbrev stands : (i : Image) → decode version1 s ≡ accepted i → ((table_at ea).0 ≡ i.tables.names) × ((table_at eb).0 ≡ i.tables.types) × RestStands s structs i z
+    stands = let g = table_at ea in rest-stands s er g.1 g.2 (table_at eb).1 (rest-taken structs rest)
 
-    module _ (none : z.fault ≤ 0) where
-      abbrev passes : 0 ≡ fault_of (decode version1 s)
-      passes = let g = table-ok ea ia in rest-passes s er le g.1 g.2 (table-ok eb ib).1 rest_read none
+    pub counts : Counts n m z
+    counts =
+        let f = zero-accepted version1 s (sym passes) in
+        let i = f.0 in
+        let g = parted version1 s i f.1 in
+        let h : RestStands s structs i z = (stands i f.1).2 in
+        let x : length i.tables.structs ≤ 64 = (structs-valid s version1 _ _ _ _ g.structs).few in
+        let y : length i.tables.globals ≤ 64 = (globals-valid s version1 _ _ _ _ g.globals).few in
+        let ex : z.struct_count ≡ length i.tables.structs = h.struct_count in
+        let ey : z.global_count ≡ length i.tables.globals = sym (entries-length (global_in s) 6 z.global_count z.globals) ∙ ap length h.globals in
+        let fit = h.globals_fit in
+        let short = head-short s er in
+        record { names = (names-few s ea).0; types = types-few n p s eb; structs = omega arith; globals = omega arith; first = omega arith }
 
-      abbrev stands : (i : Image) → decode version1 s ≡ accepted i → ((table-ok ea ia).0 ≡ i.tables.names) × ((table-ok eb ib).0 ≡ i.tables.types) × RestStands s structs i z
-      stands = let g = table-ok ea ia in rest-stands s er le g.1 g.2 (table-ok eb ib).1 rest_read none
+    pub copy-fits : length structs ≡ 64 → (z.struct_count ≤ length structs) × (776 + z.struct_count ≤ length (typed tb names types size kn kt))
+    copy-fits ls = let c = counts.structs in let l = typed_long tb names types size kn kt in (omega arith, omega arith)
 
-      pub counts : Counts n m z
-      counts =
-          let f = zero-accepted version1 s (sym passes) in
-          let i = f.0 in
-          let g = parted version1 s i f.1 in
-          let h : RestStands s structs i z = (stands i f.1).2 in
-          let x : length i.tables.structs ≤ 64 = (structs-valid s version1 _ _ _ _ g.structs).few in
-          let y : length i.tables.globals ≤ 64 = (globals-valid s version1 _ _ _ _ g.globals).few in
-          let ex : z.struct_count ≡ length i.tables.structs = h.struct_count in
-          let ey : z.global_count ≡ length i.tables.globals = sym (entries-length (global_in s) 6 z.global_count z.globals) ∙ ap length h.globals in
-          let fit = h.globals_fit in
-          let short = head-short s er le in
-          record { names = (names-few s ea ia).0; types = types-few n p s eb ib; structs = omega arith; globals = omega arith; first = omega arith }
+    abbrev left_here : List ℕ
+    left_here = left tb names types size kn kt structs n m z.struct_count z.global_count z.globals
 
-      pub copy-fits : length structs ≡ 64 → (z.struct_count ≤ length structs) × (776 + z.struct_count ≤ length (typed tb names types size kn kt))
-      copy-fits ls = let c = counts.structs in let l = typed_long tb names types size kn kt in (omega arith, omega arith)
+    on-image : length structs ≡ 64 → (i : Image) → decode version1 s ≡ accepted i → Placed s i left_here (record { entry = z.entry; body = z.body })
+    on-image ls i acc =
+        let g = table_at ea in
+        let t = table_at eb in
+        let h = stands i acc in
+        let st = h.2 in
+        let c = counts in
+        let x = taken (name_of s) s names g.2 (la g.0 p g.1) in
+        let y = taken (type_in s) s types t.2 (lb t.0 q t.1).0 in
+        let w = taken (struct_in s) s structs (sym st.struct_count) st.structs in
+        let e = all_left tb names types size kn kt structs n m z.struct_count z.global_count z.globals c.names c.types c.structs ls in
+        record {
+          filled = record {
+            size = e.3;
+            few_names = c.names;
+            few_types = c.types;
+            few_structs = c.structs;
+            names = subst (AllWithin s) (sym e.0) x.1;
+            types = subst (AllWithin s) (sym e.1) y.1;
+            structs = subst (AllWithin s) (sym e.2) w.1;
+            lower = subst (λ l. Lower (map (type_in s) l)) (sym e.1) (subst Lower (sym y.0) (types-lower version1 n s p t.1));
+            globals = st.globals_fit;
+          };
+          says = record {
+            names = ap (map (name_of s)) e.0 ∙ x.0 ∙ h.0;
+            types = ap (map (type_in s)) e.1 ∙ y.0 ∙ h.1;
+            structs = ap (map (struct_in s)) e.2 ∙ w.0;
+            globals = st.globals;
+          };
+          entry = st.entry;
+          body = st.body;
+        }
 
-      abbrev left_here : List ℕ
-      left_here = left tb names types size kn kt structs n m z.struct_count z.global_count z.globals
-
-      on-image : length structs ≡ 64 → (i : Image) → decode version1 s ≡ accepted i → Placed s i left_here (record { fault = 0; entry = z.entry; body = z.body })
-      on-image ls i acc =
-          let g = table-ok ea ia in
-          let t = table-ok eb ib in
-          let h = stands i acc in
-          let st = h.2 in
-          let c = counts in
-          let x = taken (name_of s) s names g.2 (la g.0 p g.1) in
-          let y = taken (type_in s) s types t.2 (lb t.0 q t.1).0 in
-          let w = taken (struct_in s) s structs (sym st.struct_count) st.structs in
-          let e = all_left tb names types size kn kt structs n m z.struct_count z.global_count z.globals c.names c.types c.structs ls in
-          record {
-            filled = record {
-              size = e.3;
-              few_names = c.names;
-              few_types = c.types;
-              few_structs = c.structs;
-              names = subst (AllWithin s) (sym e.0) x.1;
-              types = subst (AllWithin s) (sym e.1) y.1;
-              structs = subst (AllWithin s) (sym e.2) w.1;
-              lower = subst (λ l. Lower (map (type_in s) l)) (sym e.1) (subst Lower (sym y.0) (types-lower version1 n s p t.1));
-              globals = st.globals_fit;
-            };
-            says = record {
-              names = ap (map (name_of s)) e.0 ∙ x.0 ∙ h.0;
-              types = ap (map (type_in s)) e.1 ∙ y.0 ∙ h.1;
-              structs = ap (map (struct_in s)) e.2 ∙ w.0;
-              globals = st.globals;
-            };
-            entry = st.entry;
-            body = st.body;
-          }
-
-      pub placed : length structs ≡ 64 → {last copy : List ℕ} → copy ≡ paste (typed tb names types size kn kt) 776 structs z.struct_count
-          → last ≡ n ∷ (m ∷ (z.struct_count ∷ (z.global_count ∷ (z.globals ∷ drop 5 copy)))) → Places s last (record { fault = 0; entry = z.entry; body = z.body })
-      placed ls {last} {copy} ec el =
-          let e : last ≡ left_here = el ∙ ap (λ x. n ∷ (m ∷ (z.struct_count ∷ (z.global_count ∷ (z.globals ∷ drop 5 x))))) ec in
-          subst (λ x. Places s x (record { fault = 0; entry = z.entry; body = z.body })) (sym e) (record { fault = passes; placed = on-image ls })
+    pub placed : length structs ≡ 64 → {last copy : List ℕ} → copy ≡ paste (typed tb names types size kn kt) 776 structs z.struct_count
+        → last ≡ n ∷ (m ∷ (z.struct_count ∷ (z.global_count ∷ (z.globals ∷ drop 5 copy)))) → Places s last (Ok (record { entry = z.entry; body = z.body }))
+    placed ls {last} {copy} ec el =
+        let e : last ≡ left_here = el ∙ ap (λ x. n ∷ (m ∷ (z.struct_count ∷ (z.global_count ∷ (z.globals ∷ drop 5 x))))) ec in
+        subst (λ x. Places s x (Ok (record { entry = z.entry; body = z.body }))) (sym e)
+        (record { fault = passes; placed = λ i acc x made. let same : record { entry = z.entry; body = z.body } ≡ x = cc in subst (Placed s i left_here) same (on-image ls i acc) })
 
 -- what is asked of the types goes to an image that was accepted
-module _ (s tb : List ℕ) (x : ImageRead) (g : Places s tb x) where
-  pub filled-there : x.fault ≡ 0 → Filled s tb
-  filled-there z = let f = zero-accepted version1 s (sym g.fault ∙ z) in (g.placed f.0 f.1).filled
+module _ (s tb : List ℕ) (x : ImageRead) (g : Places s tb (Ok x)) where
+  pub filled-there : Filled s tb
+  filled-there = let f = zero-accepted version1 s (sym g.fault) in (g.placed f.0 f.1 x refl).filled
 
-  pub all_laid : {tb' : List ℕ} → Lent s tb' → take 840 tb' ≡ take 840 tb → Reads s tb' x
+  pub all_laid : {tb' : List ℕ} → Lent s tb' → take 840 tb' ≡ take 840 tb → Reads s tb' (Ok x)
   all_laid {tb'} lent e = record {
     fault = g.fault;
-    laid = λ i acc. let p = g.placed i acc in
+    laid = λ i acc y made.
+        let p = g.placed i acc y made in
         record { lent = lent; says = says-kept tb tb' e s p.filled i.tables p.says; entry = p.entry; body = p.body };
   }
 
-  pub none-laid : (x.fault ≡ 0 → ⊥) → Reads s tb x
-  unfolding fault_of
-  none-laid n = record { fault = g.fault; laid = λ i acc. absurd (n (g.fault ∙ ap fault_of acc)) }
+pub none-laid : (s tb : List ℕ) {f : Fault} → Places s tb (Err f) → Reads s tb (Err f)
+none-laid s tb g = record { fault = g.fault; laid = λ i acc x made. let z : ◌≡◌ {A = ℕ} 0 1 = cc in absurd (omega arith) }

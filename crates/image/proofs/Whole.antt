@@ -1,6 +1,6 @@
 -- The parts of an image, one after another, as the code takes them.
 -- Assumes nothing.
-use mathlib.Core.Path.{◌≡◌, refl, sym, ap, ◌∙◌, subst}
+use mathlib.Core.Path.{◌≡◌, refl, sym, ap, ◌∙◌, subst₂}
 use mathlib.Core.List.{List, [], ◌∷◌, ◌++◌, map}
 use mathlib.Core.Bool.{Bool, true, false, cond, ◌&&◌}
 use Prim.Native.Nat.{ℕ, ◌+◌, ◌*◌, ◌≤◌, ◌<◌}
@@ -12,10 +12,10 @@ use Rattle.image_fields.specs.Parsed.{Parsed, ok, fault, bind, ensure}
 use Rattle.image_fields.specs.Number.{two, four}
 use Rattle.image_fields.specs.Table.{entries}
 use Rattle.image_fields.specs.Answer.{read_of}
-use Rattle.image_fields.specs.declared.Read.{Read}
-use Rattle.image_fields.specs.declared.Read.TheVariants.{Next, Fault}
-use Rattle.image_fields.specs.declared.Number.{Number}
-use Rattle.image_fields.specs.declared.Number.TheVariants.{Is, Wrong}
+use Rattle.std.specs.Prelude.{Result, Ok, Err}
+use Rattle.image_fields.specs.declared.Fault.{Fault}
+use Rattle.image_fields.specs.Fault.{fault_number}
+use Rattle.image_fields.proofs.Faults.{numbered}
 use Rattle.image_fields.proofs.Inverse.{ensure-ok, bound, impossible}
 use Rattle.image_fields.proofs.Tests.{and-true}
 use Rattle.image_fields.proofs.Numbers.{field-ok}
@@ -28,32 +28,24 @@ use Rattle.tables.specs.Answer.{Listed}
 use Rattle.image_body.specs.Expr.{Scope}
 use Rattle.image_body.specs.Stmt.{Block, block_at}
 use Rattle.image.specs.Image.{Image, accepted, refused, body_at, rest_at, image_at, outcome, decode, fault_of, scope_in}
-use Rattle.image.specs.Layout.{head_fault, wrong_of, fault_in, RestStands, RestReads, Places}
+use Rattle.image.specs.Layout.{head_fault, fault_in, RestStands, RestReads, Places}
 use Rattle.image.specs.declared.Rest.{Rest}
 use Rattle.image.specs.declared.ImageRead.{ImageRead}
 
--- an answer that is no number has a fault
-pub wrong-is : {n : Number} {f k : ℕ} → f ≡ wrong_of n → n ≡ Wrong k → f ≡ k
-unfolding wrong_of
-wrong-is {n = Is a p} e z = cc
-wrong-is {n = Wrong m} e z = cc
-
-pub fault-is : {n : Read} {f k : ℕ} → f ≡ fault_in n → n ≡ Fault k → f ≡ k
-unfolding fault_in
-fault-is {n = Next p} e z = cc
-fault-is {n = Fault m} e z = cc
+positive : (f : Fault) → 0 < fault_number f
+positive f = let n = numbered f in omega arith
 
 -- the body
 module _ (t : Scope) (s : List ℕ) (at : ℕ) where
-  pub body-stop : {f : ℕ} → block_at t s 12 at ≡ fault f → Fault f ≡ read_of (body_at version1 t s at)
+  pub body-stop : {f : ℕ} → block_at t s 12 at ≡ fault f → Err f ≡ read_of (body_at version1 t s at)
   unfolding body_at bind read_of
   body-stop e = simp e
 
-  pub body-done : {b : Block} {r : ℕ} → block_at t s 12 at ≡ ok b r → r ≡ length s → Next r ≡ read_of (body_at version1 t s at)
+  pub body-done : {b : Block} {r : ℕ} → block_at t s 12 at ≡ ok b r → r ≡ length s → Ok r ≡ read_of (body_at version1 t s at)
   unfolding body_at bind read_of ensure
   body-done e l = simp (e, eq-eqb _ _ l)
 
-  pub body-left : {b : Block} {r : ℕ} → block_at t s 12 at ≡ ok b r → (r ≡ length s → ⊥) → Fault 10 ≡ read_of (body_at version1 t s at)
+  pub body-left : {b : Block} {r : ℕ} → block_at t s 12 at ≡ ok b r → (r ≡ length s → ⊥) → Err 10 ≡ read_of (body_at version1 t s at)
   unfolding body_at bind read_of ensure
   body-left e l = simp (e, ne_eqb _ _ l)
 
@@ -132,26 +124,26 @@ module _ (s names flags : List ℕ) (ts : List Ty) (ef : flags ≡ generic_flags
   same-types : length flags ≡ length ts
   same-types = let a : length (generic_flags [] ts) ≡ 0 + length ts = flags-length [] ts in ap length ef ∙ a ∙ omega arith
 
-  refuses : {k : ℕ} {r : Rest} → rest_at version1 ns ts s at ≡ fault k → r.fault ≡ k → RestReads ns ts s at starts r
+  refuses : {k : ℕ} {r : Result Rest Fault} → rest_at version1 ns ts s at ≡ fault k → fault_in r ≡ k → RestReads ns ts s at starts r
   unfolding outcome fault_of
-  refuses z e = record { fault = e ∙ sym (rw z refl); stands = λ i next y. impossible (sym z ∙ y) }
+  refuses z e = record { fault = e ∙ sym (rw z refl); stands = λ i next y x g. impossible (sym z ∙ y) }
 
-  pub rest-structs : {k : ℕ} {r : Rest} → structs_at version1 ns s at ≡ fault k → r.fault ≡ k → RestReads ns ts s at starts r
+  pub rest-structs : {k : ℕ} {r : Result Rest Fault} → structs_at version1 ns s at ≡ fault k → fault_in r ≡ k → RestReads ns ts s at starts r
   unfolding rest_at bind
   rest-structs e = refuses (simp e)
 
   module _ {ss : List Struct} {p : ℕ} (e1 : structs_at version1 ns s at ≡ ok ss p) where
-    pub rest-globals : {k : ℕ} {r : Rest} → globals_at version1 (length names) s p ≡ fault k → r.fault ≡ k → RestReads ns ts s at starts r
+    pub rest-globals : {k : ℕ} {r : Result Rest Fault} → globals_at version1 (length names) s p ≡ fault k → fault_in r ≡ k → RestReads ns ts s at starts r
     unfolding rest_at bind
     rest-globals e = refuses (simp (e1, length-map, e))
 
     module _ {gs : List Global} {q : ℕ} (e2 : globals_at version1 (length names) s p ≡ ok gs q) where
-      pub rest-entry : {k : ℕ} {r : Rest} → entry_at version1 (length names) (length flags) s q ≡ fault k → r.fault ≡ k → RestReads ns ts s at starts r
+      pub rest-entry : {k : ℕ} {r : Result Rest Fault} → entry_at version1 (length names) (length flags) s q ≡ fault k → fault_in r ≡ k → RestReads ns ts s at starts r
       unfolding rest_at bind
       rest-entry e = refuses (simp (e1, length-map, e2, ← same-types, e))
 
       module _ {y : Entry} {u : ℕ} (e3 : entry_at version1 (length names) (length flags) s q ≡ ok y u) where
-        pub rest-body : {k : ℕ} {r : Rest} → body_at version1 scope s u ≡ fault k → r.fault ≡ k → RestReads ns ts s at starts r
+        pub rest-body : {k : ℕ} {r : Result Rest Fault} → body_at version1 scope s u ≡ fault k → fault_in r ≡ k → RestReads ns ts s at starts r
         unfolding rest_at bind
         rest-body e = refuses (simp (e1, length-map, e2, ← same-types, ← ef, e3, e))
 
@@ -164,7 +156,7 @@ module _ (s names flags : List ℕ) (ts : List Ty) (ef : flags ≡ generic_flags
           all_read = simp (e1, length-map, e2, ← same-types, ← ef, e3, e4)
 
           pub rest_read : {m n g : ℕ} → length ss ≡ m → length gs ≡ n → g ≡ p + 2 → Listed (struct_in s) s starts ss
-              → RestReads ns ts s at starts (record { fault = 0; struct_count = m; globals = g; global_count = n; entry = q; body = u })
+              → RestReads ns ts s at starts (Ok (record { struct_count = m; globals = g; global_count = n; entry = q; body = u }))
           unfolding outcome fault_of
           rest_read {m} {n} {g} lm ln eg l =
               let gl = globals-stand (length names) s p gs q e2 in
@@ -172,8 +164,9 @@ module _ (s names flags : List ℕ) (ts : List Ty) (ef : flags ≡ generic_flags
               let e4' : block_at (scope_in version1 ns ts) s 12 u ≡ ok b (length s) = simp (length-map, ← same-types, ← ef) (body-whole scope s u e4) in
               record {
                 fault = sym (rw all_read refl);
-                stands = λ i next z. let k : whole ≡ i = (let a = all_read in cc) in
-                    subst (λ x. RestStands s starts x (record { fault = 0; struct_count = m; globals = g; global_count = n; entry = q; body = u })) k
+                stands = λ i next z x made. let k : whole ≡ i = (let a = all_read in cc) in
+                    let same : record { struct_count = m; globals = g; global_count = n; entry = q; body = u } ≡ x = cc in
+                    subst₂ (λ y w. RestStands s starts y w) k same
                     (record { struct_count = sym lm; structs = l; globals = rw (eg, ← ln) gl.are; globals_fit = rw (eg, ← ln) gl.fit; entry = e3'; body = e4' });
               }
 
@@ -184,19 +177,19 @@ two-tests true true x e lt = absurd (omega arith)
 two-tests true false x e lt = rw e refl
 two-tests false b x e lt = rw e refl
 
-two-passed : {A : Type 0} (a b : Bool) (x : Parsed A) {r : ℕ} → r ≡ cond a (cond b 0 2) 1 → r ≤ 0 → ensure a 1 (ensure b 2 x) ≡ x
+two-passed : {A : Type 0} (a b : Bool) (x : Parsed A) → ◌≡◌ {A = ℕ} 0 (cond a (cond b 0 2) 1) → ensure a 1 (ensure b 2 x) ≡ x
 unfolding ensure
-two-passed true true x e le = refl
-two-passed true false x e le = absurd (omega arith)
-two-passed false b x e le = absurd (omega arith)
+two-passed true true x e = refl
+two-passed true false x e = absurd (omega arith)
+two-passed false b x e = absurd (omega arith)
 
 refusing : (s : List ℕ) {k : ℕ} → image_at version1 s ≡ fault k → decode version1 s ≡ refused k
 unfolding decode outcome
 refusing s e = rw e refl
 
-no-places : (s : List ℕ) {k : ℕ} {tb : List ℕ} {r : ImageRead} → decode version1 s ≡ refused k → r.fault ≡ k → Places s tb r
+no-places : (s : List ℕ) {k : ℕ} {tb : List ℕ} {r : Result ImageRead Fault} → decode version1 s ≡ refused k → fault_in r ≡ k → Places s tb r
 unfolding fault_of
-no-places s {k = k} z e = record { fault = e ∙ sym (rw z refl); placed = λ i y. not-both (sym z ∙ y) }
+no-places s {k = k} z e = record { fault = e ∙ sym (rw z refl); placed = λ i y x g. not-both (sym z ∙ y) }
   where
     not-both : {C : Type 0} {i : Image} → refused k ≡ accepted i → C
     not-both e = let z : ◌≡◌ {A = ℕ} 0 1 = cc in absurd (omega arith)
@@ -220,58 +213,54 @@ tables-kept L ns ts s at i p e =
     let z : record { tables = record { names = ns; types = ts; structs = ss; globals = gs }; entry = y; body = b } ≡ i = cc in
     (ap (λ x. x.tables.names) z, ap (λ x. x.tables.types) z)))))
 
-first-passed : (a b : Bool) {r : ℕ} → r ≡ cond a (cond b 0 2) 1 → r ≤ 0 → a ≡ true
-first-passed true b e le = refl
-first-passed false b e le = absurd (omega arith)
+first-passed : (a b : Bool) → ◌≡◌ {A = ℕ} 0 (cond a (cond b 0 2) 1) → a ≡ true
+first-passed true b e = refl
+first-passed false b e = absurd (omega arith)
 
-module _ (s : List ℕ) {r : ℕ} (er : r ≡ head_fault version1 s) where
-  pub head-stops : {tb : List ℕ} {x : ImageRead} → 0 < r → x.fault ≡ r → Places s tb x
+pub head-stops : (s : List ℕ) (f : Fault) {tb : List ℕ} {x : Result ImageRead Fault} → fault_number f ≡ head_fault version1 s → fault_in x ≡ fault_number f → Places s tb x
+unfolding image_at head_fault
+head-stops s f er e = no-places s (refusing s (two-tests _ _ _ er (positive f))) e
+
+module _ (s : List ℕ) (er : 0 ≡ head_fault version1 s) where
+  pub head-short : length s ≤ 65536
+  unfolding head_fault
+  head-short =
+      let g = and-true (leb 5 (length s)) (leb (length s) 65536 && eqb (four s 0 + 4) (length s)) (first-passed _ (eqb (get_or s 4 0) 1) er) in
+      leb-true _ _ (and-true (leb (length s) 65536) (eqb (four s 0 + 4) (length s)) g.1).0
+
+  head-passes : image_at version1 s ≡ bind (names_at version1 s 5) (λ ns p. bind (types_at version1 (length ns) s p) (λ ts q. rest_at version1 ns ts s q))
   unfolding image_at head_fault
-  head-stops lt e = no-places s (refusing s (two-tests _ _ _ er lt)) e
+  head-passes = two-passed _ _ _ er
 
-  module _ (le : r ≤ 0) where
-    pub head-short : length s ≤ 65536
-    unfolding head_fault
-    head-short =
-        let g = and-true (leb 5 (length s)) (leb (length s) 65536 && eqb (four s 0 + 4) (length s)) (first-passed _ (eqb (get_or s 4 0) 1) er le) in
-        leb-true _ _ (and-true (leb (length s) 65536) (eqb (four s 0 + 4) (length s)) g.1).0
+  pub names-stop : {k : ℕ} {tb : List ℕ} {x : Result ImageRead Fault} → names_at version1 s 5 ≡ fault k → fault_in x ≡ k → Places s tb x
+  unfolding bind
+  names-stop e f = no-places s (refusing s (head-passes ∙ rw e refl)) f
 
-    head-passes : image_at version1 s ≡ bind (names_at version1 s 5) (λ ns p. bind (types_at version1 (length ns) s p) (λ ts q. rest_at version1 ns ts s q))
-    unfolding image_at head_fault
-    head-passes = two-passed _ _ _ er le
-
-    pub names-stop : {k : ℕ} {tb : List ℕ} {x : ImageRead} → names_at version1 s 5 ≡ fault k → x.fault ≡ k → Places s tb x
+  module _ {ns : List (List ℕ)} {p n : ℕ} (e1 : names_at version1 s 5 ≡ ok ns p) (l1 : length ns ≡ n) where
+    pub types-stop : {k : ℕ} {tb : List ℕ} {x : Result ImageRead Fault} → types_at version1 n s p ≡ fault k → fault_in x ≡ k → Places s tb x
     unfolding bind
-    names-stop e f = no-places s (refusing s (head-passes ∙ rw e refl)) f
+    types-stop e f = no-places s (refusing s (head-passes ∙ simp (e1, l1, e))) f
 
-    module _ {ns : List (List ℕ)} {p n : ℕ} (e1 : names_at version1 s 5 ≡ ok ns p) (l1 : length ns ≡ n) where
-      pub types-stop : {k : ℕ} {tb : List ℕ} {x : ImageRead} → types_at version1 n s p ≡ fault k → x.fault ≡ k → Places s tb x
+    module _ {ts : List Ty} {q : ℕ} (e2 : types_at version1 n s p ≡ ok ts q) where
+      to-rest : image_at version1 s ≡ rest_at version1 ns ts s q
       unfolding bind
-      types-stop e f = no-places s (refusing s (head-passes ∙ simp (e1, l1, e))) f
+      to-rest = head-passes ∙ simp (e1, l1, e2)
 
-      module _ {ts : List Ty} {q : ℕ} (e2 : types_at version1 n s p ≡ ok ts q) where
-        to-rest : image_at version1 s ≡ rest_at version1 ns ts s q
-        unfolding bind
-        to-rest = head-passes ∙ simp (e1, l1, e2)
+      pub rest-stop : {starts : List ℕ} (f : Fault) {tb : List ℕ} {x : Result ImageRead Fault} → RestReads ns ts s q starts (Err f) → fault_in x ≡ fault_number f → Places s tb x
+      rest-stop f g e = no-places s (refusing s (to-rest ∙ outcome-fault _ g.fault (positive f))) e
 
-        pub rest-stop : {starts : List ℕ} {z : Rest} {tb : List ℕ} {x : ImageRead} → RestReads ns ts s q starts z → 0 < z.fault → x.fault ≡ z.fault → Places s tb x
-        rest-stop g lt e = no-places s (refusing s (to-rest ∙ outcome-fault _ g.fault lt)) e
+      -- the rest was read: the image is accepted, with these names and types
+      module _ {starts : List ℕ} {z : Rest} (g : RestReads ns ts s q starts (Ok z)) where
+        pub rest-passes : 0 ≡ fault_of (decode version1 s)
+        unfolding decode
+        rest-passes = let f : 0 ≡ fault_of (outcome (rest_at version1 ns ts s q)) = g.fault in f ∙ ap (λ x. fault_of (outcome x)) (sym to-rest)
 
-        -- the rest was read: the image is accepted, with these names and types
-        module _ {starts : List ℕ} {z : Rest} (g : RestReads ns ts s q starts z) (none : z.fault ≤ 0) where
-          pub rest-passes : 0 ≡ fault_of (decode version1 s)
-          unfolding decode
-          rest-passes =
-              let f : z.fault ≡ fault_of (outcome (rest_at version1 ns ts s q)) = g.fault in
-              let zero : 0 ≡ z.fault = omega arith in
-              zero ∙ f ∙ ap (λ x. fault_of (outcome x)) (sym to-rest)
-
-          pub rest-stands : (i : Image) → decode version1 s ≡ accepted i → (ns ≡ i.tables.names) × (ts ≡ i.tables.types) × RestStands s starts i z
-          unfolding decode
-          rest-stands i y =
-              let w = outcome-ok (rest_at version1 ns ts s q) (ap outcome (sym to-rest) ∙ y) in
-              let k = tables-kept version1 ns ts s q i w.0 w.1 in
-              (k.0, k.1, g.stands i w.0 w.1)
+        pub rest-stands : (i : Image) → decode version1 s ≡ accepted i → (ns ≡ i.tables.names) × (ts ≡ i.tables.types) × RestStands s starts i z
+        unfolding decode
+        rest-stands i y =
+            let w = outcome-ok (rest_at version1 ns ts s q) (ap outcome (sym to-rest) ∙ y) in
+            let k = tables-kept version1 ns ts s q i w.0 w.1 in
+            (k.0, k.1, g.stands i w.0 w.1 z refl)
 
 -- the tables' limits
 pub name-limit : (s : List ℕ) (at : ℕ) (ns : List (List ℕ)) (p : ℕ) → names_at version1 s at ≡ ok ns p → (length ns ≤ 512) × (0 < length ns)

@@ -1,11 +1,9 @@
 -- Where the parts of an accepted image stand: what the reader leaves in the tables lent, and every later walk relies on.
-use Rattle.std.specs.Prelude.{ℕ, ◌+◌, ◌*◌, ◌≤◌, ◌≡◌, List, cond, length, get_or, eqb}
+use Rattle.std.specs.Prelude.{ℕ, ◌+◌, ◌*◌, ◌≤◌, ◌≡◌, List, cond, length, get_or, eqb, Result, Ok, Err}
 use Rattle.image_fields.specs.Parsed.{ok}
 use Rattle.image_fields.specs.Table.{entries}
-use Rattle.image_fields.specs.declared.Read.{Read}
-use Rattle.image_fields.specs.declared.Read.TheVariants.{Next, Fault}
-use Rattle.image_fields.specs.declared.Number.{Number}
-use Rattle.image_fields.specs.declared.Number.TheVariants.{Is, Wrong}
+use Rattle.image_fields.specs.declared.Fault.{Fault}
+use Rattle.image_fields.specs.Fault.{fault_number}
 use Rattle.tables.specs.Limits.{Limits, version1}
 use Rattle.tables.specs.Ty.{Ty}
 use Rattle.tables.specs.Signature.{global_in, struct_in, entry_at}
@@ -20,14 +18,10 @@ use Rattle.image.specs.declared.ImageRead.{ImageRead}
 unfoldable pub head_fault : Limits → List ℕ → ℕ
 head_fault L s = cond (length_ok L s) (cond (eqb (get_or s 4 0) L.version) 0 2) 1
 
--- the fault of an answer, or 0
-unfoldable pub wrong_of : Number → ℕ
-wrong_of (Is n p) = 0
-wrong_of (Wrong k) = k
-
-unfoldable pub fault_in : Read → ℕ
-fault_in (Next p) = 0
-fault_in (Fault k) = k
+-- the fault's number of an answer, or 0
+abbrev pub fault_in : {A : Type 0} → Result A Fault → ℕ
+fault_in (Ok x) = 0
+fault_in (Err f) = fault_number f
 
 -- the structs, the globals, the entry and the body
 pub record RestStands (s starts : List ℕ) (i : Image) (r : Rest) : Type 0 where
@@ -38,10 +32,10 @@ pub record RestStands (s starts : List ℕ) (i : Image) (r : Rest) : Type 0 wher
   pub entry : entry_at version1 (length i.tables.names) (length i.tables.types) s r.entry ≡ ok i.entry r.body
   pub body : block_at (scope_in version1 i.tables.names i.tables.types) s 12 r.body ≡ ok i.body (length s)
 
--- what the reader of the rest answers: the fault's number, or 0 and where everything stands
-pub record RestReads (ns : List (List ℕ)) (ts : List Ty) (s : List ℕ) (at : ℕ) (starts : List ℕ) (r : Rest) : Type 0 where
-  pub fault : r.fault ≡ fault_of (outcome (rest_at version1 ns ts s at))
-  pub stands : (i : Image) (next : ℕ) → rest_at version1 ns ts s at ≡ ok i next → RestStands s starts i r
+-- what the reader of the rest answers: the fault, or where everything stands
+pub record RestReads (ns : List (List ℕ)) (ts : List Ty) (s : List ℕ) (at : ℕ) (starts : List ℕ) (r : Result Rest Fault) : Type 0 where
+  pub fault : fault_in r ≡ fault_of (outcome (rest_at version1 ns ts s at))
+  pub stands : (i : Image) (next : ℕ) → rest_at version1 ns ts s at ≡ ok i next → (x : Rest) → r ≡ Ok x → RestStands s starts i x
 
 -- the numbers that go to the tables are within their limits
 pub record Counts (n m : ℕ) (r : Rest) : Type 0 where
@@ -58,9 +52,9 @@ pub record Placed (s : List ℕ) (i : Image) (tb : List ℕ) (r : ImageRead) : T
   pub entry : entry_at version1 (length i.tables.names) (length i.tables.types) s r.entry ≡ ok i.entry r.body
   pub body : block_at (scope_in version1 i.tables.names i.tables.types) s 12 r.body ≡ ok i.body (length s)
 
-pub record Places (s tb : List ℕ) (r : ImageRead) : Type 0 where
-  pub fault : r.fault ≡ fault_of (decode version1 s)
-  pub placed : (i : Image) → decode version1 s ≡ accepted i → Placed s i tb r
+pub record Places (s tb : List ℕ) (r : Result ImageRead Fault) : Type 0 where
+  pub fault : fault_in r ≡ fault_of (decode version1 s)
+  pub placed : (i : Image) → decode version1 s ≡ accepted i → (x : ImageRead) → r ≡ Ok x → Placed s i tb x
 
 -- every part of the image
 pub record Laid (s : List ℕ) (i : Image) (tb : List ℕ) (r : ImageRead) : Type 0 where
@@ -69,7 +63,7 @@ pub record Laid (s : List ℕ) (i : Image) (tb : List ℕ) (r : ImageRead) : Typ
   pub entry : entry_at version1 (length i.tables.names) (length i.tables.types) s r.entry ≡ ok i.entry r.body
   pub body : block_at (scope_in version1 i.tables.names i.tables.types) s 12 r.body ≡ ok i.body (length s)
 
--- the reader's answer: the fault's number, or 0 and where everything stands
-pub record Reads (s tb : List ℕ) (r : ImageRead) : Type 0 where
-  pub fault : r.fault ≡ fault_of (decode version1 s)
-  pub laid : (i : Image) → decode version1 s ≡ accepted i → Laid s i tb r
+-- the reader's answer: the first fault, or where everything stands
+pub record Reads (s tb : List ℕ) (r : Result ImageRead Fault) : Type 0 where
+  pub fault : fault_in r ≡ fault_of (decode version1 s)
+  pub laid : (i : Image) → decode version1 s ≡ accepted i → (x : ImageRead) → r ≡ Ok x → Laid s i tb x

@@ -3,8 +3,8 @@
 use mathlib.Core.Path.{◌≡◌, refl, sym}
 use mathlib.Core.List.{[], ◌∷◌}
 use mathlib.Core.Bool.{Bool, true, false, not, ◌||◌}
-use mathlib.Core.Logic.{⊎_elim}
-use Prim.Native.Nat.{ℕ, ◌<◌}
+use mathlib.Core.Logic.{◌⊎◌, inl, inr, ⊎_elim}
+use Prim.Native.Nat.{ℕ, ◌≤◌, ◌<◌}
 use native.Mathlib.Omega.{arith}
 use lib.ListN.{get_or}
 use lib.Dec.{T, ltb, eqb}
@@ -18,10 +18,23 @@ untrue : (b : Bool) → T (not b) → b ≡ false
 untrue true t = absurd t
 untrue false t = refl
 
-pub no-leaf : (k : ℕ) → Unnamed (15 ∷ 13 ∷ 2 ∷ 1 ∷ []) k → false ≡ leaf k
+one-two : (k : ℕ) → 1 ≤ k → k < 3 → (k ≡ 1) ⊎ (k ≡ 2)
+one-two k le lt = ⊎_elim (λ (l : k < 2). inl (omega arith)) (λ (l : 2 ≤ k). inr (omega arith)) (less k 2)
+
+no-leaf : (k : ℕ) → Unnamed (15 ∷ 13 ∷ 2 ∷ 1 ∷ []) k → false ≡ leaf k
 unfolding fixed_count count_width last_width
 no-leaf k n =
     ⊎_elim (λ l. sym (untrue (leaf k) (passes (λ i x. not (leaf i)) fixed_count (15 ∷ 13 ∷ 2 ∷ 1 ∷ []) tt k n l))) (λ l. simp (lt-ltb 0 k (omega arith), le-ltb k 16 l)) (less k 16)
+
+pub leaf-high : (k : ℕ) → 3 ≤ k → ((k ≡ 13) ⊎ (k ≡ 15) → ⊥) → false ≡ leaf k
+leaf-high k le n =
+    let a : k ≡ 1 → ⊥ = omega arith in
+    let b : k ≡ 2 → ⊥ = omega arith in
+    no-leaf k ((((tt, a), b), λ e. n (inl e)), λ e. n (inr e))
+
+pub leaf-low : (k : ℕ) → 1 ≤ k → k < 3 → true ≡ leaf k
+unfolding fixed_count count_width last_width
+leaf-low k le lt = ⊎_elim (λ e. rw e refl) (λ e. rw e refl) (one-two k le lt)
 
 -- a leaf has no children, no count and no name after them
 pub leaf-columns : (k : ℕ) → leaf k ≡ true → (k < 16) × (get_or fixed_count k 0 ≡ 0) × (get_or count_width k 0 ≡ 0) × (get_or last_width k 0 ≡ 0)

@@ -95,8 +95,8 @@ pub record Going (s : List ℕ) (left n at i p : ℕ) : Type 0 where
   pub here : WalkableAll s left i p
   pub any : (es : Exprs) (next : ℕ) → StandAll es s at next → count es ≡ n → (fs : Exprs) × StandAll fs s p next × (count fs ≡ i)
 
-pub going_start : (s : List ℕ) (left n at : ℕ) → WalkableAll s left n at → Going s left n at n at
-going_start s left n at w = record { low = le_refl n; here = w; any = λ es next st c. (es, st, c) }
+pub going_start : (s : List ℕ) (left n at : ℕ) → WalkableAll s left n at → Going s left n at (n - 0) at
+going_start s left n at w = let e : n - 0 ≡ n = omega arith in rw e (record { low = le_refl n; here = w; any = λ es next st c. (es, st, c) })
 
 pub first_walk : {s : List ℕ} {left i p : ℕ} → 0 < i → WalkableAll s left i p → Walkable s left p
 unfolding StandAll depth
@@ -106,20 +106,20 @@ first_walk {s} {left} {i} {p} lt w = go w.es w.next w.stand w.many w.shallow
     go none next st c d = absurd (omega arith)
     go (more e es) next st c d = record { e = e; next = st.0; stands = st.1; shallow = omega arith }
 
-pub going_next : {s : List ℕ} {left n at i p r : ℕ} → 0 < i → Going s left n at i p
-    → ((e : Expr) (next : ℕ) → Stands e s p next → r ≡ next) → Going s left n at (i - 1) r
+pub going_next : {s : List ℕ} {left n at i p r : ℕ} (k : ℕ) → k + 1 ≡ i → Going s left n at i p
+    → ((e : Expr) (next : ℕ) → Stands e s p next → r ≡ next) → Going s left n at k r
 unfolding StandAll depth
-going_next {s} {left} {n} {at} {i} {p} {r} lt g f =
+going_next {s} {left} {n} {at} {i} {p} {r} k one g f =
     let l = g.low in
     let w = g.here in
     record { low = omega arith; here = go w.es w.next w.stand w.many w.shallow; any = λ es next st c. let h = g.any es next st c in rest h.0 next h.1 h.2 }
   where
-    go : (es : Exprs) (next : ℕ) → StandAll es s p next → count es ≡ i → depth_all es ≤ left → WalkableAll s left (i - 1) r
+    go : (es : Exprs) (next : ℕ) → StandAll es s p next → count es ≡ i → depth_all es ≤ left → WalkableAll s left k r
     go none next st c d = absurd (omega arith)
     go (more e es) next st c d =
         record { es = es; next = next; stand = subst (λ x. StandAll es s x next) (sym (f e st.0 st.1)) st.2; many = omega arith; shallow = omega arith }
 
-    rest : (es : Exprs) (next : ℕ) → StandAll es s p next → count es ≡ i → (fs : Exprs) × StandAll fs s r next × (count fs ≡ i - 1)
+    rest : (es : Exprs) (next : ℕ) → StandAll es s p next → count es ≡ i → (fs : Exprs) × StandAll fs s r next × (count fs ≡ k)
     rest none next st c = absurd (omega arith)
     rest (more e es) next st c = (es, subst (λ x. StandAll es s x next) (sym (f e st.0 st.1)) st.2, omega arith)
 

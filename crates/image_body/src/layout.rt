@@ -1,10 +1,12 @@
 // The layout of expressions (tags 1 to 15) and statements (tags 1 to 10), a column of specs/Expr.antt or specs/Stmt.antt each. A
 // `match` compiles to one load; an array that is indexed would be stored anew at every use.
+// Tags are bytes of the image; document 01 lists the columns by them.
 ghost use Rattle.std.specs.Prelude.{◌≡◌, ◌<◌, get_or};
 ghost use Rattle.image_body.specs.Expr.{arg_width, fixed_count, count_width, last_width, leaf};
 ghost use Rattle.image_body.specs.Stmt.{head_bytes, value_flag, value_count, type_width, block_count, else_flag};
 
 // Bytes of the argument before the children: 1 an operator, 2 a name.
+#[tactic(auto, unfolding(crate::specs::Expr::arg_width))]
 pub fn arg_width(tag: usize) -> usize
     ensures { (result ≡ get_or arg_width tag 0) × (result < 10) }
 {
@@ -17,6 +19,7 @@ pub fn arg_width(tag: usize) -> usize
 }
 
 // Fixed children.
+#[tactic(auto, unfolding(crate::specs::Expr::fixed_count))]
 pub fn fixed_count(tag: usize) -> usize
     ensures { (result ≡ get_or fixed_count tag 0) × (result < 10) }
 {
@@ -34,6 +37,7 @@ pub fn fixed_count(tag: usize) -> usize
 }
 
 // Bytes of the count of the items that follow them.
+#[tactic(auto, unfolding(crate::specs::Expr::count_width))]
 pub fn count_width(tag: usize) -> usize
     ensures { (result ≡ get_or count_width tag 0) × (result < 10) }
 {
@@ -47,6 +51,7 @@ pub fn count_width(tag: usize) -> usize
 }
 
 // Bytes of the name after these.
+#[tactic(auto, unfolding(crate::specs::Expr::last_width))]
 pub fn last_width(tag: usize) -> usize
     ensures { (result ≡ get_or last_width tag 0) × (result < 10) }
 {
@@ -60,16 +65,11 @@ pub fn last_width(tag: usize) -> usize
 pub fn is_leaf(tag: usize) -> bool
     ensures { result ≡ leaf tag }
 {
-    match tag {
-        1 => true,
-        2 => true,
-        13 => true,
-        15 => true,
-        _ => false,
-    }
+    matches!(tag, 1 | 2 | 13 | 15)
 }
 
 // Bytes of the head.
+#[tactic(auto, unfolding(crate::specs::Stmt::head_bytes))]
 pub fn head_bytes(tag: usize) -> usize
     ensures { (result ≡ get_or head_bytes tag 0) × (result < 10) }
 {
@@ -89,6 +89,7 @@ pub fn head_bytes(tag: usize) -> usize
 }
 
 // Bytes of the flag that says if there is a value.
+#[tactic(auto, unfolding(crate::specs::Stmt::value_flag))]
 pub fn value_flag(tag: usize) -> usize
     ensures { (result ≡ get_or value_flag tag 0) × (result < 10) }
 {
@@ -99,6 +100,7 @@ pub fn value_flag(tag: usize) -> usize
 }
 
 // Values.
+#[tactic(auto, unfolding(crate::specs::Stmt::value_count))]
 pub fn value_count(tag: usize) -> usize
     ensures { (result ≡ get_or value_count tag 0) × (result < 10) }
 {
@@ -114,6 +116,7 @@ pub fn value_count(tag: usize) -> usize
 }
 
 // Bytes of the type after them.
+#[tactic(auto, unfolding(crate::specs::Stmt::type_width))]
 pub fn type_width(tag: usize) -> usize
     ensures { (result ≡ get_or type_width tag 0) × (result < 10) }
 {
@@ -125,6 +128,7 @@ pub fn type_width(tag: usize) -> usize
 }
 
 // Blocks.
+#[tactic(auto, unfolding(crate::specs::Stmt::block_count))]
 pub fn block_count(tag: usize) -> usize
     ensures { (result ≡ get_or block_count tag 0) × (result < 10) }
 {
@@ -137,6 +141,7 @@ pub fn block_count(tag: usize) -> usize
 }
 
 // Bytes of the flag that says if there is one more.
+#[tactic(auto, unfolding(crate::specs::Stmt::else_flag))]
 pub fn else_flag(tag: usize) -> usize
     ensures { (result ≡ get_or else_flag tag 0) × (result < 10) }
 {

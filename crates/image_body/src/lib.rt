@@ -42,6 +42,7 @@ pub enum Node {
 }
 
 // The node of the tag at a position, whatever follows it; Other past the end and for any other byte.
+#[tactic(auto, unfolding(crate::specs::Node::node_of))]
 pub fn node_at(s: &[u8], at: usize) -> Node
     ensures { result ≡ node_at s.now at }
 {
@@ -95,10 +96,7 @@ pub fn generic_receiver(s: &[u8], flags: &[u8], at: usize) -> bool
     }
     let target = p + 7;
     let q = strip_noop_unary(s, target);
-    if peek(s, q) != 1 {
-        return false;
-    }
-    peek(flags, peek_two(s, target + 5)) == 1
+    peek(s, q) == 1 && peek(flags, peek_two(s, target + 5)) == 1
 }
 
 // The number of items at p, or 0 where the tag has no counted list.
@@ -133,11 +131,9 @@ pub fn skip_many(s: &[u8], left: usize, n: usize, at: usize) -> usize
     requires { WalkableAll s.now left n at }
     ensures { (es : Exprs) (next : ℕ) → StandAll es s.now at next → count es ≡ n → result ≡ next }
 {
-    let mut i = n;
     let mut p = at;
-    while 0 < i {
+    for _ in 0..n {
         p = skip(s, left, p);
-        i -= 1;
     }
     p
 }

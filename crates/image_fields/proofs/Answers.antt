@@ -1,70 +1,100 @@
 -- From the code's answer back to what the definitions answered.
 -- Assumes nothing.
-use mathlib.Core.Path.{◌≡◌, refl}
+use mathlib.Core.Path.{◌≡◌, refl, ap, sym, ◌∙◌}
 use Prim.Native.Nat.{ℕ}
 use native.Mathlib.Omega.{arith}
 use mathlib.Core.List.{List}
 use lib.ListN.{length}
+use Rattle.std.specs.Prelude.{Result, Ok, Err, IsErr, IsErrAnd}
+use Rattle.std.proofs.lemmas.Result.{err_from_is_err_and}
+use Rattle.image_fields.specs.declared.Fault.{Fault}
+use Rattle.image_fields.specs.Fault.{fault_number, coded}
 use Rattle.image_fields.specs.Parsed.{Parsed, ok, fault, bind}
-use Rattle.image_fields.specs.Answer.{read_of, number_of, table_of}
-use Rattle.image_fields.specs.declared.Read.{Read}
-use Rattle.image_fields.specs.declared.Read.TheVariants.{Next, Fault}
-use Rattle.image_fields.specs.declared.Number.{Number}
-use Rattle.image_fields.specs.declared.Number.TheVariants.{Is, Wrong}
+use Rattle.image_fields.specs.Answer.{read_of, number_of, number_or, table_of}
 
-pub number_ok : {x : Parsed ℕ} {a p : ℕ} {r : Number} → r ≡ number_of x → r ≡ Is a p → x ≡ ok a p
+both : {A : Type 0} (f : ℕ → ℕ → A) {a b c d : ℕ} → ◌≡◌ {A = ℕ × ℕ} (a, b) (c, d) → f a b ≡ f c d
+both f e = ap (λ z. f z.0 z.1) e
+
+pub number_at : {x : Parsed ℕ} {a p : ℕ} → Ok (a, p) ≡ number_of x → x ≡ ok a p
 unfolding number_of
-number_ok {x = ok b q} e f = cc
-number_ok {x = fault n} e f = cc
+number_at {x = ok b q} {a} {p} e = let z : ◌≡◌ {A = ℕ × ℕ} (b, q) (a, p) = cc in both (λ x y. ok x y) z
+number_at {x = fault n} e = cc
 
-pub number-wrong : {x : Parsed ℕ} {n : ℕ} {r : Number} → r ≡ number_of x → r ≡ Wrong n → x ≡ fault n
+pub number-err : {x : Parsed ℕ} {n : ℕ} → Err n ≡ number_of x → x ≡ fault n
 unfolding number_of
-number-wrong {x = ok b q} e f = cc
-number-wrong {x = fault n} e f = cc
+number-err {x = ok b q} e = cc
+number-err {x = fault n} e = cc
 
-pub read_ok : {A : Type 0} {x : Parsed A} {p : ℕ} {r : Read} → r ≡ read_of x → r ≡ Next p → (a : A) × (x ≡ ok a p)
+pub read_at : {A : Type 0} {x : Parsed A} {p : ℕ} → Ok p ≡ read_of x → (a : A) × (x ≡ ok a p)
 unfolding read_of
-read_ok {x = ok a q} e f = (a, cc)
-read_ok {x = fault n} {p} {r} e f = let z : ◌≡◌ {A = ℕ} 0 1 = cc in absurd (omega arith)
+read_at {x = ok a q} e = (a, cc)
+read_at {x = fault n} {p} e = let z : ◌≡◌ {A = ℕ} 0 1 = cc in absurd (omega arith)
 
-pub read-fault : {A : Type 0} {x : Parsed A} {n : ℕ} {r : Read} → r ≡ read_of x → r ≡ Fault n → x ≡ fault n
+pub read-err : {A : Type 0} {x : Parsed A} {n : ℕ} → Err n ≡ read_of x → x ≡ fault n
 unfolding read_of
-read-fault {x = ok a q} e f = cc
-read-fault {x = fault n} e f = cc
+read-err {x = ok a q} e = cc
+read-err {x = fault n} e = cc
 
-pub table-ok : {A : Type 0} {x : Parsed (List A)} {n p : ℕ} {r : Number} → r ≡ table_of x → r ≡ Is n p
+pub table_at : {A : Type 0} {x : Parsed (List A)} {n p : ℕ} → Ok (n, p) ≡ table_of x → (xs : List A) × (x ≡ ok xs p) × (length xs ≡ n)
+unfolding table_of
+table_at {x = ok xs q} {n} {p} e = let z : ◌≡◌ {A = ℕ × ℕ} (length xs, q) (n, p) = cc in (xs, both (λ l y. ok xs y) z, both (λ l y. l) z)
+table_at {x = fault m} {n} {p} e = let z : ◌≡◌ {A = ℕ} 0 1 = cc in absurd (omega arith)
+
+pub table-err : {A : Type 0} {x : Parsed (List A)} {n : ℕ} → Err n ≡ table_of x → x ≡ fault n
+unfolding table_of
+table-err {x = ok xs q} e = cc
+table-err {x = fault m} e = cc
+
+-- the same of a result that is known to be one or the other
+pub number_ok : {x : Parsed ℕ} {a p : ℕ} {r : Result (ℕ × ℕ) Fault} → coded r ≡ number_of x → r ≡ Ok (a, p) → x ≡ ok a p
+number_ok e f = number_at (sym (ap coded f) ∙ e)
+
+pub number-wrong : {x : Parsed ℕ} {n : Fault} {r : Result (ℕ × ℕ) Fault} → coded r ≡ number_of x → r ≡ Err n → x ≡ fault (fault_number n)
+number-wrong e f = number-err (sym (ap coded f) ∙ e)
+
+pub read_ok : {A : Type 0} {x : Parsed A} {p : ℕ} {r : Result ℕ Fault} → coded r ≡ read_of x → r ≡ Ok p → (a : A) × (x ≡ ok a p)
+read_ok e f = read_at (sym (ap coded f) ∙ e)
+
+pub read-fault : {A : Type 0} {x : Parsed A} {n : Fault} {r : Result ℕ Fault} → coded r ≡ read_of x → r ≡ Err n → x ≡ fault (fault_number n)
+read-fault e f = read-err (sym (ap coded f) ∙ e)
+
+pub table-ok : {A : Type 0} {x : Parsed (List A)} {n p : ℕ} {r : Result (ℕ × ℕ) Fault} → coded r ≡ table_of x → r ≡ Ok (n, p)
     → (xs : List A) × (x ≡ ok xs p) × (length xs ≡ n)
-unfolding table_of
-table-ok {x = ok xs q} e f = (xs, cc, cc)
-table-ok {x = fault m} {n} {p} {r} e f = let z : ◌≡◌ {A = ℕ} 0 1 = cc in absurd (omega arith)
+table-ok e f = table_at (sym (ap coded f) ∙ e)
 
-pub table-wrong : {A : Type 0} {x : Parsed (List A)} {n : ℕ} {r : Number} → r ≡ table_of x → r ≡ Wrong n → x ≡ fault n
-unfolding table_of
-table-wrong {x = ok xs q} e f = cc
-table-wrong {x = fault m} e f = cc
+pub table-wrong : {A : Type 0} {x : Parsed (List A)} {n : Fault} {r : Result (ℕ × ℕ) Fault} → coded r ≡ table_of x → r ≡ Err n → x ≡ fault (fault_number n)
+table-wrong e f = table-err (sym (ap coded f) ∙ e)
 
 -- the answers that a reading's outcome makes
-pub reads : {A : Type 0} {x : Parsed A} {a : A} {p : ℕ} → x ≡ ok a p → Next p ≡ read_of x
+pub reads : {A : Type 0} {x : Parsed A} {a : A} {p : ℕ} → x ≡ ok a p → Ok p ≡ read_of x
 unfolding read_of
 reads e = rw e
 
-pub faults : {A : Type 0} {x : Parsed A} {n : ℕ} → x ≡ fault n → Fault n ≡ read_of x
+pub faults : {A : Type 0} {x : Parsed A} {n : ℕ} → x ≡ fault n → Err n ≡ read_of x
 unfolding read_of
 faults e = rw e
 
-pub is-number : {x : Parsed ℕ} {a p : ℕ} → x ≡ ok a p → Is a p ≡ number_of x
+pub is-number : {x : Parsed ℕ} {a p : ℕ} → x ≡ ok a p → Ok (a, p) ≡ number_of x
 unfolding number_of
 is-number e = rw e
 
-pub wrong-number : {x : Parsed ℕ} {n : ℕ} → x ≡ fault n → Wrong n ≡ number_of x
+pub wrong-number : {x : Parsed ℕ} {n : ℕ} → x ≡ fault n → Err n ≡ number_of x
 unfolding number_of
 wrong-number e = rw e
 
-pub is-table : {A : Type 0} {x : Parsed (List A)} {xs : List A} {n p : ℕ} → x ≡ ok xs p → length xs ≡ n → Is n p ≡ table_of x
+pub is-number_or : {E : Type 0} (e : E) {x : Parsed ℕ} {a p : ℕ} → x ≡ ok a p → Ok (a, p) ≡ number_or e x
+unfolding number_or
+is-number_or e h = rw h
+
+pub wrong-number_or : {E : Type 0} (e : E) {x : Parsed ℕ} {n : ℕ} → x ≡ fault n → Err e ≡ number_or e x
+unfolding number_or
+wrong-number_or e h = rw h
+
+pub is-table : {A : Type 0} {x : Parsed (List A)} {xs : List A} {n p : ℕ} → x ≡ ok xs p → length xs ≡ n → Ok (n, p) ≡ table_of x
 unfolding table_of
 is-table e l = rw (e, l)
 
-pub wrong-table : {A : Type 0} {x : Parsed (List A)} {n : ℕ} → x ≡ fault n → Wrong n ≡ table_of x
+pub wrong-table : {A : Type 0} {x : Parsed (List A)} {n : ℕ} → x ≡ fault n → Err n ≡ table_of x
 unfolding table_of
 wrong-table e = rw e
 
@@ -82,3 +112,7 @@ pub mapped : {A B : Type 0} (x : Parsed A) (f : A → B) → read_of (bind x (λ
 unfolding bind read_of
 mapped (ok a q) f = refl
 mapped (fault n) f = refl
+
+-- what a `?` gives back: the fault that came
+pub passed : {T E : Type 0} {r : Result T E} {e : E} → IsErr r × IsErrAnd r (λ x. x ≡ e) → r ≡ Err e
+passed {r = r} h = let p = err_from_is_err_and r h.1 in rw (p.1, p.2)

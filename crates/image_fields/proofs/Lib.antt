@@ -6,3 +6,4 @@ pub mod Numbers
 pub mod Tables
 pub mod Rules
 pub mod Columns
+pub mod Faults

@@ -14,14 +14,13 @@ use Rattle.image_fields.specs.Parsed.{Parsed, ok, fault, bind, ensure}
 use Rattle.image_fields.specs.Number.{two, field_at}
 use Rattle.image_fields.specs.Table.{many_of, table_from, table_at, member, entries}
 use Rattle.image_fields.specs.Answer.{read_of, table_of}
-use Rattle.image_fields.specs.declared.Read.TheVariants.{Next, Fault}
-use Rattle.image_fields.specs.declared.Number.TheVariants.{Is}
+use Rattle.std.specs.Prelude.{Ok, Err}
 use Rattle.image_fields.proofs.Inverse.{bound, ensure-ok}
 use Rattle.image_fields.proofs.Answers.{mapped}
 
 -- so many of a kind
 module _ {A L : Type 0} (nil : L) (cons : A → L → L) (f : ℕ → Parsed A) where
-  pub of_none : (n : ℕ) {p : ℕ} → n ≤ 0 → Next p ≡ read_of (many_of nil cons f n p)
+  pub of_none : (n : ℕ) {p : ℕ} → n ≤ 0 → Ok p ≡ read_of (many_of nil cons f n p)
   unfolding many_of read_of
   of_none n le = let e : n ≡ 0 = omega arith in rw e
 
@@ -30,7 +29,7 @@ module _ {A L : Type 0} (nil : L) (cons : A → L → L) (f : ℕ → Parsed A) 
   of-next zero lt h = absurd (omega arith)
   of-next (suc k) {p} {q} {x} lt h = let g : suc k - 1 ≡ k = omega arith in rw (g, h) (mapped (many_of nil cons f k q) (cons x))
 
-  pub of-stop : (n : ℕ) {p m : ℕ} → 0 < n → f p ≡ fault m → read_of (many_of nil cons f n p) ≡ Fault m
+  pub of-stop : (n : ℕ) {p m : ℕ} → 0 < n → f p ≡ fault m → read_of (many_of nil cons f n p) ≡ Err m
   unfolding many_of bind read_of
   of-stop zero lt h = absurd (omega arith)
   of-stop (suc k) lt h = rw h
@@ -183,14 +182,13 @@ module _ (s : List ℕ) (w x : ℕ) where
   among-here zero p lt e = absurd (omega arith)
   among-here (suc i) p lt e = rw (eq-eqb (two s p) x e)
 
-  pub among_next : (i p : ℕ) → 0 < i → (two s p ≡ x → ⊥) → member eqb (entries (two s) w i p) x ≡ member eqb (entries (two s) w (i - 1) (p + w)) x
+  pub among_next : (i j p : ℕ) → i ≡ j + 1 → (two s p ≡ x → ⊥) → member eqb (entries (two s) w i p) x ≡ member eqb (entries (two s) w j (p + w)) x
   unfolding member entries
-  among_next zero p lt e = absurd (omega arith)
-  among_next (suc i) p lt e = let g : suc i - 1 ≡ i = omega arith in rw (ne_eqb (two s p) x e, g)
+  among_next zero j p lt e = absurd (omega arith)
+  among_next (suc i) j p lt e = let g : i ≡ j = omega arith in rw (ne_eqb (two s p) x e, g)
 
-pub stride-less : (w i : ℕ) → 0 < i → w * i ≡ w + w * (i - 1)
-stride-less w zero lt = absurd (omega arith)
-stride-less w (suc i) lt = let g : suc i - 1 ≡ i = omega arith in rw g (omega arith)
+pub stride-less : (w i j : ℕ) → i ≡ j + 1 → w * i ≡ w + w * j
+stride-less w i j e = rw e (omega arith)
 
 -- two readers of entries that differ only in what they make of them answer alike
 bind_assoc : {A B C : Type 0} (x : Parsed A) (k : A → ℕ → Parsed B) (l : B → ℕ → Parsed C) → bind (bind x k) l ≡ bind x (λ a p. bind (k a p) l)
@@ -237,7 +235,7 @@ module _ {A B : Type 0} (h : A → B) (f : List A → ℕ → Parsed A) (g : Lis
     (alike : (xs : List A) (p : ℕ) → bind (f xs p) (λ x q. ok (h x) q) ≡ g (map h xs) p) where
   from-alike : (xs : List A) (n p : ℕ) → table_of (table_from f xs n p) ≡ table_of (table_from g (map h xs) n p)
   unfolding table_from table_of
-  from-alike xs zero p = ap (λ k. Is k p) (sym (length-map xs h))
+  from-alike xs zero p = ap (λ k. Ok (k, p)) (sym (length-map xs h))
   from-alike xs (suc n) p =
       entry-alike h (f xs p) (λ x q. table_from f (xs ++ (x ∷ [])) n q) (λ x q. table_from g (map h xs ++ (x ∷ [])) n q)
       (λ x q. from-alike (xs ++ (x ∷ [])) n q ∙ ap (λ l. table_of (table_from g l n q)) (map-append h xs (x ∷ [])))

@@ -1,3 +1,4 @@
+pub mod Fault
 pub mod Parsed
 pub mod Number
 pub mod Table

@@ -124,15 +124,15 @@ unfolding flat_map
 columns-snoc [] n = append-nil (column n)
 columns-snoc (p ∷ ps) n = rw (append_assoc, columns-snoc ps n)
 
-pub text-others : (h ps text : List ℕ) (i e : ℕ) → length h ≡ 36 → length ps ≤ 3 → i < length ps → e ≡ 36 + 12 * i →
+pub text-others : (h ps text : List ℕ) (i e : ℕ) → length h ≡ 36 → length ps ≤ 3 → i < length ps → e ≡ 48 + 12 * i →
     text ≡ left_in 73 (h ++ flat_map column (take i ps)) →
-    sets text (e + 12 - length (digits (get_or ps i 0))) (digits (get_or ps i 0)) ≡ left_in 73 (h ++ flat_map column (take (i + 1) ps))
+    sets text (e - length (digits (get_or ps i 0))) (digits (get_or ps i 0)) ≡ left_in 73 (h ++ flat_map column (take (i + 1) ps))
 text-others h ps text i e b m t at k =
     let l = length-append h (flat_map column (take i ps)) in
     let c = columns-length (take i ps) in
     let n = length-take-le i ps (omega arith) in
     rw (k, add-one, take-suc ps i 0, columns-snoc, ← append_assoc)
-    (text-column (h ++ flat_map column (take i ps)) (get_or ps i 0) (e + 12) (omega arith) (omega arith))
+    (text-column (h ++ flat_map column (take i ps)) (get_or ps i 0) e (omega arith) (omega arith))
 
 -- the first 36 columns
 pub head-length : (name : List ℕ) (p : ℕ) → length name ≤ 24 → length (head name p) ≡ 36

@@ -14,6 +14,7 @@ ghost use Rattle.image_lines.specs.Told.{left_begin};
 ghost use Rattle.image_lines.specs.Further.{further_lines};
 
 // The digits of a number, the last of them before `end`.
+// A `while` over what is left of the number: no index is counted through.
 fn put_digits(text: &mut [u8; 73], end: usize, n: u32)
     requires { (12 ≤ end) × (end ≤ 73) }
     ensures { text.new ≡ sets text.old (end - length (digits n)) (digits n) }
@@ -36,7 +37,7 @@ fn put_name(text: &mut [u8; 73], name: &[u8])
     image_writing::copy_bytes(name, 0, name.len(), text, 0);
 }
 
-// The name of an error's kind.
+// The name of an error's kind, which is a number in the list of numbers that C is lent.
 fn put_kind(text: &mut [u8; 73], kind: u32)
     requires { (0 < kind) × (kind ≤ 8) }
     ensures { text.new ≡ sets text.old 0 (kind_name kind) }
@@ -58,12 +59,8 @@ fn put_others(text: &mut [u8; 73], others: &[u32])
     requires { length others.now ≤ 3 }
     ensures { (h : List ℕ) → length h ≡ 36 → text.old ≡ left_in 73 h → text.new ≡ left_in 73 (h ++ flat_map column others.now) }
 {
-    let mut i = 0;
-    let mut end = 36;
-    while i < others.len() {
-        end += 12;
-        put_digits(text, end, others[i]);
-        i += 1;
+    for (i, place) in others.iter().enumerate() {
+        put_digits(text, 48 + 12 * i, *place);
     }
 }
 
@@ -102,7 +99,7 @@ fn three_on(from: usize, to: usize) -> usize
     requires { from ≤ to }
     ensures { result ≡ min (from + 3) to }
 {
-    if to - from < 3 { to } else { from + 3 }
+    from + (to - from).min(3)
 }
 
 // The lines that continue an entry, with the numbers from a position up to another.

@@ -1,23 +1,29 @@
 // Reads expressions, statements and blocks: every answer equals what the definitions of specs/ say of the bytes.
 #![tactic(auto)]
 
-ghost use Rattle.std.specs.Prelude.{◌≡◌, ℕ, ◌+◌, ◌-◌, ◌<◌, length, get_or};
+ghost use Rattle.std.specs.Prelude.{◌≡◌, ℕ, ◌+◌, ◌-◌, ◌<◌, length, get_or, Result};
+ghost use Rattle.image_fields.specs.declared.Fault.{Fault};
+ghost use Rattle.image_fields.specs.Fault.{coded};
 ghost use Rattle.image_fields.specs.Answer.{read_of};
 ghost use Rattle.image_body.specs.Expr.{Head, Exprs, fixed_count, arg_limit, type_ok, head_at, end_at, expr_at, exprs_at, children_at};
 ghost use Rattle.image_body.specs.Stmt.{StmtHead, Front, binds_ok, stmt_head_at, values_at, front_at, block_at, stmt_in, back_in, stmts_at, blocks_at};
 ghost use Rattle.image_body.specs.Stands.{StandAll, count};
 ghost use Rattle.image_body.specs.Answer.{scope_of};
-ghost use Rattle.image_reading.specs.Answer.{start_of, stmt_start_of, front_of};
+ghost use Rattle.image_reading.specs.Answer.{scope, start_of, stmt_start_of, front_of, ends_after};
 
 use image_body::{Env, generic_receiver, layout};
-use image_fields::{Number, Read, field, peek, peek_two, room, two_at, wide};
+use image_fields::{Fault, Read, field, peek, peek_two, room, two_at};
 
-// A node's tag and the position of what follows its head, or the fault's number.
+// What a body is read from and against: the bytes, for each type 1 if it is generic, and what names, types and depths stay below.
 #[derive(Clone, Copy)]
-pub enum Start {
-    Tag(usize, usize),
-    Bad(u8),
+struct Reader<'a> {
+    s: &'a [u8],
+    flags: &'a [u8],
+    env: Env,
 }
+
+// A node's tag and the position of what follows its head.
+type Start = Result<(usize, usize), Fault>;
 
 // What an argument of k bytes stays below: an operator or a name.
 fn arg_limit(names: usize, k: usize) -> usize
@@ -30,282 +36,222 @@ fn arg_limit(names: usize, k: usize) -> usize
 fn type_ok(env: Env, tag: usize, ty: usize) -> bool
     ensures { result ≡ type_ok env.types tag ty }
 {
-    if env.types <= ty {
-        return false;
-    }
-    if tag == 10 {
-        return ty == 0;
-    }
-    true
+    ty < env.types && (tag != 10 || ty == 0)
 }
 
-// A node's head: its tag, span, type and the argument before its children.
-fn read_head(s: &[u8], env: Env, at: usize) -> Start
-    ensures { result ≡ start_of (head_at env.names env.types s.now at) }
+// So many of a kind, one after another.
+fn read_many<F: Fn(usize) -> Read>(n: usize, at: usize, read: F) -> Read
+    requires { F.IsAlwaysCallable read }
+    ensures { (g : ℕ → Result ℕ ℕ) → ((p : ℕ) (r : Result ℕ Fault) → F.post read p r → coded r ≡ g p)
+        → coded result ≡ ends_after g n at }
 {
-    if room(s, at) < 7 {
-        return Start::Bad(8);
-    }
-    let tag = wide(s[at]);
-    if tag == 0 {
-        return Start::Bad(8);
-    }
-    if 15 < tag {
-        return Start::Bad(8);
-    }
-    let ty = two_at(s, at + 5);
-    if !type_ok(env, tag, ty) {
-        return Start::Bad(8);
-    }
-    let width = layout::arg_width(tag);
-    match field(s, 8, arg_limit(env.names, width), width, at + 7) {
-        Number::Is(_, next) => Start::Tag(tag, next),
-        Number::Wrong(f) => Start::Bad(f),
-    }
-}
-
-// What is left once the children are read: the name of a FieldAccess, and the test of a Call's receiver.
-fn read_end(s: &[u8], flags: &[u8], env: Env, tag: usize, first: usize, at: usize) -> Read
-    requires { tag < 16 }
-    ensures { (h : Head) (ks xs : Exprs) (q : ℕ) → h.tag ≡ tag → count ks ≡ get_or fixed_count tag 0 → StandAll ks s.now first q
-        → result ≡ read_of (end_at (scope_of env flags.now) s.now h ks xs at) }
-{
-    let width = layout::last_width(tag);
-    match field(s, 8, env.names, width, at) {
-        Number::Wrong(f) => Read::Fault(f),
-        Number::Is(_, next) => {
-            if tag == 6 {
-                if generic_receiver(s, flags, first) {
-                    return Read::Fault(11);
-                }
-            }
-            Read::Next(next)
-        }
-    }
-}
-
-// An expression, with so much depth left.
-#[cycle(read_children_read_expr_read_exprs)]
-fn read_expr(s: &[u8], flags: &[u8], env: Env, left: usize, at: usize) -> Read
-    ensures { result ≡ read_of (expr_at (scope_of env flags.now) s.now left at) }
-{
-    if 0 < left {
-        match read_head(s, env, at) {
-            Start::Bad(f) => Read::Fault(f),
-            Start::Tag(tag, first) => {
-                if layout::is_leaf(tag) {
-                    return Read::Next(first);
-                }
-                read_children(s, flags, env, left - 1, tag, first)
-            }
-        }
-    } else {
-        Read::Fault(9)
-    }
-}
-
-// What follows the head of a node: its fixed children, its counted list, and the end.
-#[cycle(read_children_read_expr_read_exprs)]
-fn read_children(s: &[u8], flags: &[u8], env: Env, left: usize, tag: usize, first: usize) -> Read
-    requires { tag < 16 }
-    ensures { (h : Head) → h.tag ≡ tag → result ≡ read_of (children_at (scope_of env flags.now) s.now left h first) }
-{
-    let fixed = layout::fixed_count(tag);
-    match read_exprs(s, flags, env, left, fixed, first) {
-        Read::Fault(f) => Read::Fault(f),
-        Read::Next(p) => {
-            let width = layout::count_width(tag);
-            match field(s, 8, 65536, width, p) {
-                Number::Wrong(f) => Read::Fault(f),
-                Number::Is(n, q) => match read_exprs(s, flags, env, left, n, q) {
-                    Read::Fault(f) => Read::Fault(f),
-                    Read::Next(u) => read_end(s, flags, env, tag, first, u),
-                },
-            }
-        }
-    }
-}
-
-// So many expressions, one after another.
-#[cycle(read_children_read_expr_read_exprs)]
-fn read_exprs(s: &[u8], flags: &[u8], env: Env, left: usize, n: usize, at: usize) -> Read
-    ensures { result ≡ read_of (exprs_at (scope_of env flags.now) s.now left n at) }
-{
-    let mut i = n;
     let mut p = at;
-    while 0 < i {
-        match read_expr(s, flags, env, left, p) {
-            Read::Fault(f) => {
-                return Read::Fault(f);
-            }
-            Read::Next(q) => {
-                p = q;
-                i -= 1;
-            }
-        }
+    for _ in 0..n {
+        p = read(p)?;
     }
-    Read::Next(p)
-}
-
-// The name and the type of a Let or Const.
-fn binds_ok(s: &[u8], env: Env, size: usize, at: usize) -> bool
-    requires { at < length s.now }
-    ensures { result ≡ binds_ok env.names env.types size s.now at }
-{
-    if size == 9 {
-        if peek_two(s, at + 5) < env.names {
-            return peek_two(s, at + 7) < env.types;
-        }
-        return false;
-    }
-    true
-}
-
-// A statement's head: its tag, span, and the name and type of a Let or Const.
-fn read_stmt_head(s: &[u8], env: Env, at: usize) -> Start
-    ensures { result ≡ stmt_start_of (stmt_head_at env.names env.types s.now at) }
-{
-    let tag = peek(s, at);
-    if tag == 0 {
-        return Start::Bad(8);
-    }
-    if 10 < tag {
-        return Start::Bad(8);
-    }
-    let size = layout::head_bytes(tag);
-    if room(s, at) < size {
-        return Start::Bad(8);
-    }
-    if binds_ok(s, env, size, at) {
-        Start::Tag(tag, at + size)
-    } else {
-        Start::Bad(8)
-    }
-}
-
-// A statement up to its blocks.
-fn read_front(s: &[u8], flags: &[u8], env: Env, at: usize) -> Start
-    ensures { result ≡ front_of (front_at (scope_of env flags.now) s.now at) }
-{
-    match read_stmt_head(s, env, at) {
-        Start::Bad(f) => Start::Bad(f),
-        Start::Tag(tag, p) => read_values(s, flags, env, tag, p),
-    }
-}
-
-// The values of a statement and the type after them.
-fn read_values(s: &[u8], flags: &[u8], env: Env, tag: usize, p: usize) -> Start
-    requires { tag < 11 }
-    ensures { (h : StmtHead) → h.tag ≡ tag → result ≡ front_of (values_at (scope_of env flags.now) s.now h p) }
-{
-    let flag = layout::value_flag(tag);
-    match field(s, 8, 2, flag, p) {
-        Number::Wrong(f) => Start::Bad(f),
-        Number::Is(n, q) => {
-            let count = layout::value_count(tag);
-            match read_exprs(s, flags, env, env.depth, count + n, q) {
-                Read::Fault(f) => Start::Bad(f),
-                Read::Next(r) => {
-                    let width = layout::type_width(tag);
-                    match field(s, 8, env.types, width, r) {
-                        Number::Wrong(f) => Start::Bad(f),
-                        Number::Is(_, u) => Start::Tag(tag, u),
-                    }
-                }
-            }
-        }
-    }
+    Ok(p)
 }
 
 // A block, with so much depth left.
-#[cycle(read_back_read_block_read_blocks_read_stmt_read_stmts)]
 pub fn read_block(s: &[u8], flags: &[u8], env: Env, left: usize, at: usize) -> Read
-    ensures { result ≡ read_of (block_at (scope_of env flags.now) s.now left at) }
+    ensures { coded result ≡ read_of (block_at (scope_of env flags.now) s.now left at) }
 {
-    let bytes = room(s, at);
-    if left == 0 {
-        return Read::Fault(9);
-    }
-    if bytes < 6 {
-        return Read::Fault(8);
-    }
-    let n = two_at(s, at + 4);
-    read_stmts(s, flags, env, left - 1, n, at + 6)
+    let reader = Reader { s, flags, env };
+    reader.read_block(left, at)
 }
 
-// So many statements; their blocks have so much depth left.
-#[cycle(read_back_read_block_read_blocks_read_stmt_read_stmts)]
-fn read_stmts(s: &[u8], flags: &[u8], env: Env, left: usize, n: usize, at: usize) -> Read
-    ensures { result ≡ read_of (stmts_at (scope_of env flags.now) s.now left n at) }
-{
-    let mut i = n;
-    let mut p = at;
-    while 0 < i {
-        match read_stmt(s, flags, env, left, p) {
-            Read::Fault(f) => {
-                return Read::Fault(f);
-            }
-            Read::Next(q) => {
-                p = q;
-                i -= 1;
-            }
+impl<'a> Reader<'a> {
+    // A node's head: its tag, span, type and the argument before its children.
+    fn read_head(&self, at: usize) -> Start
+        ensures { coded result ≡ start_of (head_at self.now.env.names self.now.env.types self.now.s.now at) }
+    {
+        if room(self.s, at) < 7 {
+            return Err(Fault::Body);
         }
+        let tag = usize::from(self.s[at]);
+        if tag == 0 || 15 < tag {
+            return Err(Fault::Body);
+        }
+        let ty = two_at(self.s, at + 5);
+        if !type_ok(self.env, tag, ty) {
+            return Err(Fault::Body);
+        }
+        let width = layout::arg_width(tag);
+        let (_, next) = field(
+            self.s,
+            Fault::Body,
+            arg_limit(self.env.names, width),
+            width,
+            at + 7,
+        )?;
+        Ok((tag, next))
     }
-    Read::Next(p)
-}
 
-// A statement; its blocks have so much depth left.
-#[cycle(read_back_read_block_read_blocks_read_stmt_read_stmts)]
-fn read_stmt(s: &[u8], flags: &[u8], env: Env, left: usize, at: usize) -> Read
-    ensures { result ≡ read_of (stmt_in (scope_of env flags.now) s.now left at) }
-{
-    match read_front(s, flags, env, at) {
-        Start::Bad(f) => Read::Fault(f),
-        Start::Tag(tag, p) => {
-            if layout::block_count(tag) == 0 {
-                return Read::Next(p);
-            }
-            read_back(s, flags, env, left, tag, p)
+    // What is left once the children are read: the name of a FieldAccess, and the test of a Call's receiver.
+    fn read_end(&self, tag: usize, first: usize, at: usize) -> Read
+        requires { tag < 16 }
+        ensures { (h : Head) (ks xs : Exprs) (q : ℕ) → h.tag ≡ tag → count ks ≡ get_or fixed_count tag 0 → StandAll ks self.now.s.now first q
+            → coded result ≡ read_of (end_at (scope self.now) self.now.s.now h ks xs at) }
+    {
+        let width = layout::last_width(tag);
+        let (_, next) = field(self.s, Fault::Body, self.env.names, width, at)?;
+        if tag == 6 && generic_receiver(self.s, self.flags, first) {
+            return Err(Fault::GenericReceiver);
         }
+        Ok(next)
     }
-}
 
-// The blocks of a statement.
-#[cycle(read_back_read_block_read_blocks_read_stmt_read_stmts)]
-fn read_back(s: &[u8], flags: &[u8], env: Env, left: usize, tag: usize, p: usize) -> Read
-    requires { tag < 11 }
-    ensures { (h : Front) → h.head.tag ≡ tag → result ≡ read_of (back_in (scope_of env flags.now) s.now left h p) }
-{
-    let count = layout::block_count(tag);
-    match read_blocks(s, flags, env, left, count, p) {
-        Read::Fault(f) => Read::Fault(f),
-        Read::Next(q) => {
-            let flag = layout::else_flag(tag);
-            match field(s, 8, 2, flag, q) {
-                Number::Wrong(f) => Read::Fault(f),
-                Number::Is(n, r) => read_blocks(s, flags, env, left, n, r),
-            }
+    // An expression, with so much depth left.
+    #[cycle(expressions)]
+    fn read_expr(&self, left: usize, at: usize) -> Read
+        ensures { coded result ≡ read_of (expr_at (scope self.now) self.now.s.now left at) }
+    {
+        if left == 0 {
+            return Err(Fault::Depth);
         }
+        let (tag, first) = self.read_head(at)?;
+        if layout::is_leaf(tag) {
+            return Ok(first);
+        }
+        self.read_children(left - 1, tag, first)
     }
-}
 
-// So many blocks, one after another.
-#[cycle(read_back_read_block_read_blocks_read_stmt_read_stmts)]
-fn read_blocks(s: &[u8], flags: &[u8], env: Env, left: usize, n: usize, at: usize) -> Read
-    ensures { result ≡ read_of (blocks_at (scope_of env flags.now) s.now left n at) }
-{
-    let mut i = n;
-    let mut p = at;
-    while 0 < i {
-        match read_block(s, flags, env, left, p) {
-            Read::Fault(f) => {
-                return Read::Fault(f);
-            }
-            Read::Next(q) => {
-                p = q;
-                i -= 1;
-            }
+    // What follows the head of a node: its fixed children, its counted list, and the end.
+    #[cycle(expressions)]
+    fn read_children(&self, left: usize, tag: usize, first: usize) -> Read
+        requires { tag < 16 }
+        ensures { (h : Head) → h.tag ≡ tag → coded result ≡ read_of (children_at (scope self.now) self.now.s.now left h first) }
+    {
+        let fixed = layout::fixed_count(tag);
+        let p = self.read_exprs(left, fixed, first)?;
+        let width = layout::count_width(tag);
+        let (n, q) = field(self.s, Fault::Body, 65536, width, p)?;
+        let end = self.read_exprs(left, n, q)?;
+        self.read_end(tag, first, end)
+    }
+
+    // So many expressions, one after another: read_many under the name that its cycle calls, as read_stmts and read_blocks are.
+    #[cycle(expressions)]
+    fn read_exprs(&self, left: usize, n: usize, at: usize) -> Read
+        ensures { coded result ≡ read_of (exprs_at (scope self.now) self.now.s.now left n at) }
+    {
+        let read = |p|
+            ensures { coded result ≡ read_of (expr_at (scope self.entry.now) self.entry.now.s.now left p) }
+        { self.read_expr(left, p) };
+        read_many(n, at, read)
+    }
+
+    // The name and the type of a Let or Const.
+    fn binds_ok(&self, size: usize, at: usize) -> bool
+        requires { at < length self.now.s.now }
+        ensures { result ≡ binds_ok self.now.env.names self.now.env.types size self.now.s.now at }
+    {
+        size != 9
+            || (peek_two(self.s, at + 5) < self.env.names
+                && peek_two(self.s, at + 7) < self.env.types)
+    }
+
+    // A statement's head: its tag, span, and the name and type of a Let or Const.
+    fn read_stmt_head(&self, at: usize) -> Start
+        ensures { coded result ≡ stmt_start_of (stmt_head_at self.now.env.names self.now.env.types self.now.s.now at) }
+    {
+        let tag = peek(self.s, at);
+        if tag == 0 || 10 < tag {
+            return Err(Fault::Body);
+        }
+        let size = layout::head_bytes(tag);
+        if room(self.s, at) < size {
+            return Err(Fault::Body);
+        }
+        if self.binds_ok(size, at) {
+            Ok((tag, at + size))
+        } else {
+            Err(Fault::Body)
         }
     }
-    Read::Next(p)
+
+    // A statement up to its blocks.
+    fn read_front(&self, at: usize) -> Start
+        ensures { coded result ≡ front_of (front_at (scope self.now) self.now.s.now at) }
+    {
+        let (tag, p) = self.read_stmt_head(at)?;
+        self.read_values(tag, p)
+    }
+
+    // The values of a statement and the type after them.
+    fn read_values(&self, tag: usize, p: usize) -> Start
+        requires { tag < 11 }
+        ensures { (h : StmtHead) → h.tag ≡ tag → coded result ≡ front_of (values_at (scope self.now) self.now.s.now h p) }
+    {
+        let flag = layout::value_flag(tag);
+        let (n, q) = field(self.s, Fault::Body, 2, flag, p)?;
+        let count = layout::value_count(tag);
+        let r = self.read_exprs(self.env.depth, count + n, q)?;
+        let width = layout::type_width(tag);
+        let (_, end) = field(self.s, Fault::Body, self.env.types, width, r)?;
+        Ok((tag, end))
+    }
+
+    // A block, with so much depth left.
+    #[cycle(blocks)]
+    fn read_block(&self, left: usize, at: usize) -> Read
+        ensures { coded result ≡ read_of (block_at (scope self.now) self.now.s.now left at) }
+    {
+        let bytes = room(self.s, at);
+        if left == 0 {
+            return Err(Fault::Depth);
+        }
+        if bytes < 6 {
+            return Err(Fault::Body);
+        }
+        let n = two_at(self.s, at + 4);
+        self.read_stmts(left - 1, n, at + 6)
+    }
+
+    // So many statements; their blocks have so much depth left.
+    #[cycle(blocks)]
+    fn read_stmts(&self, left: usize, n: usize, at: usize) -> Read
+        ensures { coded result ≡ read_of (stmts_at (scope self.now) self.now.s.now left n at) }
+    {
+        let read = |p|
+            ensures { coded result ≡ read_of (stmt_in (scope self.entry.now) self.entry.now.s.now left p) }
+        { self.read_stmt(left, p) };
+        read_many(n, at, read)
+    }
+
+    // A statement; its blocks have so much depth left.
+    #[cycle(blocks)]
+    fn read_stmt(&self, left: usize, at: usize) -> Read
+        ensures { coded result ≡ read_of (stmt_in (scope self.now) self.now.s.now left at) }
+    {
+        let (tag, p) = self.read_front(at)?;
+        if layout::block_count(tag) == 0 {
+            return Ok(p);
+        }
+        self.read_back(left, tag, p)
+    }
+
+    // The blocks of a statement.
+    #[cycle(blocks)]
+    fn read_back(&self, left: usize, tag: usize, p: usize) -> Read
+        requires { tag < 11 }
+        ensures { (h : Front) → h.head.tag ≡ tag → coded result ≡ read_of (back_in (scope self.now) self.now.s.now left h p) }
+    {
+        let count = layout::block_count(tag);
+        let q = self.read_blocks(left, count, p)?;
+        let flag = layout::else_flag(tag);
+        let (n, r) = field(self.s, Fault::Body, 2, flag, q)?;
+        self.read_blocks(left, n, r)
+    }
+
+    // So many blocks, one after another.
+    #[cycle(blocks)]
+    fn read_blocks(&self, left: usize, n: usize, at: usize) -> Read
+        ensures { coded result ≡ read_of (blocks_at (scope self.now) self.now.s.now left n at) }
+    {
+        let read = |p|
+            ensures { coded result ≡ read_of (block_at (scope self.entry.now) self.entry.now.s.now left p) }
+        { self.read_block(left, p) };
+        read_many(n, at, read)
+    }
 }

@@ -1,18 +1,20 @@
 -- Laws of runs of stores.
-use Prim.Native.Nat.{ℕ, suc, ◌+◌, ◌≤◌, ◌<◌}
+use Prim.Native.Nat.{ℕ, suc, ◌+◌, ◌-◌, ◌≤◌, ◌<◌, min}
 use mathlib.Core.Path.{◌≡◌, refl, sym, ap, ◌∙◌}
 use mathlib.Core.List.{List, [], ◌∷◌, ◌++◌}
-use mathlib.Core.Bool.{true, false}
 use mathlib.Core.Logic.{⊎_elim}
-use borrow.Author.Tests.{ltb-true, ltb-false}
+use borrow.Rule.Slice.PartMut.{put_mid}
 use native.Mathlib.Nat.{add-suc, suc-add, add-zero}
 use native.Mathlib.Numerals.{add-one}
 use native.Mathlib.Omega.{arith}
-use lib.Dec.{ltb}
-use lib.ListN.{length, set, get_or, length-append}
-use lib.Seq.{sets, set_out, set_comm, length-sets, slice, slice-cons, slice_empty}
+use lib.ListN.{length, set, take, drop, length-append, take-append-drop, get_or}
+use lib.Seq.{sets, set_out, set_comm, length-sets, slice, slice-cons, take-take, length-take-le}
+use Rattle.std.proofs.Common.{rules}
+use Rattle.std.proofs.lemmas.List.{drop_all}
+use Rattle.std.proofs.lemmas.List.Edits.{sets-eq}
+use Rattle.std.proofs.lemmas.Slice.{put_mid-paste, between_is}
 use Rattle.image_fields.specs.Bytes.{two_bytes, four_bytes, number_bytes}
-use Rattle.image_fields.proofs.Tests.{split}
+use Rattle.image_fields.proofs.Tests.{less}
 use Rattle.image_body.specs.Expr.{arg_width, count_width, last_width}
 use Rattle.image_encoding.specs.Body.{encode_expr}
 use Rattle.rules.specs.Report.{delete_node, ident_node}
@@ -68,29 +70,30 @@ sets-out xs i (a ∷ u) h =
 pub slice-step : (l : List ℕ) (f t : ℕ) → f < t → t ≤ length l → slice f t l ≡ get_or l f 0 ∷ slice (f + 1) t l
 slice-step l f t h k = slice-cons f t l 0 h k ∙ ap (λ (n : ℕ). get_or l f 0 ∷ slice n t l) (sym (add-one f))
 
--- a store of an element of a part, and the rest of the part after it
-pub sets-step : (xs l : List ℕ) (at f t i : ℕ) → f + i < t → t ≤ length l
-    → sets (set xs (at + i) (get_or l (f + i) 0)) (at + (i + 1)) (slice (f + (i + 1)) t l) ≡ sets xs (at + i) (slice (f + i) t l)
-sets-step xs l at f t i h k =
-    ap (λ (n : ℕ). sets (set xs (at + i) (get_or l (f + i) 0)) n (slice (f + (i + 1)) t l)) e
-    ∙ ap (λ (n : ℕ). sets xs (at + i) (get_or l (f + i) 0 ∷ slice n t l)) g ∙ ap (λ (v : List ℕ). sets xs (at + i) v) (sym (slice-step l (f + i) t h k))
+-- a copy of what fits, by the code's parts
+pub copied : (xs vs ys : List ℕ) (at k n : ℕ) → at < length xs → n ≡ min (length vs) (length xs - at) → k ≡ n → ys ≡ take n vs → put_mid at k xs ys ≡ sets xs at vs
+copied xs vs ys at k n lt en ek ey =
+    put_mid-paste at k xs ys (take n vs) n ey (sym ek) (sym many)
+    ∙ ap (λ u. take at xs ++ u ++ drop (at + n) xs) (take-take n n vs (omega arith))
+    ∙ ap (λ j. take at xs ++ take n vs ++ drop (at + j) xs) (sym many)
+    ∙ sym (sets-eq (take n vs) xs at (omega (arith, many)))
+    ∙ sym (ap (λ u. sets xs at u) (sym (take-append-drop n vs)) ∙ sets-append xs at (take n vs) (drop n vs) ∙ rest)
   where
-    e : at + (i + 1) ≡ suc (at + i)
-    e = omega arith
+    many : length (take n vs) ≡ n
+    many = length-take-le n vs (omega arith)
 
-    g : f + (i + 1) ≡ f + i + 1
-    g = omega arith
+    rest : sets (sets xs at (take n vs)) (at + length (take n vs)) (drop n vs) ≡ sets xs at (take n vs)
+    rest = ⊎_elim
+        (λ h. let l = length-sets xs at (take n vs) in let m = many in sets-out (sets xs at (take n vs)) (at + length (take n vs)) (drop n vs) (omega arith))
+        (λ h. ap (λ u. sets (sets xs at (take n vs)) (at + length (take n vs)) u) (drop_all n vs h)) (less n (length vs))
 
--- where a part ends, or the memory, nothing is left to store
-pub sets_end : (xs l : List ℕ) (at f t i : ℕ) → (f + i < t → length xs ≤ at + i) → f + i ≤ t → sets xs (at + i) (slice (f + i) t l) ≡ xs
-sets_end xs l at f t i h k = ⊎_elim
-    (λ (e : ltb (f + i) t ≡ true). sets-out xs (at + i) (slice (f + i) t l) (h (ltb-true (f + i) t e)))
-    (λ (e : ltb (f + i) t ≡ false). done (ltb-false (f + i) t e)) (split (ltb (f + i) t))
-  where
-    done : t ≤ f + i → sets xs (at + i) (slice (f + i) t l) ≡ xs
-    done g =
-        let e : f + i ≡ t = omega arith in
-        rw (e, slice_empty t l)
+-- the part that is copied, as the code borrows it
+pub part-fits : (l : List ℕ) (f t n : ℕ) → f ≤ t → n ≤ t - f → take (f + n - f) (drop f l) ≡ take n (slice f t l)
+part-fits l f t n le few =
+    let e : f + n - f ≡ n = omega arith in
+    ap (λ k. take k (drop f l)) e
+    ∙ sym (take-take n (t - f) (drop f l) few)
+    ∙ ap (take n) (search (rules, between_is))
 
 pub two-length : (n : ℕ) → length (two_bytes n) ≡ 2
 unfolding two_bytes

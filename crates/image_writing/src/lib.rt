@@ -8,12 +8,13 @@ ghost use Rattle.image_encoding.specs.Body.{encode_expr};
 ghost use Rattle.rules.specs.Report.{delete_node, ident_node};
 ghost use Rattle.image_writing.specs.Stored.{Stored};
 
-pub fn put(out: &mut [u8], at: usize, b: u8) -> usize
+// A byte, a number or any other element.
+pub fn put<T: Copy>(out: &mut [T], at: usize, x: T) -> usize
     requires { at < 4294967296 }
-    ensures { Stored out.old at (b ∷ []) out.new result }
+    ensures { Stored out.old at (x ∷ []) out.new result }
 {
     if at < out.len() {
-        out[at] = b;
+        out[at] = x;
     }
     at + 1
 }
@@ -28,6 +29,7 @@ pub fn put_two(out: &mut [u8], at: usize, n: u16) -> usize
 }
 
 // A number of four bytes.
+// As put_two on its parts: each stands on the shorter one, and a function of part and base would be no plainer.
 pub fn put_four(out: &mut [u8], at: usize, n: u32) -> usize
     requires { at < 4294967290 }
     ensures { Stored out.old at (four_bytes n) out.new result }
@@ -36,25 +38,15 @@ pub fn put_four(out: &mut [u8], at: usize, n: u32) -> usize
     put_two(out, next, (n % 65536) as u16)
 }
 
-// How many of so many bytes have room from a place on.
-fn fitting(out: &[u8], at: usize, many: usize) -> usize
-    ensures { (result ≤ many) × (result ≤ length out.now - at) × (result < many → length out.now ≤ at + result) }
-{
-    let room = image_fields::room(out, at);
-    if many < room { many } else { room }
-}
-
 // The bytes of the image from a position up to another.
 pub fn copy_bytes(s: &[u8], from: usize, to: usize, out: &mut [u8], at: usize) -> usize
     requires { (from ≤ to) × (to ≤ length s.now) × (length s.now ≤ 65536) × (at < 4294967296) }
     ensures { Stored out.old at (slice from to s.now) out.new result }
 {
     let many = to - from;
-    let fit = fitting(out, at, many);
-    let mut i = 0;
-    while i < fit {
-        out[at + i] = s[from + i];
-        i += 1;
+    let fit = many.min(image_fields::room(out, at));
+    if at < out.len() {
+        out[at..at + fit].copy_from_slice(&s[from..from + fit]);
     }
     at + many
 }
@@ -83,14 +75,12 @@ pub fn put_delete(out: &mut [u8], at: usize, span: u32, name: u16, ty: u16) -> u
     put_two(out, typed, name)
 }
 
+// A number of a list.
 pub fn put_number(list: &mut [u32], at: usize, n: u32) -> usize
     requires { at < 4294967296 }
     ensures { Stored list.old at (n ∷ []) list.new result }
 {
-    if at < list.len() {
-        list[at] = n;
-    }
-    at + 1
+    put(list, at, n)
 }
 
 // An entry of two numbers.
@@ -98,15 +88,16 @@ pub fn put_pair(list: &mut [u32], at: usize, a: u32, b: u32) -> usize
     requires { at < 4294967200 }
     ensures { Stored list.old at (a ∷ b ∷ []) list.new result }
 {
-    let next = put_number(list, at, a);
-    put_number(list, next, b)
+    let next = put(list, at, a);
+    put(list, next, b)
 }
 
 // An entry of three numbers.
+// On put_pair: nothing is said twice.
 pub fn put_triple(list: &mut [u32], at: usize, a: u32, b: u32, c: u32) -> usize
     requires { at < 4294967100 }
     ensures { Stored list.old at (a ∷ b ∷ c ∷ []) list.new result }
 {
     let next = put_pair(list, at, a, b);
-    put_number(list, next, c)
+    put(list, next, c)
 }

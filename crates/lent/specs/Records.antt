@@ -1,5 +1,7 @@
 -- Report records (document 01, "What is reported": an error has kind, place, hint, a count of other places and room for 8).
-use Rattle.std.specs.Prelude.{ℕ, zero, suc, ◌+◌, ◌*◌, ◌≡◌, Bool, cond, ◌||◌, List, [], ◌∷◌, ◌++◌, ltb, length, get_or, drop}
+use Rattle.std.specs.Prelude.{ℕ, zero, suc, ◌+◌, ◌*◌, ◌≡◌, Bool, cond, ◌||◌, List, [], ◌∷◌, ◌++◌, ltb, length, get_or, drop, Result, Ok, Err}
+use Rattle.image_fields.specs.declared.Fault.{Fault}
+use Rattle.image_fields.specs.Fault.{fault_number}
 use Rattle.lent.specs.declared.Report.{Report}
 
 -- the record of error i, of its 12 numbers
@@ -26,3 +28,8 @@ too_few ns n old = ltb (length old) n || ltb (length ns) (12 * n)
 pub record Writes (ns : List ℕ) (n : ℕ) (old new : List Report) (fault : ℕ) : Type 0 where
   pub answer : fault ≡ cond (too_few ns n old) 14 0
   pub structs : new ≡ cond (too_few ns n old) old (records ns n ++ drop n old)
+
+-- 0, or the fault's number
+abbrev pub told_by : Result (Unit {0}) Fault → ℕ
+told_by (Ok u) = 0
+told_by (Err f) = fault_number f

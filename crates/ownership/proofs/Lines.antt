@@ -3,6 +3,8 @@
 use Prim.Native.Nat.{ℕ, zero, suc, ◌+◌, ◌-◌, ◌*◌, ◌≤◌, ◌<◌, min}
 use native.Mathlib.Omega.{arith}
 use native.Mathlib.Nat.{mul-suc}
+use native.Mathlib.Numerals.{add-one}
+use Rattle.std.proofs.lemmas.Nat.{mul-le}
 use mathlib.Core.Path.{◌≡◌, refl, sym, ap, ◌∙◌, subst}
 use mathlib.Core.List.{List, [], ◌∷◌, ◌++◌, append_assoc}
 use lib.ListN.{length, get_or}
@@ -36,14 +38,32 @@ module _ {xs ys zs : List ℕ} {p q r : ℕ} where
       let e : suc n - 1 ≡ n = omega arith in
       both_stored a (subst (λ k. Stored ys q (lines f stride k (at + stride)) zs r) e b)
 
-pub no_number : (xs l : List ℕ) (p i t : ℕ) → i ≡ t → Stored xs p (numbers (slice i t l)) xs p
-unfolding numbers
-no_number xs l p i t e = spelled_as (ap (λ k. numbers (slice k t l)) e ∙ ap numbers (slice_empty t l)) (none-stored xs p)
-
 pub no_line : (xs : List ℕ) (p : ℕ) (f : ℕ → List ℕ) (stride n at : ℕ) → n ≡ 0 → Stored xs p (lines f stride n at) xs p
 unfolding lines
 no_line xs p f stride zero at e = none-stored xs p
 no_line xs p f stride (suc n) at e = absurd (omega arith)
+
+-- of so many entries, one after another
+pub entry-line : {xs ys zs : List ℕ} {p q r : ℕ} (f : ℕ → List ℕ) (stride many i : ℕ) → i < many
+    → Stored xs p (f (stride * i)) ys q → Stored ys q (lines f stride (many - (i + 1)) (stride * (i + 1))) zs r → Stored xs p (lines f stride (many - i) (stride * i)) zs r
+entry-line {xs} {ys} {zs} {p} {q} {r} f stride many i h a b =
+    let e : many - (i + 1) ≡ many - i - 1 = omega arith in
+    let d : stride * (i + 1) ≡ stride * i + stride = ap (λ (k : ℕ). stride * k) (add-one i) ∙ mul-suc stride i in
+    next-line f stride (many - i) (stride * i) (omega arith) a
+    (subst (λ k. Stored ys q (lines f stride (many - i - 1) k) zs r) d (subst (λ k. Stored ys q (lines f stride k (stride * (i + 1))) zs r) e b))
+
+pub lines-start : {xs ys : List ℕ} {p q : ℕ} (f : ℕ → List ℕ) (stride many : ℕ) → Stored xs p (lines f stride (many - 0) (stride * 0)) ys q → Stored xs p (lines f stride many 0) ys q
+lines-start {xs} {ys} {p} {q} f stride many s =
+    let e : many - 0 ≡ many = omega arith in
+    let d : stride * 0 ≡ 0 = omega arith in
+    subst (λ k. Stored xs p (lines f stride k 0) ys q) e (subst (λ k. Stored xs p (lines f stride (many - 0) k) ys q) d s)
+
+pub lines-end : (xs : List ℕ) (p : ℕ) (f : ℕ → List ℕ) (stride many i at : ℕ) → i ≡ many → Stored xs p (lines f stride (many - i) at) xs p
+lines-end xs p f stride many i at e = no_line xs p f stride (many - i) at (omega arith)
+
+pub no_number : (xs l : List ℕ) (p i t : ℕ) → i ≡ t → Stored xs p (numbers (slice i t l)) xs p
+unfolding numbers
+no_number xs l p i t e = spelled_as (ap (λ k. numbers (slice k t l)) e ∙ ap numbers (slice_empty t l)) (none-stored xs p)
 
 -- a word, two runs of numbers, the line's end
 pub two_runs : {xs ys zs us vs : List ℕ} {p q r t w : ℕ} (word a b : List ℕ)
@@ -60,7 +80,9 @@ error-put {xs} {ys} {zs} {us} {vs} {p} {q} {r} {t} {w} l at k e a b c d =
     subst (λ j. Stored xs p (line (101 ∷ 114 ∷ 114 ∷ 111 ∷ 114 ∷ []) (slice at (at + 3) l ++ slice (at + 4) (at + 4 + j) l)) vs w) e
     (two_runs _ (slice at (at + 3) l) (slice (at + 4) (at + 4 + k) l) a b c d)
 
--- one entry of so many numbers less
-pub width-step : (width n : ℕ) → 0 < n → width * n ≡ width * (n - 1) + width
-width-step width zero h = absurd (omega arith)
-width-step width (suc n) h = let e : suc n - 1 ≡ n = omega arith in mul-suc width n ∙ ap (λ (k : ℕ). width * k + width) (sym e)
+-- entries of a width within a list
+pub entry-inside : (width many i n : ℕ) → i < many → width * many ≤ n → width * i + width ≤ n
+entry-inside width many i n h g =
+    let a : width * suc i ≡ width * i + width = mul-suc width i in
+    let b : width * suc i ≤ width * many = mul-le width (suc i) width many (omega arith) (omega arith) in
+    omega arith

@@ -1,12 +1,13 @@
 -- The text that the program writes (document 01, "What is reported").
-use Rattle.std.specs.Prelude.{ℕ, zero, suc, ◌+◌, ◌*◌, min, ◌≡◌, List, [], ◌∷◌, ◌++◌, length, get_or}
+use Rattle.std.specs.Prelude.{ℕ, zero, suc, ◌+◌, ◌*◌, min, ◌≡◌, List, [], ◌∷◌, ◌++◌, length, get_or, Result, Ok, Err}
 use Rattle.std.proofs.Math.Seq.{slice}
 use Rattle.image_writing.specs.Stored.{Stored}
 use Rattle.image_writing.specs.Memory.{Memory}
 use Rattle.programs_text.specs.Text.{line, refused_word}
 use Rattle.entries_verdict.specs.Passes.{Passes}
-use Rattle.entries_verdict.specs.declared.Outcome.{Outcome}
-use Rattle.entries_verdict.specs.declared.Outcome.TheVariants.{Accepted, Refused}
+use Rattle.image_fields.specs.declared.Fault.{Fault}
+use Rattle.image_fields.specs.Fault.{fault_number}
+use Rattle.entries_verdict.specs.declared.Totals.{Totals}
 
 -- `error`, kind, place and hint, and as many other places as the entry counts
 abbrev pub error_line : List ℕ → ℕ → List ℕ
@@ -31,15 +32,15 @@ abbrev pub left_word : List ℕ
 left_word = 108 ∷ 101 ∷ 102 ∷ 116 ∷ []
 
 -- an outcome with the lists: the totals, then the entries; or the fault
-abbrev pub text_of : Outcome → Memory → List ℕ
-text_of (Refused n) m = line refused_word (n ∷ [])
-text_of (Accepted t) m =
+abbrev pub text_of : Result Totals Fault → Memory → List ℕ
+text_of (Err f) m = line refused_word (fault_number f ∷ [])
+text_of (Ok t) m =
     line accepted_word (t.written ∷ t.errors ∷ t.warnings ∷ t.lefts ∷ [])
     ++ (lines (error_line m.errs) 12 t.errors 0 ++ (lines (entry_line warning_word m.warns 2) 2 t.warnings 0 ++ lines (entry_line left_word m.lefts 3) 3 t.lefts 0))
 
 -- the text of what the pass answers and leaves with all switches off, 65,536 bytes and 256 entries a list lent
 pub record Reports (s old new : List ℕ) (r : ℕ) : Type 0 where
-  pub outcome : Outcome
+  pub outcome : Result Totals Fault
   pub lent : Memory
   pub after : Memory
   pub bytes : length lent.out ≡ 65536

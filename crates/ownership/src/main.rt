@@ -8,25 +8,17 @@ ghost use Rattle.image_writing.specs.Stored.{Stored};
 ghost use Rattle.programs_text.specs.Text.{numbers, line};
 ghost use Rattle.ownership.specs.Text.{accepted_word, error_line, entry_line, lines, Reports};
 
-use entries_verdict::{Outcome, Totals};
+use entries_verdict::Totals;
 use std::io;
-
-fn wide(x: u32) -> u64
-    ensures { result ≡ x }
-{
-    x as u64
-}
 
 // Some of a list's numbers.
 fn put_numbers(out: &mut [u8], at: usize, list: &[u32], from: usize, to: usize) -> usize
     requires { (at < 4294900000) × (from ≤ to) × (to ≤ length list.now) × (to ≤ from + 12) }
     ensures { Stored out.old at (numbers (slice from to list.now)) out.new result × (result ≤ at + 21 * (to - from)) }
 {
-    let mut i = from;
     let mut p = at;
-    while i < to {
-        p = programs_text::put_number(out, p, wide(list[i]));
-        i += 1;
+    for i in from..to {
+        p = programs_text::put_number(out, p, u64::from(list[i]));
     }
     p
 }
@@ -56,13 +48,9 @@ fn put_errors(out: &mut [u8], at: usize, errs: &[u32], many: usize) -> usize
     requires { (at < 1000000) × (many ≤ 256) × (12 * many ≤ length errs.now) }
     ensures { Stored out.old at (lines (error_line errs.now) 12 many 0) out.new result × (result ≤ at + 240 * many) }
 {
-    let mut left = many;
-    let mut entry = 0;
     let mut p = at;
-    while 0 < left {
-        p = put_error(out, p, errs, entry);
-        entry += 12;
-        left -= 1;
+    for i in 0..many {
+        p = put_error(out, p, errs, 12 * i);
     }
     p
 }
@@ -96,13 +84,9 @@ fn put_entries(
     requires { (at < 1000000) × (many ≤ 256) × (length word.now ≤ 8) × (width ≤ 3) × (width * many ≤ length list.now) }
     ensures { Stored out.old at (lines (entry_line word.now list.now width) width many 0) out.new result × (result ≤ at + 73 * many) }
 {
-    let mut left = many;
-    let mut entry = 0;
     let mut p = at;
-    while 0 < left {
-        p = put_entry(out, p, word, list, width, entry);
-        entry += width;
-        left -= 1;
+    for i in 0..many {
+        p = put_entry(out, p, word, list, width, width * i);
     }
     p
 }
@@ -127,8 +111,8 @@ fn report(s: &[u8], out: &mut [u8]) -> usize
     let mut warns = [0u32; 512];
     let mut lefts = [0u32; 768];
     match ownership_pass::pass(s, &mut bytes, &mut errs, &mut warns, &mut lefts) {
-        Outcome::Refused(fault) => programs_text::put_refused(out, fault),
-        Outcome::Accepted(t) => {
+        Err(fault) => programs_text::put_refused(out, u8::from(fault)),
+        Ok(t) => {
             let totals = put_totals(out, t);
             let errors = put_errors(out, totals, &errs, t.errors);
             let warnings = put_entries(out, errors, b"warning", &warns, 2, t.warnings);

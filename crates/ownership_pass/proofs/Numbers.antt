@@ -16,16 +16,17 @@ use Rattle.rules.specs.Rules.{switches_of}
 use Rattle.rules.specs.Verdict.{Answer, Verdict, refuses, answers, decided, too_high, pass_verdict, room_fault_of, room_fault}
 use Rattle.rules.proofs.Numbers.{Number, high, low, verdict-numbers, room-numbers}
 use Rattle.image_writing.specs.Memory.{Memory}
-use Rattle.entries_verdict.specs.declared.Outcome.{Outcome}
-use Rattle.entries_verdict.specs.declared.Outcome.TheVariants.{Refused}
+use Rattle.std.specs.Prelude.{Result, Ok, Err}
+use Rattle.image_fields.specs.declared.Fault.{Fault}
+use Rattle.image_fields.specs.Fault.{fault_number, coded}
+use Rattle.entries_image.specs.Images.{number_in}
+use Rattle.entries_verdict.specs.declared.Totals.{Totals}
 use Rattle.entries_verdict.specs.Passes.{Passes, lent_of, outcome_of, verdict_on}
-use Rattle.ownership_pass.specs.declared.Answer.{Answer as Room}
-use Rattle.ownership_pass.specs.declared.Answer.TheVariants.{Needed, Denied}
 use Rattle.rules_page.specs.Verdict.{PageVerdict, refuses_page, writes, page_decided, page_verdict}
 use Rattle.entries_verdict.proofs.Rooms.{not-high}
 use Rattle.rules_page.proofs.Numbers.{page-numbers}
 use Rattle.entries_page.specs.Pages.{paged_of, page_on}
-use Rattle.ownership_pass.specs.Entries.{outcome_number, answer_number, PassLeaves, RoomIs, RoomLeaves, paged_number, PageLeaves}
+use Rattle.ownership_pass.specs.Entries.{answer_number, PassLeaves, RoomIs, RoomLeaves, PageLeaves}
 
 never : {C : Type 0} → ◌≡◌ {A = ℕ} 0 1 → C
 never z = absurd (omega arith)
@@ -46,17 +47,25 @@ answered (low v l b) r h = (inl (v, omega arith), omega arith)
 pub refused-positive : {value bound n : ℕ} → Number value bound n → 0 < n
 refused-positive {n = n} k = (answered k n refl).1
 
+-- the number, once the fault is one
+abbrev told : {A : Type 0} → Result A ℕ → ℕ
+told (Ok x) = 0
+told (Err n) = n
+
+told-is : {A : Type 0} (r : Result A Fault) {x : Result A ℕ} → coded r ≡ x → number_in r ≡ told x
+told-is (Ok a) e = ap told e
+told-is (Err f) e = ap told e
+
 -- what `pass_switched` refuses with
-pub refused-numbers : (value : ℕ) (s : List ℕ) (m m' : Memory) (r : Outcome) → Passes value s m r m' → (n : ℕ) → r ≡ Refused n → Number value 16 n
-refused-numbers value s m m' r g n e = go (verdict_on value s m) refl
+pub refused-numbers : (value : ℕ) (s : List ℕ) (m m' : Memory) (r : Result Totals Fault) → Passes value s m r m' → (f : Fault) → r ≡ Err f → Number value 16 (fault_number f)
+refused-numbers value s m m' r g f e = go (verdict_on value s m) refl
   where
-    go : (v : Verdict) → verdict_on value s m ≡ v → Number value 16 n
+    go : (v : Verdict) → verdict_on value s m ≡ v → Number value 16 (fault_number f)
     go (refuses k) z =
-        let h : Refused k ≡ Refused n = sym (g.outcome ∙ ap outcome_of z) ∙ e in
-        let q : k ≡ n = cc in
-        verdict-numbers version1 (lent_of m) value s n (z ∙ ap refuses q)
+        let q : k ≡ fault_number f = sym (ap told (sym (ap coded e) ∙ g.outcome ∙ ap outcome_of z)) in
+        verdict-numbers version1 (lent_of m) value s (fault_number f) (z ∙ ap refuses q)
     go (answers a) z =
-        let h : outcome_of (answers a) ≡ Refused n = sym (g.outcome ∙ ap outcome_of z) ∙ e in
+        let h : ◌≡◌ {A = Result Totals ℕ} (Err (fault_number f)) (outcome_of (answers a)) = sym (ap coded e) ∙ g.outcome ∙ ap outcome_of z in
         never (cc)
 
 -- `ownership_pass_switched` answers at most 15, or 17, and 0 exactly if the image is accepted
@@ -68,8 +77,8 @@ pub pass-number : (value : ℕ) (s : List ℕ) (m m' : Memory) (old new : List �
 unfolding pass_verdict
 pass-number value s m m' old new r g = go (verdict_on value s m) refl
   where
-    number : (v : Verdict) → verdict_on value s m ≡ v → r ≡ outcome_number (outcome_of v)
-    number v z = g.number ∙ ap outcome_number (g.is.outcome ∙ ap outcome_of z)
+    number : (v : Verdict) → verdict_on value s m ≡ v → r ≡ told (outcome_of v)
+    number v z = g.number ∙ told-is g.outcome (g.is.outcome ∙ ap outcome_of z)
 
     go : (v : Verdict) → verdict_on value s m ≡ v → PassNumber value s m r
     go (refuses n) z =
@@ -92,14 +101,14 @@ pub room-number : (value : ℕ) (s : List ℕ) (old r new : ℕ) → RoomLeaves 
 unfolding room_fault
 room-number value s old r new g = go g.answer g.is g.number
   where
-    go : (a : Room) → RoomIs value s a → r ≡ answer_number a → RoomNumber value s r
-    go (Denied n) f h =
-        let k = answered (room-numbers version1 value s n f) r h in
+    go : (a : Result ℕ Fault) → RoomIs value s a → r ≡ answer_number a → RoomNumber value s r
+    go (Err n) f h =
+        let k = answered (room-numbers version1 value s (fault_number n) f) r h in
         record {
           known = k.0;
-          zero = (λ e. absurd (omega (arith, k.1, e)), λ q. let y : none ≡ some n = sym q ∙ f in never (cc));
+          zero = (λ e. absurd (omega (arith, k.1, e)), λ q. let y : none ≡ some (fault_number n) = sym q ∙ f in never (cc));
         }
-    go (Needed n) f h = record {
+    go (Ok n) f h = record {
       known = inl (omega (arith, f.0), omega (arith, h));
       zero = (λ e. not-high value f.0 (some 17) (room_fault_of version1 (switches_of value) (decode version1 s)) ∙ ap (room_fault_of version1 (switches_of value)) f.2 ∙ f.3, λ q. h);
     }
@@ -113,8 +122,8 @@ pub page-number : (value : ℕ) (s page page' : List ℕ) (old r new : ℕ) → 
 unfolding page_verdict
 page-number value s page page' old r new g = go (page_on value s page) refl
   where
-    number : (v : PageVerdict) → page_on value s page ≡ v → r ≡ paged_number (paged_of v)
-    number v z = g.number ∙ ap paged_number (g.is.outcome ∙ ap paged_of z)
+    number : (v : PageVerdict) → page_on value s page ≡ v → r ≡ told (paged_of v)
+    number v z = g.number ∙ told-is g.outcome (g.is.outcome ∙ ap paged_of z)
 
     never-writes : {C : Type 0} {n : ℕ} {b : List ℕ} → refuses_page n ≡ writes b → C
     never-writes y = never (cc)

@@ -20,10 +20,12 @@ use Rattle.rules.specs.Pieces.{Struck}
 use Rattle.rules.proofs.Pieces.{struck}
 use Rattle.image_writing.specs.Memory.{Memory}
 use Rattle.entries_verdict.specs.declared.Totals.{Totals}
-use Rattle.entries_verdict.specs.declared.Outcome.{Outcome}
-use Rattle.entries_verdict.specs.declared.Outcome.TheVariants.{Accepted, Refused}
+use Rattle.std.specs.Prelude.{Result, Ok, Err}
+use Rattle.image_fields.specs.declared.Fault.{Fault}
+use Rattle.image_fields.specs.Fault.{coded}
+use Rattle.entries_image.specs.Images.{number_in}
 use Rattle.entries_verdict.specs.Passes.{Passes, outcome_of, memory_after, verdict_on}
-use Rattle.ownership_pass.specs.Entries.{outcome_number, totals_after, PassLeaves}
+use Rattle.ownership_pass.specs.Entries.{totals_after, PassLeaves}
 use Rattle.ownership_pass.specs.Promise.{Promise, Kept}
 use Rattle.ownership_pass.proofs.Numbers.{refused-positive, refused-numbers}
 
@@ -67,16 +69,16 @@ unfolding pass_verdict
 promised value s small lent a e = promised-by (switches_of value) s small lent a (too_high value) e
 
 -- of every call of `pass_switched` that is accepted, with any value; `pass` is that with 0
-pub pass-promised : (value : ℕ) (s : List ℕ) → Bytes s → (m m' : Memory) (r : Outcome) → Passes value s m r m' → (t : Totals) → r ≡ Accepted t → Kept value s m m' t.written
+pub pass-promised : (value : ℕ) (s : List ℕ) → Bytes s → (m m' : Memory) (r : Result Totals Fault) → Passes value s m r m' → (t : Totals) → r ≡ Ok t → Kept value s m m' t.written
 pass-promised value s small m m' r g t e = go (verdict_on value s m) refl
   where
-    accepts-nothing : {n : ℕ} → Refused n ≡ Accepted t → Kept value s m m' t.written
+    accepts-nothing : {n : ℕ} → ◌≡◌ {A = Result Totals ℕ} (Err n) (Ok t) → Kept value s m m' t.written
     accepts-nothing z = let y : ◌≡◌ {A = ℕ} 0 1 = cc in absurd (omega arith)
 
     go : (v : Verdict) → verdict_on value s m ≡ v → Kept value s m m' t.written
-    go (refuses n) z = accepts-nothing (sym (g.outcome ∙ ap outcome_of z) ∙ e)
+    go (refuses n) z = accepts-nothing (sym (g.outcome ∙ ap outcome_of z) ∙ ap coded e)
     go (answers a) z =
-        let y : Accepted (record { written = length a.output; errors = a.error_count; warnings = a.warning_count; lefts = a.left_count }) ≡ Accepted t = sym (g.outcome ∙ ap outcome_of z) ∙ e in
+        let y : ◌≡◌ {A = Result Totals ℕ} (Ok (record { written = length a.output; errors = a.error_count; warnings = a.warning_count; lefts = a.left_count })) (Ok t) = sym (g.outcome ∙ ap outcome_of z) ∙ ap coded e in
         let x : record { written = length a.output; errors = a.error_count; warnings = a.warning_count; lefts = a.left_count } ≡ t = cc in
         record {
           output = a.output;
@@ -89,8 +91,8 @@ pass-promised value s small m m' r g t e = go (verdict_on value s m) refl
 pub entry-promised : (value : ℕ) (s : List ℕ) → Bytes s → (m m' : Memory) (old new : List ℕ) (r : ℕ) → PassLeaves value s m old r m' new → r ≡ 0 → Kept value s m m' (get_or new 0 0)
 entry-promised value s small m m' old new r g e = go g.outcome refl
   where
-    go : (o : Outcome) → g.outcome ≡ o → Kept value s m m' (get_or new 0 0)
-    go (Accepted t) z =
-        subst (Kept value s m m') (sym (ap (λ (l : List ℕ). get_or l 0 0) (g.leaves ∙ ap (λ (o : Outcome). totals_after o old) z)))
+    go : (o : Result Totals Fault) → g.outcome ≡ o → Kept value s m m' (get_or new 0 0)
+    go (Ok t) z =
+        subst (Kept value s m m') (sym (ap (λ (l : List ℕ). get_or l 0 0) (g.leaves ∙ ap (λ (o : Result Totals Fault). totals_after o old) z)))
         (pass-promised value s small m m' g.outcome g.is t z)
-    go (Refused n) z = let k = refused-positive (refused-numbers value s m m' g.outcome g.is n z) in let h = g.number ∙ ap outcome_number z in absurd (omega (arith, k, h, e))
+    go (Err n) z = let k = refused-positive (refused-numbers value s m m' g.outcome g.is n z) in let h = g.number ∙ ap number_in z in absurd (omega (arith, k, h, e))

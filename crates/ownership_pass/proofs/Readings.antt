@@ -4,13 +4,14 @@ use Prim.Native.Nat.{ℕ, ◌≤◌, ◌<◌}
 use native.Mathlib.Omega.{arith}
 use mathlib.Core.Path.{◌≡◌, refl, sym, ap, ◌∙◌, subst}
 use mathlib.Core.Bool.{Bool, false, cond}
+use mathlib.Core.Logic.{◌⊎◌, inl, inr, ⊎_elim}
 use borrow.Author.Tests.{lt-ltb}
 use mathlib.Core.List.{List, [], ◌∷◌}
 use mathlib.Core.Option.{none, some}
 use Rattle.image_fields.specs.Bytes.{Bytes}
 use Rattle.tables.specs.Limits.{version1}
 use Rattle.image.specs.Image.{Image, Decoded, accepted, refused, decode, fault_of}
-use Rattle.image.specs.Layout.{Laid, Reads}
+use Rattle.image.specs.Layout.{fault_in, Laid, Reads}
 use Rattle.image.specs.declared.ImageRead.{ImageRead}
 use Rattle.image.proofs.Numbered.{zero-accepted}
 use Rattle.rules.specs.Rules.{switches_of}
@@ -22,110 +23,134 @@ use Rattle.statements_steps.specs.Own.{number_of}
 use Rattle.statements_steps.proofs.Faults.{real-none}
 use Rattle.image_writing.specs.Memory.{Memory}
 use Rattle.blocks_ends.specs.declared.Env.{Env}
-use Rattle.entries_image.specs.declared.Seen.{Seen}
-use Rattle.ownership_pass.specs.declared.Answer.{Answer}
-use Rattle.ownership_pass.specs.declared.Answer.TheVariants.{Needed, Denied}
+use Rattle.statements_acts.specs.declared.Place.{Place}
+use Rattle.std.specs.Prelude.{Result, Ok, Err}
+use Rattle.image_fields.specs.declared.Fault.{Fault}
+use Rattle.image_fields.specs.declared.Fault.TheVariants.{Switches as Unknown}
+use Rattle.image_fields.specs.Fault.{fault_number}
 use Rattle.entries_verdict.specs.declared.Totals.{Totals}
-use Rattle.entries_verdict.specs.declared.Outcome.{Outcome}
-use Rattle.entries_verdict.specs.declared.Outcome.TheVariants.{Accepted, Refused}
 use Rattle.entries_verdict.specs.Passes.{Passes}
 use Rattle.entries_page.specs.Pages.{Pages}
-use Rattle.entries_page.specs.declared.Paged.{Paged}
-use Rattle.entries_page.specs.declared.Paged.TheVariants.{Written}
-use Rattle.entries_page.specs.declared.Paged.TheVariants as paged
-use Rattle.entries_page.proofs.Paging.{pages-unread}
-use Rattle.ownership_pass.specs.Entries.{PassLeaves, RoomIs, RoomLeaves, PageLeaves}
+use Rattle.entries_page.proofs.Paging.{pages-value, pages-unread}
+use Rattle.ownership_pass.specs.Entries.{Begun, PassLeaves, RoomIs, RoomLeaves, PageLeaves}
 use Rattle.entries_image.specs.Images.{ImageThere, Measures}
-use Rattle.entries_verdict.proofs.Rooms.{not-high, fault-some}
+use Rattle.entries_image.proofs.Whole.{fault-bounds}
+use Rattle.entries_verdict.proofs.Rooms.{not-high, fault-some, refused-value, refused-read}
 
-module _ (s tb : List ℕ) (r : ImageRead) (g : Reads s tb r) (z : 0 < r.fault → ⊥) where
-  found : (i : Image) × (decode version1 s ≡ accepted i)
-  found = zero-accepted version1 s (sym g.fault ∙ omega (arith, z))
+refused-of : (f : Fault) (d : Decoded) → fault_number f ≡ fault_of d → d ≡ refused (fault_number f)
+unfolding fault_of
+refused-of f (accepted i) e = absurd (omega (arith, (fault-bounds f).0))
+refused-of f (refused k) e = ap refused (sym e)
 
-  abbrev laid : Laid s found.0 tb r
-  laid = g.laid found.0 found.1
+-- what the reader answered
+module _ (value : ℕ) (low : value ≤ 15) (s tb : List ℕ) {r : Result ImageRead Fault} (g : Reads s tb r) where
+  pub begun-err : (f : Fault) → r ≡ Err f → Begun value s tb (Err f)
+  begun-err f z = inr (low, refused-of f (decode version1 s) (sym (ap fault_in z) ∙ g.fault))
 
-  pub image-there : (value : ℕ) → value ≤ 15 → (env : Env) → env ≡ record { left = 12; limit = 64; width = 8; cur = 0; base = 64; switches = value } → ImageThere s tb env r.entry r.body
-  image-there value low env e = record {
-    i = found.0;
-    read = found.1;
-    lent = laid.lent;
-    says = laid.says;
-    left = ap (λ (x : Env). x.left) e;
-    limit = ap (λ (x : Env). x.limit) e;
-    width = ap (λ (x : Env). x.width) e;
-    cur = ap (λ (x : Env). x.cur) e;
-    base = ap (λ (x : Env). x.base) e;
-    value = omega (arith, low, ap (λ (x : Env). x.switches) e);
-    entered = laid.entry;
-    walked = laid.body;
-  }
+  module _ (x : ImageRead) (z : r ≡ Ok x) where
+    found : (i : Image) × (decode version1 s ≡ accepted i)
+    found = zero-accepted version1 s (sym (sym (ap fault_in z) ∙ g.fault))
 
-  module _ (value : ℕ) (low : value ≤ 15) (w : Seen) (h : Measures (switches_of value) s false w) where
-    walk-fault : w.fault ≡ number_of (image_fault version1 (switches_of value) found.0)
-    walk-fault = (h.walks found.0 found.1).0
+    abbrev laid : Laid s found.0 tb x
+    laid = g.laid found.0 found.1 x z
 
-    pub room-denied : 0 < w.fault → RoomIs value s (Denied w.fault)
+    pub begun-ok : (env : Env) → env ≡ record { left = 12; limit = 64; width = 8; cur = 0; base = 64; switches = value } → Begun value s tb (Ok (env, x))
+    begun-ok env e = (
+      ap (λ (y : Env). y.switches) e,
+      record {
+        i = found.0;
+        read = found.1;
+        lent = laid.lent;
+        says = laid.says;
+        left = ap (λ (y : Env). y.left) e;
+        limit = ap (λ (y : Env). y.limit) e;
+        width = ap (λ (y : Env). y.width) e;
+        cur = ap (λ (y : Env). y.cur) e;
+        base = ap (λ (y : Env). y.base) e;
+        value = omega (arith, low, ap (λ (y : Env). y.switches) e);
+        entered = laid.entry;
+        walked = laid.body;
+      },
+    )
+
+pub begun-value : (value : ℕ) → 15 < value → (s tb : List ℕ) → Begun value s tb (Err Unknown)
+begun-value value h s tb = inl (h, refl)
+
+-- an image that was not read
+module _ (value : ℕ) (s tb : List ℕ) (f : Fault) {r : Result (Env × ImageRead) Fault} (b : Begun value s tb r) (z : r ≡ Err f) where
+  unread : ((15 < value) × (f ≡ Unknown)) ⊎ ((value ≤ 15) × (decode version1 s ≡ refused (fault_number f)))
+  unread = subst (Begun value s tb) z b
+
+  pub pass-unread : (m : Memory) → Passes value s m (Err f) m
+  unfolding fault_of
+  pass-unread m = ⊎_elim
+      (λ (h : (15 < value) × (f ≡ Unknown)). subst (λ (k : Fault). Passes value s m (Err k) m) (sym h.1) (refused-value value h.0 s m))
+      (λ (h : (value ≤ 15) × (decode version1 s ≡ refused (fault_number f))). refused-read value h.0 s m f (sym (ap fault_of h.1))) unread
+
+  pub page-unread : (page : List ℕ) → Pages value s page (Err f) page
+  page-unread page = ⊎_elim
+      (λ (h : (15 < value) × (f ≡ Unknown)). subst (λ (k : Fault). Pages value s page (Err k) page) (sym h.1) (pages-value value s page h.0))
+      (λ (h : (value ≤ 15) × (decode version1 s ≡ refused (fault_number f))). pages-unread value s page h.0 f h.1) unread
+
+  pub room-unread : RoomIs value s (Err f)
+  unfolding room_fault
+  room-unread = ⊎_elim
+      (λ (h : (15 < value) × (f ≡ Unknown)). subst (λ (k : Fault). RoomIs value s (Err k)) (sym h.1) (ap (λ (b : Bool). cond b (some 17) (room_fault_of version1 (switches_of value) (decode version1 s))) (lt-ltb 15 value h.0)))
+      (λ (h : (value ≤ 15) × (decode version1 s ≡ refused (fault_number f))).
+      not-high value h.0 (some 17) (room_fault_of version1 (switches_of value) (decode version1 s)) ∙ ap (room_fault_of version1 (switches_of value)) h.1) unread
+
+-- one that was
+module _ (value : ℕ) (s tb : List ℕ) (x : Env × ImageRead) {r : Result (Env × ImageRead) Fault} (b : Begun value s tb r) (z : r ≡ Ok x) where
+  begun : (x.0.switches ≡ value) × ImageThere s tb x.0 x.1.entry x.1.body
+  begun = subst (Begun value s tb) z b
+
+  pub image-there : ImageThere s tb x.0 x.1.entry x.1.body
+  image-there = begun.1
+
+  pub passes-given : {m m' : Memory} {q : Result Totals Fault} → Passes x.0.switches s m q m' → Passes value s m q m'
+  passes-given {m} {m'} {q} g = subst (λ (v : ℕ). Passes v s m q m') begun.0 g
+
+  pub pages-given : {page page' : List ℕ} {q : Result ℕ Fault} → Pages x.0.switches s page q page' → Pages value s page q page'
+  pages-given {page} {page'} {q} g = subst (λ (v : ℕ). Pages v s page q page') begun.0 g
+
+  low : value ≤ 15
+  low = omega (arith, begun.0, image-there.value)
+
+  module _ {w : Result Place Fault} (h : Measures (switches_of x.0.switches) s false w) where
+    measured : (y : Result Place Fault) → w ≡ y → Measures (switches_of value) s false y
+    measured y e = subst (Measures (switches_of value) s false) e (subst (λ (v : ℕ). Measures (switches_of v) s false w) begun.0 h)
+
+    pub room-denied : (f : Fault) → w ≡ Err f → RoomIs value s (Err f)
     unfolding room_fault
-    room-denied k = not-high value low (some 17) (room_fault_of version1 (switches_of value) (decode version1 s)) ∙ ap (room_fault_of version1 (switches_of value)) found.1 ∙ fault-some (image_fault version1 (switches_of value) found.0) w.fault walk-fault k
+    room-denied f e =
+        let g = ((measured (Err f) e).walks image-there.i image-there.read).0 in
+        not-high value low (some 17) (room_fault_of version1 (switches_of value) (decode version1 s)) ∙ ap (room_fault_of version1 (switches_of value)) image-there.read
+        ∙ fault-some (image_fault version1 (switches_of value) image-there.i) (fault_number f) g (fault-bounds f).0
 
-    pub room-needed : Bytes s → (0 < w.fault → ⊥) → RoomIs value s (Needed w.place.written)
-    room-needed small k =
-        let n : image_fault version1 (switches_of value) found.0 ≡ none = real-none (image_fault version1 (switches_of value) found.0) (real-image version1 (switches_of value) found.0) (sym walk-fault ∙ omega (arith, k)) in
-        (low, found.0, found.1, n, subst (RoomFor version1 (switches_of value) s found.0) (sym ((h.walks found.0 found.1).1 n).0) (room-met version1 (switches_of value) s small found.0 found.1))
-
-pub room-value : (value : ℕ) → 15 < value → (s : List ℕ) → RoomIs value s (Denied 17)
-unfolding room_fault
-room-value value h s = ap (λ (b : Bool). cond b (some 17) (room_fault_of version1 (switches_of value) (decode version1 s))) (lt-ltb 15 value h)
-
-pub room-unread : (value : ℕ) → value ≤ 15 → (s : List ℕ) (n : ℕ) → n ≡ fault_of (decode version1 s) → 0 < n → RoomIs value s (Denied n)
-unfolding room_fault fault_of
-room-unread value low s n e h = go (decode version1 s) refl
-  where
-    go : (d : Decoded) → decode version1 s ≡ d → room_fault version1 value s ≡ some n
-    go (accepted i) z = absurd (omega (arith, e ∙ ap fault_of z))
-    go (refused k) z = not-high value low (some 17) (room_fault_of version1 (switches_of value) (decode version1 s)) ∙ ap (room_fault_of version1 (switches_of value)) z ∙ ap some (sym (e ∙ ap fault_of z))
-
--- what the walk was given by the environment is what the entry was given
-module _ {value : ℕ} {env : Env} (e : env ≡ record { left = 12; limit = 64; width = 8; cur = 0; base = 64; switches = value }) where
-  given : env.switches ≡ value
-  given = ap (λ (x : Env). x.switches) e
-
-  pub passes-given : {s : List ℕ} {m m' : Memory} {r : Outcome} → Passes env.switches s m r m' → Passes value s m r m'
-  passes-given {s} {m} {m'} {r} g = subst (λ (v : ℕ). Passes v s m r m') given g
-
-  pub pages-given : {s page page' : List ℕ} {r : Paged} → Pages env.switches s page r page' → Pages value s page r page'
-  pages-given {s} {page} {page'} {r} g = subst (λ (v : ℕ). Pages v s page r page') given g
-
-  pub measures-given : {s : List ℕ} {b : Bool} {w : Seen} → Measures (switches_of env.switches) s b w → Measures (switches_of value) s b w
-  measures-given {s} {b} {w} g = subst (λ (v : ℕ). Measures (switches_of v) s b w) given g
+    pub room-needed : Bytes s → (p : Place) → w ≡ Ok p → RoomIs value s (Ok p.written)
+    room-needed small p e =
+        let g = (measured (Ok p) e).walks image-there.i image-there.read in
+        let n : image_fault version1 (switches_of value) image-there.i ≡ none = real-none (image_fault version1 (switches_of value) image-there.i) (real-image version1 (switches_of value) image-there.i) (sym g.0) in
+        (low, image-there.i, image-there.read, n, subst (RoomFor version1 (switches_of value) s image-there.i) (sym g.1.0) (room-met version1 (switches_of value) s small image-there.i image-there.read))
 
 -- the entries for C, by the outcome
-module _ (value : ℕ) (s : List ℕ) (m m' : Memory) (r : Outcome) (g : Passes value s m r m') where
-  pub leaves-refused : (n : ℕ) (old : List ℕ) → r ≡ Refused n → PassLeaves value s m old n m' old
-  leaves-refused n old e = record { outcome = Refused n; is = subst (λ (o : Outcome). Passes value s m o m') e g; number = refl; leaves = refl }
+module _ (value : ℕ) (s : List ℕ) (m m' : Memory) {r : Result Totals Fault} (g : Passes value s m r m') (old : List ℕ) where
+  pub leaves-refused : (f : Fault) {n : ℕ} → r ≡ Err f → n ≡ fault_number f → PassLeaves value s m old n m' old
+  leaves-refused f e k = record { outcome = Err f; is = subst (λ (o : Result Totals Fault). Passes value s m o m') e g; number = k; leaves = refl }
 
-  pub leaves-accepted : (t : Totals) (old : List ℕ) → r ≡ Accepted t → PassLeaves value s m old 0 m' (t.written ∷ t.errors ∷ t.warnings ∷ t.lefts ∷ [])
-  leaves-accepted t old e = record { outcome = Accepted t; is = subst (λ (o : Outcome). Passes value s m o m') e g; number = refl; leaves = refl }
+  pub leaves-accepted : (t : Totals) → r ≡ Ok t → PassLeaves value s m old 0 m' (t.written ∷ t.errors ∷ t.warnings ∷ t.lefts ∷ [])
+  leaves-accepted t e = record { outcome = Ok t; is = subst (λ (o : Result Totals Fault). Passes value s m o m') e g; number = refl; leaves = refl }
 
-pub room-leaves-denied : (value : ℕ) (s : List ℕ) (old : ℕ) (a : Answer) → RoomIs value s a → (n : ℕ) → a ≡ Denied n → RoomLeaves value s old n old
-room-leaves-denied value s old a h n e = record { answer = Denied n; is = subst (RoomIs value s) e h; number = refl; leaves = refl }
+module _ (value : ℕ) (s : List ℕ) {r : Result ℕ Fault} (g : RoomIs value s r) (old : ℕ) where
+  pub room-leaves-denied : (f : Fault) {n : ℕ} → r ≡ Err f → n ≡ fault_number f → RoomLeaves value s old n old
+  room-leaves-denied f e k = record { answer = Err f; is = subst (RoomIs value s) e g; number = k; leaves = refl }
 
-pub room-leaves-needed : (value : ℕ) (s : List ℕ) (old : ℕ) (a : Answer) → RoomIs value s a → (n : ℕ) → a ≡ Needed n → RoomLeaves value s old 0 n
-room-leaves-needed value s old a h n e = record { answer = Needed n; is = subst (RoomIs value s) e h; number = refl; leaves = refl }
+  pub room-leaves-needed : (n : ℕ) → r ≡ Ok n → RoomLeaves value s old 0 n
+  room-leaves-needed n e = record { answer = Ok n; is = subst (RoomIs value s) e g; number = refl; leaves = refl }
 
--- the page of an image that was not read
-pub page-unread : (value : ℕ) → value ≤ 15 → (s page : List ℕ) (n : ℕ) → n ≡ fault_of (decode version1 s) → 0 < n → Pages value s page (paged.Refused n) page
-unfolding fault_of
-page-unread value low s page n e h = go (decode version1 s) refl
-  where
-    go : (d : Decoded) → decode version1 s ≡ d → Pages value s page (paged.Refused n) page
-    go (accepted i) z = absurd (omega (arith, e ∙ ap fault_of z))
-    go (refused k) z = subst (λ (x : ℕ). Pages value s page (paged.Refused x) page) (sym (e ∙ ap fault_of z)) (pages-unread value s page low k z)
+module _ (value : ℕ) (s page page' : List ℕ) {r : Result ℕ Fault} (g : Pages value s page r page') (old : ℕ) where
+  pub page-leaves-refused : (f : Fault) {n : ℕ} → r ≡ Err f → n ≡ fault_number f → PageLeaves value s page old n page' old
+  page-leaves-refused f e k = record { outcome = Err f; is = subst (λ (o : Result ℕ Fault). Pages value s page o page') e g; number = k; leaves = refl }
 
-module _ (value : ℕ) (s page page' : List ℕ) (r : Paged) (g : Pages value s page r page') (old : ℕ) where
-  pub page-leaves-refused : (n : ℕ) → r ≡ paged.Refused n → PageLeaves value s page old n page' old
-  page-leaves-refused n e = record { outcome = paged.Refused n; is = subst (λ (o : Paged). Pages value s page o page') e g; number = refl; leaves = refl }
-
-  pub page-leaves-written : (n : ℕ) → r ≡ Written n → PageLeaves value s page old 0 page' n
-  page-leaves-written n e = record { outcome = Written n; is = subst (λ (o : Paged). Pages value s page o page') e g; number = refl; leaves = refl }
+  pub page-leaves-written : (n : ℕ) → r ≡ Ok n → PageLeaves value s page old 0 page' n
+  page-leaves-written n e = record { outcome = Ok n; is = subst (λ (o : Result ℕ Fault). Pages value s page o page') e g; number = refl; leaves = refl }

@@ -6,18 +6,12 @@ ghost use Rattle.std.specs.Prelude.{◌≡◌};
 ghost use Rattle.image_writing.specs.Memory.{memory};
 ghost use Rattle.entries_verdict.specs.Passes.{Passes};
 ghost use Rattle.entries_page.specs.Pages.{Pages};
-ghost use Rattle.ownership_pass.specs.Entries.{PassLeaves, RoomIs, RoomLeaves, PageLeaves};
+ghost use Rattle.ownership_pass.specs.Entries.{Begun, PassLeaves, RoomIs, RoomLeaves, PageLeaves};
 
 use blocks_ends::Env;
-use entries_page::Paged;
-use entries_verdict::Outcome;
-
-// What the entry that answers the room answers; of a denial, the fault.
-#[derive(Clone, Copy)]
-pub enum Answer {
-    Needed(usize),
-    Denied(u8),
-}
+use entries_verdict::Totals;
+use image::ImageRead;
+use image_fields::Fault;
 
 // The numbers that a walk begins with: 12 blocks deep, 64 locals, 8 places, and rows from the first on.
 fn first_env(switches: u32) -> Env
@@ -29,8 +23,19 @@ fn first_env(switches: u32) -> Env
         width: 8,
         cur: 0,
         base: 64,
-        switches: switches,
+        switches,
     }
+}
+
+// The image read, if the value of the switches is one: what its walk begins with.
+fn read_switched(switches: u32, s: &[u8], tb: &mut [u32; 1096]) -> Result<(Env, ImageRead), Fault>
+    ensures { Begun switches s.now tb.new result }
+{
+    if 15 < switches {
+        return Err(Fault::Switches);
+    }
+    let read = image::read_image(s, tb)?;
+    Ok((first_env(switches), read))
 }
 
 // The body with the deletes inserted, and what is reported, into the memory lent.
@@ -41,68 +46,31 @@ pub fn pass_switched(
     errs: &mut [u32],
     warns: &mut [u32],
     lefts: &mut [u32],
-) -> Outcome
+) -> Result<Totals, Fault>
     ensures { Passes switches s.now (memory out.old errs.old warns.old lefts.old) result (memory out.new errs.new warns.new lefts.new) }
 {
-    if 15 < switches {
-        return Outcome::Refused(17);
-    }
     let mut tb = [0u32; 1096];
-    let read = image::read_image(s, &mut tb);
-    let fault = read.fault;
-    if 0 < fault {
-        return Outcome::Refused(fault);
-    }
-    let size = entries_sizes::size_for(s.len());
-    entries_sizes::verdict(
-        size,
-        s,
-        &tb,
-        first_env(switches),
-        read,
-        out,
-        errs,
-        warns,
-        lefts,
-    )
+    let (env, read) = read_switched(switches, s, &mut tb)?;
+    entries_sizes::verdict(s, &tb, env, read, out, errs, warns, lefts)
 }
 
 // The bytes that the body given back needs.
-pub fn room_switched(switches: u32, s: &[u8]) -> Answer
+pub fn room_switched(switches: u32, s: &[u8]) -> Result<usize, Fault>
     ensures { RoomIs switches s.now result }
 {
-    if 15 < switches {
-        return Answer::Denied(17);
-    }
     let mut tb = [0u32; 1096];
-    let read = image::read_image(s, &mut tb);
-    let fault = read.fault;
-    if 0 < fault {
-        return Answer::Denied(fault);
-    }
-    let w = entries_image::measure(s, &tb, first_env(switches), read, false);
-    let found = w.fault;
-    if 0 < found {
-        return Answer::Denied(found);
-    }
-    let p = w.place;
-    Answer::Needed(p.written)
+    let (env, read) = read_switched(switches, s, &mut tb)?;
+    let p = entries_image::measure(s, &tb, env, read, false)?;
+    Ok(p.written)
 }
 
 // The page of what is reported, into the memory lent.
-pub fn page_switched(switches: u32, s: &[u8], page: &mut [u8]) -> Paged
+pub fn page_switched(switches: u32, s: &[u8], page: &mut [u8]) -> Result<usize, Fault>
     ensures { Pages switches s.now page.old result page.new }
 {
-    if 15 < switches {
-        return Paged::Refused(17);
-    }
     let mut tb = [0u32; 1096];
-    let read = image::read_image(s, &mut tb);
-    let fault = read.fault;
-    if 0 < fault {
-        return Paged::Refused(fault);
-    }
-    entries_page::page_verdict(s, &tb, first_env(switches), read, page)
+    let (env, read) = read_switched(switches, s, &mut tb)?;
+    entries_page::page_verdict(s, &tb, env, read, page)
 }
 
 // With all switches off.
@@ -112,19 +80,19 @@ pub fn pass(
     errs: &mut [u32],
     warns: &mut [u32],
     lefts: &mut [u32],
-) -> Outcome
+) -> Result<Totals, Fault>
     ensures { Passes 0 s.now (memory out.old errs.old warns.old lefts.old) result (memory out.new errs.new warns.new lefts.new) }
 {
     pass_switched(0, s, out, errs, warns, lefts)
 }
 
-pub fn room(s: &[u8]) -> Answer
+pub fn room(s: &[u8]) -> Result<usize, Fault>
     ensures { RoomIs 0 s.now result }
 {
     room_switched(0, s)
 }
 
-pub fn page(s: &[u8], page: &mut [u8]) -> Paged
+pub fn page(s: &[u8], page: &mut [u8]) -> Result<usize, Fault>
     ensures { Pages 0 s.now page.old result page.new }
 {
     page_switched(0, s, page)
@@ -144,8 +112,8 @@ pub extern "C" fn ownership_pass_switched(
     ensures { PassLeaves switches image.now (memory output.old errors.old warnings.old left.old) totals.old result (memory output.new errors.new warnings.new left.new) totals.new }
 {
     match pass_switched(switches, image, output, errors, warnings, left) {
-        Outcome::Refused(fault) => fault as u32,
-        Outcome::Accepted(t) => {
+        Err(fault) => u32::from(fault),
+        Ok(t) => {
             *totals = [
                 t.written as u64,
                 t.errors as u64,
@@ -177,8 +145,8 @@ pub extern "C" fn ownership_room_switched(switches: u32, image: &[u8], needed: &
     ensures { RoomLeaves switches image.now needed.old result needed.new }
 {
     match room_switched(switches, image) {
-        Answer::Denied(fault) => fault as u32,
-        Answer::Needed(bytes) => {
+        Err(fault) => u32::from(fault),
+        Ok(bytes) => {
             *needed = bytes as u64;
             0
         }
@@ -203,8 +171,8 @@ pub extern "C" fn ownership_page_switched(
     ensures { PageLeaves switches image.now output.old written.old result output.new written.new }
 {
     match page_switched(switches, image, output) {
-        Paged::Refused(fault) => fault as u32,
-        Paged::Written(bytes) => {
+        Err(fault) => u32::from(fault),
+        Ok(bytes) => {
             *written = bytes as u64;
             0
         }

@@ -6,45 +6,48 @@
 ghost use Rattle.std.specs.Prelude.{◌≡◌, ◌+◌, ◌≤◌, ◌<◌, length};
 ghost use Rattle.programs_faults.specs.Record.{record_at, Inside};
 
+use image_fields::{four_at, peek, room};
 use std::{fs, io};
 
-// Where a record's label and its image end, or that it is cut short.
+// Where a record's label and its image end.
 #[derive(Clone, Copy)]
-enum Record {
-    Ends(usize, usize),
-    Short,
+struct Record {
+    label: usize,
+    end: usize,
 }
 
-// The record that starts at a position.
-fn record_at(s: &[u8], at: usize) -> Record
+// The record that starts at a position; none where it is cut short.
+fn record_at(s: &[u8], at: usize) -> Option<Record>
     ensures value { result ≡ record_at s.now at }
     ensures inside { Inside s.now at result }
 {
-    if image_fields::room(s, at) < 1 {
-        return Record::Short;
+    if room(s, at) < 1 {
+        return None;
     }
-    let label = at + 1 + image_fields::peek(s, at);
-    if image_fields::room(s, label) < 4 {
-        return Record::Short;
+    let label = at + 1 + peek(s, at);
+    if room(s, label) < 4 {
+        return None;
     }
-    let size = image_fields::four_at(s, label);
-    if image_fields::room(s, label + 4) < size {
-        return Record::Short;
+    let size = four_at(s, label);
+    if room(s, label + 4) < size {
+        return None;
     }
-    Record::Ends(label, label + 4 + size)
+    let end = label + 4 + size;
+    Some(Record { label, end })
 }
 
 // The line of a record that starts at a position.
-fn print_record(rt: &impl Print, s: &[u8], at: usize, label: usize, end: usize) -> io::Result<()>
-    requires { (at < label) × (label + 4 ≤ end) × (end ≤ length s.now) }
+fn print_record(rt: &impl Print, s: &[u8], at: usize, record: Record) -> io::Result<()>
+    requires { (at < record.label) × (record.label + 4 ≤ record.end) × (record.end ≤ length s.now) }
 {
     let name = at + 1;
-    let image = label + 4;
-    rt.write_all(&s[name..label])?;
-    let fault = image::image_fault(&s[image..end]);
+    let image = record.label + 4;
+    rt.write_all(&s[name..record.label])?;
+    // the answer as C has it, 0 for none
+    let fault = image::image_fault(&s[image..record.end]);
     if fault == 0 {
         rt.write_all(b" accepted ")?;
-        rt.print(end - image)?;
+        rt.print(record.end - image)?;
     } else {
         rt.write_all(b" refused ")?;
         rt.print(fault)?;
@@ -60,12 +63,11 @@ fn print_bad(rt: &impl Print) -> io::Result<()> {
 fn print_records(rt: &impl Print, s: &[u8]) -> io::Result<()> {
     let mut at = 0;
     while at < s.len() {
-        let found = record_at(s, at);
-        let Record::Ends(label, end) = found else {
+        let Some(record) = record_at(s, at) else {
             return print_bad(rt);
         };
-        print_record(rt, s, at, label, end)?;
-        at = end;
+        print_record(rt, s, at, record)?;
+        at = record.end;
     }
     Ok(())
 }

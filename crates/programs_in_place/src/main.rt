@@ -2,13 +2,16 @@
 // picks, and compares all of the two stacks after every step. Prints what was done and how many steps differ.
 #![tactic(auto)]
 
-ghost use Rattle.std.specs.Prelude.{[], ◌∷◌, ◌<◌};
+ghost use Rattle.std.specs.Prelude.{[], ◌∷◌, ◌<◌, true, false, MatchResult};
 ghost use Rattle.scope_state.specs.Kinds.{said, put};
 ghost use Rattle.lent.specs.Changed.{Whole, Marked, Registered};
 
-use lent::{Next, Stack};
+use lent::Stack;
 use scope_stack::{Locals, States};
 use std::io;
+
+// The stack after a step, or the one that refused it, as it was.
+type After = Result<Stack, Stack>;
 
 // A registration: name, type, depth, birth and whether the type has a destructor. A mark: name and place.
 #[derive(Clone, Copy)]
@@ -42,14 +45,14 @@ fn mark(mut stack: Stack, name: u16, kind: u8, place: u32, only_alive: bool) -> 
     stack
 }
 
-fn register_local(mut stack: Stack, name: u16, ty: u16, depth: u8, born: u32, dtor: bool) -> Next
+fn register_local(mut stack: Stack, name: u16, ty: u16, depth: u8, born: u32, dtor: bool) -> After
     requires { Whole stack }
-    ensures { Registered stack name ty depth born dtor result.ok result.stack }
+    ensures { MatchResult result (Registered stack name ty depth born dtor true) (Registered stack name ty depth born dtor false) }
 {
-    let ok = lent::register_local(&mut stack, name, ty, depth, born, dtor);
-    Next {
-        ok: ok,
-        stack: stack,
+    if lent::register_local(&mut stack, name, ty, depth, born, dtor) {
+        Ok(stack)
+    } else {
+        Err(stack)
     }
 }
 
@@ -58,79 +61,57 @@ fn mark_by_value(old: Stack, name: u16, kind: u8, place: u32, only_alive: bool) 
     requires { Whole old × (kind < 7) }
     ensures { Marked old name (put only_alive (said kind (place ∷ []))) result }
 {
-    let l = old.locals;
-    let t = old.states;
-    let u = t.mark(&l.names, &l.depths, l.count, name, kind, place, only_alive);
     Stack {
-        locals: l,
-        states: u,
+        locals: old.locals,
+        states: old.states.mark(&old.locals, name, kind, place, only_alive),
     }
 }
 
-// By value, the frame marked Alive whether or not that changes it; refused, the stack is as it was.
-fn register_by_value(old: Stack, name: u16, ty: u16, depth: u8, born: u32, dtor: bool) -> Next
+// By value, the frame marked Alive whether or not that changes it.
+fn register_by_value(old: Stack, name: u16, ty: u16, depth: u8, born: u32, dtor: bool) -> After
     requires { Whole old }
-    ensures { Registered old name ty depth born dtor result.ok result.stack }
+    ensures { MatchResult result (Registered old name ty depth born dtor true) (Registered old name ty depth born dtor false) }
 {
-    let l = old.locals;
-    if 64 <= l.count {
-        return Next {
-            ok: false,
-            stack: old,
-        };
+    if 64 <= old.locals.count {
+        return Err(old);
     }
-    let m = l.register_local(name, ty, depth, born, dtor);
-    let t = old.states;
-    let u = t.mark(&m.names, &m.depths, m.count, name, 0, 0, false);
-    let new = Stack {
-        locals: m,
-        states: u,
-    };
-    Next {
-        ok: true,
-        stack: new,
-    }
+    let locals = old.locals.register_local(name, ty, depth, born, dtor);
+    Ok(Stack {
+        locals: locals,
+        states: old.states.mark(&locals, name, 0, 0, false),
+    })
 }
 
-fn done(stack: Stack) -> Next
+fn by_value(stack: Stack, step: Step) -> After
     requires { Whole stack }
-    ensures { Whole result.stack }
-{
-    Next {
-        ok: true,
-        stack: stack,
-    }
-}
-
-fn by_value(stack: Stack, step: Step) -> Next
-    requires { Whole stack }
-    ensures { Whole result.stack }
+    ensures { MatchResult result Whole Whole }
 {
     match step {
         Step::Register(name, ty, depth, born, dtor) => register_by_value(
             stack, name, ty, depth, born, dtor,
         ),
-        Step::Deleted(name, place) => done(mark_by_value(stack, name, 1, place, false)),
-        Step::Moved(name, place) => done(mark_by_value(stack, name, 2, place, false)),
-        Step::Consumed(name, place) => done(mark_by_value(stack, name, 3, place, false)),
-        Step::Alive(name) => done(mark_by_value(stack, name, 0, 0, false)),
-        Step::HandedOver(name, place) => done(mark_by_value(stack, name, 2, place, true)),
+        Step::Deleted(name, place) => Ok(mark_by_value(stack, name, 1, place, false)),
+        Step::Moved(name, place) => Ok(mark_by_value(stack, name, 2, place, false)),
+        Step::Consumed(name, place) => Ok(mark_by_value(stack, name, 3, place, false)),
+        Step::Alive(name) => Ok(mark_by_value(stack, name, 0, 0, false)),
+        Step::HandedOver(name, place) => Ok(mark_by_value(stack, name, 2, place, true)),
     }
 }
 
-fn in_place(stack: Stack, step: Step) -> Next
+// As by_value, over the other functions: that the two are set beside each other is the program.
+fn in_place(stack: Stack, step: Step) -> After
     requires { Whole stack }
-    ensures { Whole result.stack }
+    ensures { MatchResult result Whole Whole }
 {
     match step {
         Step::Register(name, ty, depth, born, dtor) => register_local(
             stack, name, ty, depth, born, dtor,
         ),
-        Step::Deleted(name, place) => done(mark(stack, name, 1, place, false)),
-        Step::Moved(name, place) => done(mark(stack, name, 2, place, false)),
-        Step::Consumed(name, place) => done(mark(stack, name, 3, place, false)),
-        Step::Alive(name) => done(mark(stack, name, 0, 0, false)),
-        Step::HandedOver(name, place) => done(mark(stack, name, 2, place, true)),
+        Step::Deleted(name, place) => Ok(mark(stack, name, 1, place, false)),
+        Step::Moved(name, place) => Ok(mark(stack, name, 2, place, false)),
+        Step::Consumed(name, place) => Ok(mark(stack, name, 3, place, false)),
+        Step::Alive(name) => Ok(mark(stack, name, 0, 0, false)),
+        Step::HandedOver(name, place) => Ok(mark(stack, name, 2, place, true)),
     }
 }
 
@@ -165,101 +146,42 @@ fn step_of(a: u64, b: u64) -> Step
     }
 }
 
-fn same_locals(a: Locals, b: Locals) -> bool {
-    if a.count != b.count {
-        return false;
-    }
-    if a.dtors != b.dtors {
-        return false;
-    }
-    let mut i = 0;
-    while i < 64 {
-        if a.names[i] != b.names[i] {
-            return false;
-        }
-        if a.types[i] != b.types[i] {
-            return false;
-        }
-        if a.depths[i] != b.depths[i] {
-            return false;
-        }
-        if a.births[i] != b.births[i] {
-            return false;
-        }
-        i += 1;
-    }
-    true
-}
-
-fn same_states(a: States, b: States) -> bool {
-    if a.alive != b.alive {
-        return false;
-    }
-    let mut i = 0;
-    while i < 64 {
-        if a.kinds[i] != b.kinds[i] {
-            return false;
-        }
-        if a.firsts[i] != b.firsts[i] {
-            return false;
-        }
-        i += 1;
-    }
-    true
-}
-
-// Whether two stacks are alike in all their fields, past their locals too.
-fn same(a: Stack, b: Stack) -> bool {
-    if same_locals(a.locals, b.locals) {
-        return same_states(a.states, b.states);
-    }
-    false
-}
-
-fn agree(a: Next, b: Next) -> bool {
-    if a.ok != b.ok {
-        return false;
-    }
-    let s = a.stack;
-    let t = b.stack;
-    same(s, t)
-}
-
 // One more, up to a million.
 fn one_more(n: u64) -> u64 {
-    if n < 1000000 {
-        return n + 1;
-    }
-    n
+    if n < 1000000 { n + 1 } else { n }
 }
 
-fn most(a: usize, b: usize) -> usize {
-    if a < b {
-        return b;
+fn stack_of(after: After) -> Stack
+    requires { MatchResult after Whole Whole }
+    ensures { Whole result }
+{
+    match after {
+        Ok(stack) => stack,
+        Err(stack) => stack,
     }
-    a
 }
 
-// With a step on the stack `old` that came to a by value and to b in place.
-fn counted(mut t: Tally, step: Step, old: Stack, a: Next, b: Next) -> Tally {
-    let new = a.stack;
+// With a step on the stack `old` that came to a by value and to b in place. Stacks are compared in all their fields, past their locals too.
+fn counted(mut t: Tally, step: Step, old: Stack, a: After, b: After) -> Tally
+    requires { MatchResult a Whole Whole }
+{
+    let new = stack_of(a);
     t.steps = one_more(t.steps);
-    let l = new.locals;
-    t.most = most(t.most, l.count);
-    if !agree(a, b) {
+    t.most = t.most.max(new.locals.count);
+    if a != b {
         t.differ = one_more(t.differ);
     }
-    if let Step::Register(_, _, _, _, _) = step {
-        if a.ok {
-            t.registered = one_more(t.registered);
-        } else {
-            t.refused = one_more(t.refused);
+    match step {
+        Step::Register(_, _, _, _, _) => match a {
+            Ok(_) => t.registered = one_more(t.registered),
+            Err(_) => t.refused = one_more(t.refused),
+        },
+        _ => {
+            t.marks = one_more(t.marks);
+            if old != new {
+                t.changed = one_more(t.changed);
+            }
         }
-        return t;
-    }
-    t.marks = one_more(t.marks);
-    if !same(old, new) {
-        t.changed = one_more(t.changed);
     }
     t
 }
@@ -281,17 +203,15 @@ fn run(seed: u64, steps: usize, before: Tally) -> Tally
     let mut value = empty();
     let mut lent = empty();
     let mut x = seed;
-    let mut i = 0;
-    while i < steps {
+    for _ in 0..steps {
         let a = next_number(x);
         x = next_number(a);
         let step = step_of(a, x);
         let v = by_value(value, step);
         let l = in_place(lent, step);
         t = counted(t, step, value, v, l);
-        value = v.stack;
-        lent = l.stack;
-        i += 1;
+        value = stack_of(v);
+        lent = stack_of(l);
     }
     t
 }
@@ -311,10 +231,8 @@ fn main(rt: HostRuntime) -> io::Result<()> {
         most: 0,
         differ: 0,
     };
-    let mut seed = 1;
-    while seed < 9 {
+    for seed in 1..9 {
         t = run(seed, 200, t);
-        seed += 1;
     }
     print(&rt, t.steps, b" steps: ")?;
     print(&rt, t.registered, b" registrations, ")?;

@@ -1,8 +1,6 @@
 -- Where the parts of a stored record stand.
-use Rattle.std.specs.Prelude.{ℕ, ◌+◌, ◌≤◌, ◌<◌, List, length}
+use Rattle.std.specs.Prelude.{ℕ, ◌+◌, ◌≤◌, ◌<◌, List, length, Option, IfSome}
 use Rattle.programs_replay.specs.declared.Record.{Record}
-use Rattle.programs_replay.specs.declared.Found.{Found}
-use Rattle.programs_replay.specs.declared.Found.TheVariants.{Whole, Short}
 
 -- no part begins past the end
 pub record Listed (q : Record) : Type 0 where
@@ -19,7 +17,6 @@ pub record Stands (s : List ℕ) (q : Record) : Type 0 where
   pub ends : q.end ≤ length s
   pub short : length s < 4294967296
 
--- a whole record stands there, after its label
-unfoldable pub Inside : List ℕ → ℕ → Found → Type 0
-Inside s at (Whole q) = (at < q.label) × Stands s q
-Inside s at Short = Unit
+-- a record that was found stands there, after its label
+abbrev pub Inside : List ℕ → ℕ → Option Record → Type 0
+Inside s at r = IfSome r (λ q. (at < q.label) × Stands s q)

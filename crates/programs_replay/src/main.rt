@@ -5,8 +5,8 @@
 ghost use Rattle.std.specs.Prelude.{◌≡◌, ◌+◌, ◌*◌, ◌≤◌, ◌<◌, length};
 ghost use Rattle.programs_replay.specs.Record.{Listed, Stands, Inside};
 
-use entries_verdict::{Outcome, Totals};
-use ownership_pass::Answer;
+use entries_verdict::Totals;
+use image_fields::{peek, wide, wide32};
 use std::rt::Files;
 use std::{fs, io};
 
@@ -22,13 +22,6 @@ struct Record {
     end: usize,
 }
 
-// A record, or that it is cut short.
-#[derive(Clone, Copy)]
-enum Found {
-    Whole(Record),
-    Short,
-}
-
 // How many records agree and how many differ.
 #[derive(Clone, Copy)]
 struct Count {
@@ -36,20 +29,15 @@ struct Count {
     differ: usize,
 }
 
-fn wide(x: u32) -> usize
-    ensures { result ≡ x }
-{
-    x as usize
-}
-
 // Two bytes' number, or 0 past the end.
 fn two(s: &[u8], at: usize) -> usize
     ensures { result < 65536 }
 {
     if image_fields::room(s, at) < 2 {
-        return 0;
+        0
+    } else {
+        image_fields::two_at(s, at)
     }
-    image_fields::two_at(s, at)
 }
 
 // Four bytes' number, or 0 past the end.
@@ -57,9 +45,10 @@ fn four(s: &[u8], at: usize) -> usize
     ensures { result < 4294967296 }
 {
     if image_fields::room(s, at) < 4 {
-        return 0;
+        0
+    } else {
+        image_fields::four_at(s, at)
     }
-    image_fields::four_at(s, at)
 }
 
 // Where a list of errors ends.
@@ -69,10 +58,8 @@ fn errors_end(s: &[u8], at: usize) -> usize
 {
     let many = two(s, at);
     let mut p = at + 2;
-    let mut i = 0;
-    while i < many {
-        p += 7 + 4 * image_fields::peek(s, p + 6);
-        i += 1;
+    for _ in 0..many {
+        p += 7 + 4 * peek(s, p + 6);
     }
     p
 }
@@ -83,8 +70,8 @@ fn refused(label: usize, answer: usize) -> Record
     ensures { (result.label ≡ label) × (result.answer ≡ answer) × Listed result }
 {
     Record {
-        label: label,
-        answer: answer,
+        label,
+        answer,
         bytes: answer,
         errors: answer,
         warnings: answer,
@@ -101,12 +88,12 @@ fn with_lists(s: &[u8], label: usize, answer: usize, bytes: usize, errors: usize
     let warnings = errors_end(s, errors);
     let lefts = warnings + 2 + 8 * two(s, warnings);
     Record {
-        label: label,
-        answer: answer,
-        bytes: bytes,
-        errors: errors,
-        warnings: warnings,
-        lefts: lefts,
+        label,
+        answer,
+        bytes,
+        errors,
+        warnings,
+        lefts,
         end: lefts + 2 + 10 * two(s, lefts),
     }
 }
@@ -117,81 +104,62 @@ fn accepted(s: &[u8], label: usize, answer: usize) -> Record
     ensures { (result.label ≡ label) × (result.answer ≡ answer) × Listed result }
 {
     let bytes = answer + 7;
-    if image_fields::peek(s, answer + 6) == 1 {
-        return with_lists(s, label, answer, bytes, bytes + four(s, answer + 2));
+    if peek(s, answer + 6) == 1 {
+        with_lists(s, label, answer, bytes, bytes + four(s, answer + 2))
+    } else {
+        with_lists(s, label, answer, label + 4, bytes)
     }
-    with_lists(s, label, answer, label + 4, bytes)
 }
 
 // A record, if the bytes hold it.
-fn held(s: &[u8], at: usize, q: Record) -> Found
+fn held(s: &[u8], at: usize, q: Record) -> Option<Record>
     requires { (at < q.label) × (q.label + 4 ≤ q.answer) × Listed q × (length s.now < 4294967296) }
     ensures { Inside s.now at result }
 {
-    if s.len() < q.end {
-        return Found::Short;
-    }
-    Found::Whole(q)
+    if q.end <= s.len() { Some(q) } else { None }
 }
 
 // The record that starts at a position.
-fn record_at(s: &[u8], at: usize) -> Found
+fn record_at(s: &[u8], at: usize) -> Option<Record>
     requires { (at < length s.now) × (length s.now < 4294967296) }
     ensures { Inside s.now at result }
 {
-    let label = at + 1 + image_fields::peek(s, at);
+    let label = at + 1 + peek(s, at);
     let answer = label + 4 + four(s, label);
-    if image_fields::peek(s, answer) == 0 {
-        return held(s, at, accepted(s, label, answer));
+    if peek(s, answer) == 0 {
+        held(s, at, accepted(s, label, answer))
+    } else {
+        held(s, at, refused(label, answer))
     }
-    held(s, at, refused(label, answer))
 }
 
 // Whether a record's bytes from a position on are the first that were given back.
 fn same_bytes(s: &[u8], at: usize, out: &[u8], many: usize) -> bool
-    requires { (at < 4294967296) × (many ≤ length out.now) }
+    requires { (at ≤ length s.now) × (many ≤ length out.now) }
 {
-    let mut i = 0;
-    while i < many {
-        if image_fields::room(s, at) <= i {
-            return false;
-        }
-        if s[at + i] != out[i] {
-            return false;
-        }
-        i += 1;
-    }
-    true
+    s[at..].starts_with(&out[..many])
 }
 
 // Number j of the entry that a stored error stands for: kind, place, hint, count, and 8 places.
 fn error_number(s: &[u8], at: usize, j: usize) -> usize
     requires { (at < 1099511627776) × (j < 12) }
 {
-    if j == 0 {
-        return image_fields::peek(s, at);
+    match j {
+        0 => peek(s, at),
+        1 => four(s, at + 1),
+        2 | 3 => peek(s, at + 3 + j),
+        _ if j - 4 < peek(s, at + 6) => four(s, at + 7 + 4 * (j - 4)),
+        _ => 0,
     }
-    if j == 1 {
-        return four(s, at + 1);
-    }
-    if j < 4 {
-        return image_fields::peek(s, at + 3 + j);
-    }
-    if j - 4 < image_fields::peek(s, at + 6) {
-        return four(s, at + 7 + 4 * (j - 4));
-    }
-    0
 }
 
 fn same_error(s: &[u8], at: usize, errs: &[u32], entry: usize) -> bool
     requires { (at < 1099511627776) × (entry + 12 ≤ length errs.now) }
 {
-    let mut j = 0;
-    while j < 12 {
-        if error_number(s, at, j) != wide(errs[entry + j]) {
+    for j in 0..12 {
+        if error_number(s, at, j) != wide32(errs[entry + j]) {
             return false;
         }
-        j += 1;
     }
     true
 }
@@ -204,13 +172,11 @@ fn same_errors(s: &[u8], at: usize, errs: &[u32], many: usize) -> bool
         return false;
     }
     let mut p = at + 2;
-    let mut i = 0;
-    while i < many {
+    for i in 0..many {
         if !same_error(s, p, errs, 12 * i) {
             return false;
         }
-        p += 7 + 4 * image_fields::peek(s, p + 6);
-        i += 1;
+        p += 7 + 4 * peek(s, p + 6);
     }
     true
 }
@@ -219,10 +185,7 @@ fn same_errors(s: &[u8], at: usize, errs: &[u32], many: usize) -> bool
 fn same_warning(s: &[u8], at: usize, list: &[u32], entry: usize) -> bool
     requires { (at < 1099511627776) × (entry + 2 ≤ length list.now) }
 {
-    if four(s, at) != wide(list[entry]) {
-        return false;
-    }
-    four(s, at + 4) == wide(list[entry + 1])
+    four(s, at) == wide32(list[entry]) && four(s, at + 4) == wide32(list[entry + 1])
 }
 
 // Whether a stored list of warnings is the one that was given.
@@ -232,14 +195,10 @@ fn same_warnings(s: &[u8], at: usize, list: &[u32], many: usize) -> bool
     if two(s, at) != many {
         return false;
     }
-    let mut p = at + 2;
-    let mut i = 0;
-    while i < many {
-        if !same_warning(s, p, list, 2 * i) {
+    for i in 0..many {
+        if !same_warning(s, at + 2 + 8 * i, list, 2 * i) {
             return false;
         }
-        p += 8;
-        i += 1;
     }
     true
 }
@@ -248,13 +207,9 @@ fn same_warnings(s: &[u8], at: usize, list: &[u32], many: usize) -> bool
 fn same_left(s: &[u8], at: usize, list: &[u32], entry: usize) -> bool
     requires { (at < 1099511627776) × (entry + 3 ≤ length list.now) }
 {
-    if four(s, at) != wide(list[entry]) {
-        return false;
-    }
-    if two(s, at + 4) != wide(list[entry + 1]) {
-        return false;
-    }
-    four(s, at + 6) == wide(list[entry + 2])
+    four(s, at) == wide32(list[entry])
+        && two(s, at + 4) == wide32(list[entry + 1])
+        && four(s, at + 6) == wide32(list[entry + 2])
 }
 
 // Whether a stored list of left-behind entries is the one that was given.
@@ -264,14 +219,10 @@ fn same_lefts(s: &[u8], at: usize, list: &[u32], many: usize) -> bool
     if two(s, at) != many {
         return false;
     }
-    let mut p = at + 2;
-    let mut i = 0;
-    while i < many {
-        if !same_left(s, p, list, 3 * i) {
+    for i in 0..many {
+        if !same_left(s, at + 2 + 10 * i, list, 3 * i) {
             return false;
         }
-        p += 10;
-        i += 1;
     }
     true
 }
@@ -289,19 +240,11 @@ fn same_answer(
     requires stands { Stands s.now q }
     requires written_in_bounds { (t.written ≤ length out.now) × (12 * t.errors ≤ length errs.now) × (2 * t.warnings ≤ length warns.now) × (3 * t.lefts ≤ length lefts.now) }
 {
-    if four(s, q.answer + 2) != t.written {
-        return false;
-    }
-    if !same_bytes(s, q.bytes, out, t.written) {
-        return false;
-    }
-    if !same_errors(s, q.errors, errs, t.errors) {
-        return false;
-    }
-    if !same_warnings(s, q.warnings, warns, t.warnings) {
-        return false;
-    }
-    same_lefts(s, q.lefts, lefts, t.lefts)
+    four(s, q.answer + 2) == t.written
+        && same_bytes(s, q.bytes, out, t.written)
+        && same_errors(s, q.errors, errs, t.errors)
+        && same_warnings(s, q.warnings, warns, t.warnings)
+        && same_lefts(s, q.lefts, lefts, t.lefts)
 }
 
 // With 65,536 bytes and 256 entries a list lent: the outcome, and what it gives.
@@ -314,7 +257,7 @@ fn usual_agrees(s: &[u8], q: Record) -> bool
     let mut errs = [0u32; 3072];
     let mut warns = [0u32; 512];
     let mut lefts = [0u32; 768];
-    let outcome = image_fields::peek(s, answer);
+    let outcome = peek(s, answer);
     match ownership_pass::pass(
         &s[image..answer],
         &mut out,
@@ -322,13 +265,8 @@ fn usual_agrees(s: &[u8], q: Record) -> bool
         &mut warns,
         &mut lefts,
     ) {
-        Outcome::Refused(fault) => image_fields::wide(fault) == outcome,
-        Outcome::Accepted(t) => {
-            if 0 < outcome {
-                return false;
-            }
-            same_answer(s, q, t, &out, &errs, &warns, &lefts)
-        }
+        Err(fault) => wide(u8::from(fault)) == outcome,
+        Ok(t) => outcome == 0 && same_answer(s, q, t, &out, &errs, &warns, &lefts),
     }
 }
 
@@ -341,15 +279,10 @@ fn lavish_agrees(s: &[u8], q: Record, out: &mut [u8]) -> bool
     let mut errs = [0u32; 6144];
     let mut warns = [0u32; 1024];
     let mut lefts = [0u32; 1536];
-    let outcome = image_fields::peek(s, answer + 1);
+    let outcome = peek(s, answer + 1);
     match ownership_pass::pass(&s[image..answer], out, &mut errs, &mut warns, &mut lefts) {
-        Outcome::Refused(fault) => image_fields::wide(fault) == outcome,
-        Outcome::Accepted(t) => {
-            if 0 < outcome {
-                return false;
-            }
-            four(s, answer + 2) == t.written
-        }
+        Err(fault) => wide(u8::from(fault)) == outcome,
+        Ok(t) => outcome == 0 && four(s, answer + 2) == t.written,
     }
 }
 
@@ -366,17 +299,10 @@ fn room_agrees(s: &[u8], q: Record) -> bool
 {
     let image = q.label + 4;
     let answer = q.answer;
-    let outcome = image_fields::peek(s, answer);
+    let outcome = peek(s, answer);
     match ownership_pass::room(&s[image..answer]) {
-        Answer::Denied(fault) => image_fields::wide(fault) == outcome,
-        Answer::Needed(bytes) => {
-            if 0 < outcome {
-                if outcome < 14 {
-                    return false;
-                }
-            }
-            four(s, answer + 2) <= bytes
-        }
+        Err(fault) => wide(u8::from(fault)) == outcome,
+        Ok(bytes) => (outcome == 0 || 14 <= outcome) && four(s, answer + 2) <= bytes,
     }
 }
 
@@ -384,18 +310,11 @@ fn room_agrees(s: &[u8], q: Record) -> bool
 fn agrees(s: &[u8], q: Record) -> bool
     requires { Stands s.now q }
 {
-    let answer = q.answer;
-    if !usual_agrees(s, q) {
-        return false;
-    }
-    if !room_agrees(s, q) {
-        return false;
-    }
-    let outcome = image_fields::peek(s, answer);
-    if outcome < 14 {
-        return image_fields::peek(s, answer + 1) == outcome;
-    }
-    all_agrees(s, q)
+    let outcome = peek(s, q.answer);
+    usual_agrees(s, q)
+        && room_agrees(s, q)
+        && (14 <= outcome || peek(s, q.answer + 1) == outcome)
+        && (outcome < 14 || all_agrees(s, q))
 }
 
 // The count after one more record.
@@ -404,14 +323,15 @@ fn counted(same: bool, c: Count) -> Count
     ensures { result.agree + result.differ ≡ c.agree + c.differ + 1 }
 {
     if same {
-        return Count {
+        Count {
             agree: c.agree + 1,
-            differ: c.differ,
-        };
-    }
-    Count {
-        agree: c.agree,
-        differ: c.differ + 1,
+            ..c
+        }
+    } else {
+        Count {
+            differ: c.differ + 1,
+            ..c
+        }
     }
 }
 
@@ -446,8 +366,7 @@ fn replay(rt: &impl Print, s: &[u8]) -> io::Result<Count>
     };
     let mut at = 0;
     while at < s.len() {
-        let found = record_at(s, at);
-        let Found::Whole(q) = found else {
+        let Some(q) = record_at(s, at) else {
             print_bad(rt)?;
             return Ok(count);
         };

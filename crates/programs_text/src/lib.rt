@@ -38,6 +38,7 @@ pub fn put_text(out: &mut [u8], at: usize, text: &[u8]) -> usize
 }
 
 // The line of a fault, in front.
+// The fault is a number: its clause is said of every byte.
 pub fn put_refused(out: &mut [u8], fault: u8) -> usize
     ensures { Stored out.old 0 (line refused_word (fault ∷ [])) out.new result × (result ≤ 100) }
 {

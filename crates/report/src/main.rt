@@ -4,7 +4,6 @@
 ghost use Rattle.std.specs.Prelude.{◌≡◌, length};
 ghost use Rattle.report.specs.Shown.{Shows};
 
-use entries_page::Paged;
 use std::io;
 
 // The page of an image, or its fault's line, in front of the memory lent.
@@ -13,8 +12,8 @@ fn show(s: &[u8], out: &mut [u8]) -> usize
     ensures { Shows s.now out.new result }
 {
     match ownership_pass::page(s, out) {
-        Paged::Refused(fault) => programs_text::put_refused(out, fault),
-        Paged::Written(bytes) => bytes,
+        Err(fault) => programs_text::put_refused(out, u8::from(fault)),
+        Ok(bytes) => bytes,
     }
 }
 

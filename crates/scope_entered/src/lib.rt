@@ -24,8 +24,7 @@ fn register_params(s: &[u8], tb: &[u32], locals: Locals, many: usize, at: usize)
     ensures { Adds tb.now (params_in s.now many at) locals result }
 {
     let mut l = locals;
-    let mut i = 0;
-    while i < many {
+    for i in 0..many {
         let p = at + 4 * i;
         l = register(
             tb,
@@ -33,7 +32,6 @@ fn register_params(s: &[u8], tb: &[u32], locals: Locals, many: usize, at: usize)
             expressions_effects::name_at(s, p),
             expressions_effects::name_at(s, p + 2),
         );
-        i += 1;
     }
     l
 }

@@ -7,16 +7,13 @@ use mathlib.Core.List.{List}
 use mathlib.Core.Logic.{inl, inr, ⊎_elim}
 use native.Mathlib.Omega.{arith}
 use lib.ListN.{length, get_or}
-use lib.Seq.{length-take-le}
 use Rattle.image_fields.proofs.Tests.{less, false-true}
 use Rattle.scope_state.specs.Kinds.{said}
-use Rattle.scope_state.specs.View.{listed, Roomy}
-use Rattle.scope_state.specs.declared.Places.{Places}
 use Rattle.scope_stack.specs.declared.Entry.{Entry}
 use Rattle.scope_stack.specs.View.{row_of, row_at, said_at, Known}
 use Rattle.scope_rows.specs.Rows.{Else, Wrote, Copied, Copies}
 use Rattle.scope_stack.proofs.Marked.{said-one, said_row, known-one}
-use Rattle.scope_rows.proofs.Rowing.{nine-up, known_same, said_same, else-none, else-wider, row_before, row_next}
+use Rattle.scope_rows.proofs.Rowing.{row-length, nine-up, known_same, said_same, else-none, else-wider, row_before, row_next}
 
 abbrev with' : ℕ → ℕ → Entry
 with' k f = record { kind = k; first = f }
@@ -65,13 +62,13 @@ module _ (n width : ℕ) (kinds rows : List ℕ) (src dst : ℕ) (g : Copied n w
               (less k i);
         })
 
-    pub copying-put : (p : Places) (new' new'' : List ℕ) → new'' ≡ new' → 8 ≤ get_or kinds i 0 → listed p ≡ row_at new (row_of src width i) → Roomy p
-        → p.count ≡ get_or new (row_of src width i) 0 → Wrote new (row_of dst width i) (listed p) new' → row_of dst width i + width < length new
+    pub copying-put : (ps new' new'' : List ℕ) → new'' ≡ new' → 8 ≤ get_or kinds i 0 → ps ≡ row_at new (row_of src width i)
+        → Wrote new (row_of dst width i) ps new' → row_of dst width i + width < length new
         → Copying width kinds rows src dst (i + 1) new''
-    copying-put p new' new'' er big lp rp cp w room =
+    copying-put ps new' new'' er big lp w room =
         let nine : 9 ≤ get_or kinds i 0 = nine-up new width (row_of src width i) (get_or kinds i 0) known-src big in
         let row = known-src.row nine in
-        let all : length (listed p) ≡ p.count = length-take-le p.count p.list (omega (arith, rp.most, rp.room)) in
+        let all : length ps ≡ get_or new (row_of src width i) 0 = ap length lp ∙ row-length new width (row_of src width i) row in
         let older : (j : ℕ) → j < i → (k : ℕ) → row_of dst width j ≤ k → k ≤ row_of dst width j + width → get_or new' k 0 ≡ get_or new k 0 =
         λ j lj k lo hi. w.rest.same k (inl (omega (arith, row_before dst width j i lj))) in
         let is-here : (f : ℕ) → said_at new' (row_of dst width i) (with' (get_or kinds i 0) f) ≡ said_at rows (row_of src width i) (with' (get_or kinds i 0) f) =
@@ -83,7 +80,7 @@ module _ (n width : ℕ) (kinds rows : List ℕ) (src dst : ℕ) (g : Copied n w
           row = λ z. record { few = omega (arith, w.count, all, row.few); most = omega (arith, w.count, all, row.most); room = omega (arith, w.rest.room) };
         } in
         subst (λ (x : List ℕ). Copying width kinds rows src dst (i + 1) x) (sym er) (record {
-          else = else-more new' (else-wider (row_of dst width i) (row_of dst width i + (length (listed p) + 1)) (row_of dst width i + (width + 1)) new new' (omega (arith, all, cp, row.most)) w.rest);
+          else = else-more new' (else-wider (row_of dst width i) (row_of dst width i + (length ps + 1)) (row_of dst width i + (width + 1)) new new' (omega (arith, all, row.most)) w.rest);
           is = λ k lk f. ⊎_elim
               (λ (q : k < i). said_same new new' width (row_of dst width k) w.rest.room (older k q) (with' (get_or kinds k 0) f) (h.known k q) ∙ h.is k q f)
               (λ (q : i ≤ k). let z : k ≡ i = omega arith in

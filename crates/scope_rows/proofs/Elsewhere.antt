@@ -8,6 +8,7 @@ use mathlib.Core.Logic.{⊎_elim}
 use native.Mathlib.Omega.{arith}
 use lib.ListN.{length, get_or}
 use Rattle.image_fields.proofs.Tests.{less}
+use Rattle.std.specs.Prelude.{Ok}
 use Rattle.tables.specs.Tables.{Tables}
 use Rattle.scope_stack.specs.declared.Locals.{Locals}
 use Rattle.scope_stack.specs.declared.States.{States}
@@ -19,9 +20,9 @@ use Rattle.scope_rows.specs.Rows.{JoinsAll, Copied, Copies}
 use Rattle.scope_rows.proofs.Rowing.{known_same, said_same, row_before}
 
 -- a join keeps a stack sound: the bits of its mark are those of the joined states
-pub sound-join : {P : Tables → Type 0} (keeps : Bool) (l : Locals) (t u r : States) (rows new : List ℕ) (a b width : ℕ) → Sound P l t rows a width → JoinsAll keeps l.count width t u rows a b r new 0
+pub sound-join : {P : Tables → Type 0} (keeps : Bool) (l : Locals) (t u r : States) (rows new : List ℕ) (a b width : ℕ) → Sound P l t rows a width → JoinsAll keeps l.count width t u rows a b (Ok r) new
     → Sound P l r new a width
-sound-join keeps l t u r rows new a b width s j = sound-states l t r rows new a a width s (j.held refl) (j.rowed refl)
+sound-join keeps l t u r rows new a b width s j = sound-states l t r rows new a a width s (j.held r refl) (j.rowed r refl)
 
 -- rows that changed elsewhere
 module _ (l : Locals) (t : States) (rows new : List ℕ) (cur width : ℕ) (h : Rowed l.count t rows cur width) (room : length new ≡ length rows)

@@ -21,12 +21,14 @@ use Rattle.scope_state.proofs.Numbers.{join-given}
 use Rattle.scope_stack.specs.declared.States.{States}
 use Rattle.scope_stack.specs.declared.Entry.{Entry}
 use Rattle.scope_stack.specs.Word.{word_of}
-use Rattle.scope_stack.specs.View.{stacked, static_at, entry_at, alive_at, row_of, said_at, state_at, Known, Held}
+use Rattle.scope_stack.specs.View.{stacked, static_at, entry_at, alive_at, row_of, said_at, state_at, view, Known, Held, Rowed}
+use Rattle.std.specs.Prelude.{Ok, Err}
+use Rattle.scope_rows.specs.declared.Stop.{Stop}
 use Rattle.scope_rows.specs.Rows.{Else, join_of, over, Alike, JoinsAt, Branches, JoinsAll}
 use Rattle.scope_state.proofs.Stacked.{agree}
 use Rattle.scope_stack.proofs.Stores.{stored, stored_at, stored_other, stored-held}
 use Rattle.scope_stack.proofs.Marked.{said-one}
-use Rattle.scope_rows.proofs.Rowing.{positive, known_same, said_same, else-none, row_before, row-mono, row_next}
+use Rattle.scope_rows.proofs.Rowing.{ok-same, err-as, positive, known_same, said_same, else-none, row_before, row-mono, row_next}
 
 -- two stacks of the same locals, joined local by local
 pub joined : (k : Bool) (n : ℕ) (f f' : ℕ → Static) (g h : ℕ → Status) → joins (joining k) (stacked n f g) (stacked n f' h) ≡ stacked n f (λ i. join_state k (g i) (h i))
@@ -159,19 +161,19 @@ module _ (keeps : Bool) (n width : ℕ) (t u : States) (rows : List ℕ) (a b : 
         rest = λ j lj. h.rest j (omega arith);
       }))
 
-      module _ (z : Entry) (new' : List ℕ) (e : JoinsAt keeps width (entry_at s i) (entry_at u i) new (row_of a width i) (row_of b width i) z new') where
+      module _ (z : Entry) (new' : List ℕ) (e : JoinsAt keeps width (entry_at s i) (entry_at u i) new (row_of a width i) (row_of b width i) (Ok z) new') where
         same-older : (j : ℕ) → j < i → (k : ℕ) → row_of a width j ≤ k → k ≤ row_of a width j + width → get_or new' k 0 ≡ get_or new k 0
         same-older j lj k lo hi = e.rest.same k (inl (omega (arith, row_before a width j i lj)))
 
-        pub joining-put : (w : ℕ) (o : Bool) (s' : States) (new'' : List ℕ) → z.kind < 15 → s' ≡ stored s i z.kind z.first w → new'' ≡ new' → o ≡ eqb z.kind 0
+        pub joining-put : (w : ℕ) (o : Bool) (s' : States) (new'' : List ℕ) → s' ≡ stored s i z.kind z.first w → new'' ≡ new' → o ≡ eqb z.kind 0
             → w ≡ word_of 64 (λ j. cond (eqb j i) o (alive_at s j)) → Joining keeps width t u rows a b (i + 1) s' new''
-        joining-put w o s' new'' lz es er eo is =
+        joining-put w o s' new'' es er eo is =
             let l64 : i < 64 = omega (arith, br.small) in
             let r = stored s i z.kind z.first w in
             let here : entry_at r i ≡ z = stored_at s i z.kind z.first w h.held l64 in
             let there : (j : ℕ) → j < i → entry_at r j ≡ entry_at s j = λ j lj. let ne : j ≢ i = λ q. omega arith in stored_other s i z.kind z.first w h.held l64 j ne in
-            let said_here : said_at new' (row_of a width i) (entry_at r i) ≡ at' i = ap (said_at new' (row_of a width i)) here ∙ (e.is lz).0 ∙ join-same in
-            let known-here : Known new' width (row_of a width i) (get_or r.kinds i 0) = subst (λ (x : Entry). Known new' width (row_of a width i) x.kind) (sym here) (e.is lz).1 in
+            let said_here : said_at new' (row_of a width i) (entry_at r i) ≡ at' i = ap (said_at new' (row_of a width i)) here ∙ (e.is z refl).0 ∙ join-same in
+            let known-here : Known new' width (row_of a width i) (get_or r.kinds i 0) = subst (λ (x : Entry). Known new' width (row_of a width i) x.kind) (sym here) (e.is z refl).1 in
             subst (λ (x : States). Joining keeps width t u rows a b (i + 1) x new'') (sym es) (subst (λ (x : List ℕ). Joining keeps width t u rows a b (i + 1) r x) (sym er) (record {
               held = stored-held s i z.kind z.first w h.held l64 o eo is;
               else = else-more new' e.rest;
@@ -187,44 +189,46 @@ module _ (keeps : Bool) (n width : ℕ) (t u : States) (rows : List ℕ) (a b : 
                   (less j i);
               calm = λ j lj. ⊎_elim
                   (λ (q : j < i). h.calm j q)
-                  (λ (q : i ≤ j). let zz : j ≡ i = omega arith in subst (λ (x : ℕ). over width (at' x) ≡ false) (sym zz) (ap (over width) (sym join-same) ∙ (e.is lz).2))
+                  (λ (q : i ≤ j). let zz : j ≡ i = omega arith in subst (λ (x : ℕ). over width (at' x) ≡ false) (sym zz) (ap (over width) (sym join-same) ∙ (e.is z refl).2))
                   (less j i);
               rest = λ j lj. let ne : j ≢ i = λ q. omega arith in stored_other s i z.kind z.first w h.held l64 j ne ∙ h.rest j (omega arith);
             }))
 
-        -- no more is looked at
-        pub joining-stop : (told : ℕ) → told ≡ z.kind → 15 ≤ z.kind → JoinsAll keeps n width t u rows a b s new' told
-        joining-stop told et big = record {
-          rest = record {
-            room = e.rest.room ∙ h.else.room;
-            same = λ k o. ⊎_elim
-                (λ (q : k < a). e.rest.same k (inl (omega arith)) ∙ h.else.same k (inl q))
-                (λ (q : row_of a width n ≤ k). e.rest.same k (inr (omega (arith, row_before a width i n l))) ∙ h.else.same k (inr (omega (arith, row_before a width i n l))))
-                o;
-          };
-          held = λ q. absurd (omega arith);
-          rowed = λ q. absurd (omega arith);
-          is = λ q. absurd (omega arith);
-          calm = λ q. absurd (omega arith);
-          crowd = λ q L e_l m em. ap (crowded L) (joined keeps m.count (static_at m) (static_at m) (state_at t rows a width) (state_at u rows b width))
-              ∙ crowd-any L m.count (static_at m) at' i (omega arith) (ap (λ (x : ℕ). over x (at' i)) e_l ∙ ap (over width) (sym join-same) ∙ e.crowd (sym et ∙ q));
-          short = λ q. let sh : length new < row_of a width i + (width + 1) = e.short (sym et ∙ q) in omega (arith, h.else.room, row_before a width i n l);
-          three = ⊎_elim (λ (q : z.kind < 15). absurd (omega arith)) (λ q. inr (⊎_elim (λ (x : z.kind ≡ 255). inl (et ∙ x)) (λ (x : z.kind ≡ 254). inr (et ∙ x)) q)) e.three;
-        }
+      -- no more is looked at
+      pub joining-stop : (z : Stop) (new' : List ℕ) → JoinsAt keeps width (entry_at s i) (entry_at u i) new (row_of a width i) (row_of b width i) (Err z) new'
+          → JoinsAll keeps n width t u rows a b (Err z) new'
+      joining-stop z new' e = record {
+        rest = record {
+          room = e.rest.room ∙ h.else.room;
+          same = λ k o. ⊎_elim
+              (λ (q : k < a). e.rest.same k (inl (omega arith)) ∙ h.else.same k (inl q))
+              (λ (q : row_of a width n ≤ k). e.rest.same k (inr (omega (arith, row_before a width i n l))) ∙ h.else.same k (inr (omega (arith, row_before a width i n l))))
+              o;
+        };
+        held = λ r q. cc;
+        rowed = λ r q. cc;
+        is = λ r q. cc;
+        calm = λ r q. cc;
+        crowd = λ q L e_l m em. ap (crowded L) (joined keeps m.count (static_at m) (static_at m) (state_at t rows a width) (state_at u rows b width))
+            ∙ crowd-any L m.count (static_at m) at' i (omega arith) (ap (λ (x : ℕ). over x (at' i)) e_l ∙ ap (over width) (sym join-same) ∙ e.crowd (err-as q));
+        short = λ q. let sh : length new < row_of a width i + (width + 1) = e.short (err-as q) in omega (arith, h.else.room, row_before a width i n l);
+        two = λ x q. e.two x (err-as q);
+      }
 
-    pub joining-all : i ≡ n → JoinsAll keeps n width t u rows a b s new 0
+    pub joining-all : i ≡ n → JoinsAll keeps n width t u rows a b (Ok s) new
     joining-all end = record {
       rest = subst (λ (x : ℕ). Else a (row_of a width x) rows new) end h.else;
-      held = λ q. h.held;
-      rowed = λ q. record {
+      held = λ r q. subst Held (ok-same q) h.held;
+      rowed = λ r q. subst (λ (x : States). Rowed n x new a width) (ok-same q) (record {
         known = λ j. ⊎_elim (λ (p : j < i). h.known j p) (λ (p : i ≤ j). known-a j p) (less j i);
         free = λ j l. ap (λ (x : Entry). x.kind) (h.rest j (omega arith)) ∙ br.rowed.free j l;
-      };
-      is = λ q m em. agree m.count (static_at m) (static_at m) (state_at s new a width) at' (λ k l. refl) (λ k l. h.done k (omega arith))
-          ∙ sym (joined keeps m.count (static_at m) (static_at m) (state_at t rows a width) (state_at u rows b width));
-      calm = λ q L e_l m em. ap (crowded L) (joined keeps m.count (static_at m) (static_at m) (state_at t rows a width) (state_at u rows b width))
+      });
+      is = λ r q m em. subst (λ (x : States). view m x new a width ≡ joins (joining keeps) (view m t rows a width) (view m u rows b width)) (ok-same q)
+          (agree m.count (static_at m) (static_at m) (state_at s new a width) at' (λ k l. refl) (λ k l. h.done k (omega arith))
+          ∙ sym (joined keeps m.count (static_at m) (static_at m) (state_at t rows a width) (state_at u rows b width)));
+      calm = λ r q L e_l m em. ap (crowded L) (joined keeps m.count (static_at m) (static_at m) (state_at t rows a width) (state_at u rows b width))
           ∙ calm-all L m.count (static_at m) at' (λ k l. ap (λ (x : ℕ). over x (at' k)) e_l ∙ h.calm k (omega arith));
-      crowd = λ q. absurd (omega arith);
-      short = λ q. absurd (omega arith);
-      three = inl refl;
+      crowd = λ q. cc;
+      short = λ q. cc;
+      two = λ x q. cc;
     }

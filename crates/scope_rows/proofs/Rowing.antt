@@ -2,27 +2,26 @@
 -- Assumes nothing.
 use Prim.Native.Nat.{ℕ, suc, ◌+◌, ◌-◌, ◌*◌, ◌≤◌, ◌<◌}
 use mathlib.Core.Path.{◌≡◌, refl, sym, ap, ◌∙◌, subst}
-use mathlib.Core.Bool.{Bool, true, false, not}
+use mathlib.Core.Bool.{Bool, true, false, cond}
 use mathlib.Core.List.{List, [], ◌∷◌}
 use mathlib.Core.Logic.{◌≢◌, inl, inr, ⊎_elim}
-use borrow.Author.Tests.{ne_eqb, eqb-true, eqb-false, lt-ltb, le-ltb, ltb-true}
+use borrow.Author.Tests.{eq-eqb, ne_eqb, eqb-true, eqb-false, le-ltb}
 use native.Mathlib.Nat.{mul-le-mul_right, suc-mul}
 use native.Mathlib.Omega.{arith}
 use lib.Dec.{eqb, ltb}
-use lib.ListN.{length, get_or, set, take, drop, length-set, length-drop}
-use lib.Seq.{get_or-set_other, get_or-set_same, get_or-take, get_or-drop, ext_get_or, length-take-le}
+use lib.ListN.{length, get_or, take, drop, length-drop}
+use lib.Seq.{get_or-take, get_or-drop, ext_get_or, length-take-le}
+use Rattle.std.specs.Prelude.{Option, Some, Result, Ok, Err}
 use Rattle.image_fields.proofs.Tests.{less}
-use Rattle.rules.specs.State.{State as Status, join_state}
+use Rattle.rules.specs.State.{State as Status, alive, gone, join_state}
 use Rattle.rules.specs.Walk.{places_of}
-use Rattle.scope_state.specs.Kinds.{said}
-use Rattle.scope_state.specs.View.{listed, state_of, Roomy, Made, Joins}
-use Rattle.scope_state.specs.declared.Places.{Places}
+use Rattle.scope_state.specs.Kinds.{said, kind_of}
+use Rattle.scope_state.specs.View.{listed, state_of, Joins}
 use Rattle.scope_state.specs.declared.State.{State}
-use Rattle.scope_state.specs.declared.NextState.{NextState}
-use Rattle.scope_state.proofs.Numbers.{not-not}
 use Rattle.scope_stack.specs.declared.Entry.{Entry}
 use Rattle.scope_stack.specs.View.{row_of, row_at, said_at, Row, Known}
-use Rattle.scope_rows.specs.Rows.{Outside, Else, Wrote, join_of, over, Loads, JoinsAt}
+use Rattle.scope_rows.specs.declared.Stop.{Stop}
+use Rattle.scope_rows.specs.Rows.{Else, Wrote, join_of, over, Loads, JoinsAt}
 use Rattle.scope_stack.proofs.Marked.{said-one, said_row, known-one}
 
 -- the first n of a list, where they are those of a row
@@ -35,68 +34,6 @@ row_list n list rows at ll lr e =
     ext_get_or 0 (take n list) (take n (drop (at + 1) rows)) (a ∙ sym b)
     (λ i h. let l : i < n = omega arith in
     get_or-take n list i 0 l ∙ e i l ∙ sym (get_or-drop (at + 1) rows i 0) ∙ sym (get_or-take n (drop (at + 1) rows) i 0 l))
-
--- a row that is read: its first j places
-pub record Reading (rows : List ℕ) (start j : ℕ) (list : List ℕ) : Type 0 where
-  pub room : length list ≡ 8
-  pub done : (k : ℕ) → k < j → get_or list k 0 ≡ get_or rows (start + k) 0
-
-pub reading-none : (rows : List ℕ) (start : ℕ) (list : List ℕ) → length list ≡ 8 → Reading rows start 0 list
-reading-none rows start list h = record { room = h; done = λ k l. absurd (omega arith) }
-
-pub reading-more : (rows : List ℕ) (start j : ℕ) (list : List ℕ) → Reading rows start j list → j < 8 → Reading rows start (j + 1) (set list j (get_or rows (start + j) 0))
-reading-more rows start j list h l = record {
-  room = length-set list j (get_or rows (start + j) 0) ∙ h.room;
-  done = λ k lk. ⊎_elim
-      (λ (q : k < j). let ne : k ≢ j = λ z. omega arith in get_or-set_other list j k (get_or rows (start + j) 0) 0 ne ∙ h.done k q)
-      (λ (q : j ≤ k). let z : k ≡ j = omega arith in rw z (get_or-set_same list j (get_or rows (start + j) 0) 0 (omega (arith, h.room))))
-      (less k j);
-}
-
--- a row of n places that is written: its first j
-pub record Writing (old : List ℕ) (row n : ℕ) (list : List ℕ) (j : ℕ) (rows : List ℕ) : Type 0 where
-  pub rest : Else row (row + (n + 1)) old rows
-  pub done : (k : ℕ) → k < j → get_or list k 0 ≡ get_or rows ((row + 1) + k) 0
-
-pub writing-none : (old : List ℕ) (row n : ℕ) (list : List ℕ) → Writing old row n list 0 old
-writing-none old row n list = record { rest = record { room = refl; same = λ k o. refl }; done = λ k l. absurd (omega arith) }
-
-pub writing_more : (old : List ℕ) (row n : ℕ) (list : List ℕ) (j : ℕ) (rows : List ℕ) → Writing old row n list j rows → j < n → row + n < length old
-    → Writing old row n list (j + 1) (set rows ((row + 1) + j) (get_or list j 0))
-writing_more old row n list j rows h l room = record {
-  rest = record {
-    room = length-set rows ((row + 1) + j) (get_or list j 0) ∙ h.rest.room;
-    same = λ k o.
-        let ne : k ≢ (row + 1) + j = λ z. ⊎_elim (λ (q : k < row). omega arith) (λ (q : row + (n + 1) ≤ k). omega arith) o in
-        get_or-set_other rows ((row + 1) + j) k (get_or list j 0) 0 ne ∙ h.rest.same k o;
-  };
-  done = λ k lk. ⊎_elim
-      (λ (q : k < j). let ne : (row + 1) + k ≢ (row + 1) + j = λ z. omega arith in h.done k q ∙ sym (get_or-set_other rows ((row + 1) + j) ((row + 1) + k) (get_or list j 0) 0 ne))
-      (λ (q : j ≤ k). let z : k ≡ j = omega arith in rw z (sym (get_or-set_same rows ((row + 1) + j) (get_or list j 0) 0 (omega (arith, h.rest.room)))))
-      (less k j);
-}
-
-pub writing-end : (old : List ℕ) (row n j : ℕ) (list rows : List ℕ) → Writing old row n list j rows → j ≡ n → n ≤ length list → row + n < length old
-    → Wrote old row (take n list) (set rows row n)
-writing-end old row n j list rows h e le lt =
-    let new = set rows row n in
-    let many : length new ≡ length old = length-set rows row n ∙ h.rest.room in
-    let other : (k : ℕ) → k ≢ row → get_or new k 0 ≡ get_or rows k 0 = λ k ne. get_or-set_other rows row k n 0 ne in
-    let count : get_or new row 0 ≡ n = get_or-set_same rows row n 0 (omega (arith, h.rest.room)) in
-    let same : take n list ≡ take n (drop (row + 1) new) =
-    row_list n list new row le (omega arith) (λ k l. let ne : (row + 1) + k ≢ row = λ z. omega arith in h.done k (omega arith) ∙ sym (other ((row + 1) + k) ne)) in
-    let all : length (take n list) ≡ n = length-take-le n list le in
-    record {
-      rest = record {
-        room = many;
-        same = λ k o.
-            let out : Outside row (row + (n + 1)) k = rw all at o in
-            let ne : k ≢ row = λ z. ⊎_elim (λ (q : k < row). omega arith) (λ (q : row + (n + 1) ≤ k). omega arith) out in
-            other k ne ∙ h.rest.same k out;
-      };
-      is = ap (λ (m : ℕ). take m (drop (row + 1) new)) count ∙ sym same;
-      count = count ∙ sym all;
-    }
 
 -- the row of a local ends before that of a newer one begins
 pub row_before : (cur width i n : ℕ) → i < n → row_of cur width i + width < row_of cur width n
@@ -166,120 +103,91 @@ loads rows width at k h le = (
   λ l. omega (arith, (h.row l).most),
 )
 
--- a state with a row, read
-pub made_row : (rows : List ℕ) (row k : ℕ) (p : Places) → Loads rows row k → 8 ≤ k → Roomy p → p.count ≡ get_or rows row 0 → Made (k - 8) p
-made_row rows row k p h l r e =
-    let l9 : 9 ≤ k = nine-up rows (get_or rows row 0) row k h.0 l in
-    let a : k - 8 ≡ 0 → ⊥ = λ z. omega arith in
-    let b : p.count ≡ 0 → ⊥ = λ z. omega (arith, (h.0.row l9).few) in
-    record { known = omega (arith, h.0.kind); roomy = r; given = ne_eqb (k - 8) 0 a ∙ sym (ne_eqb p.count 0 b) }
+-- a row has as many places as it says
+pub row-length : (rows : List ℕ) (width at : ℕ) → Row rows width at → length (row_at rows at) ≡ get_or rows at 0
+row-length rows width at h = length-take-le (get_or rows at 0) (drop (at + 1) rows) (rw (length-drop (at + 1) rows) (omega (arith, h.room, h.most)))
 
-one-take : (list : List ℕ) (n : ℕ) → n ≡ 1 → length list ≡ 8 → take n list ≡ get_or list 0 0 ∷ []
-one-take list n e h = rw e (first list h)
-  where
-    first : (xs : List ℕ) → length xs ≡ 8 → take 1 xs ≡ get_or xs 0 0 ∷ []
-    first [] q = absurd (omega arith)
-    first (x ∷ xs) q = refl
+single : (xs : List ℕ) → length xs ≡ 1 → xs ≡ get_or xs 0 0 ∷ []
+single [] h = absurd (omega arith)
+single (x ∷ []) h = refl
+single (x ∷ (y ∷ ys)) h = absurd (omega arith)
 
-pub joins-from : (k : Bool) (x y : Entry) (rows : List ℕ) (row more : ℕ) (a b : State) (r : NextState) → state_of a ≡ said_at rows row x → state_of b ≡ said_at rows more y
+pub ok-same : {A E : Type 0} {a b : A} → ◌≡◌ {A = Result A E} (Ok a) (Ok b) → a ≡ b
+ok-same e = cc
+
+err-same : {A E : Type 0} {a b : E} → ◌≡◌ {A = Result A E} (Err a) (Err b) → a ≡ b
+err-same e = cc
+
+-- an error of one answer, as that of another
+pub err-as : {A B E : Type 0} {a b : E} → ◌≡◌ {A = Result A E} (Err a) (Err b) → ◌≡◌ {A = Result B E} (Err a) (Err b)
+err-as e = ap Err (err-same e)
+
+pub joins-from : (k : Bool) (x y : Entry) (rows : List ℕ) (row more : ℕ) (a b : State) (r : Option State) → state_of a ≡ said_at rows row x → state_of b ≡ said_at rows more y
     → Joins r (join_state k (state_of a) (state_of b)) → Joins r (join_of k x y rows row more)
 joins-from k x y rows row more a b r ea eb h =
     subst (λ (s : Status). Joins r (join_state k s (said_at rows more y))) ea (subst (λ (s : Status). Joins r (join_state k (state_of a) s)) eb h)
 
-module _ (keeps : Bool) (width : ℕ) (x y : Entry) (rows : List ℕ) (row more : ℕ) (r : NextState) (j : Joins r (join_of keeps x y rows row more)) (le : width ≤ 8) where
+module _ (keeps : Bool) (width : ℕ) (x y : Entry) (rows : List ℕ) (row more : ℕ) where
   abbrev J : Status
   J = join_of keeps x y rows row more
 
-  crowds : over width J ≡ true → JoinsAt keeps width x y rows row more (record { kind = 255; first = 0 }) rows
-  crowds e = record {
-    rest = else-none _ _ rows;
-    is = λ l. absurd (omega arith);
-    crowd = λ q. e;
-    short = λ q. absurd (omega arith);
-    three = inr (inl refl);
+  abbrev Is : Result Entry Stop → List ℕ → Type 0
+  Is = JoinsAt keeps width x y rows row more
+
+  joins-ok : (z : Entry) (new : List ℕ) → Else row (row + (width + 1)) rows new → said_at new row z ≡ J → Known new width row z.kind → over width J ≡ false → Is (Ok z) new
+  joins-ok z new rest said known calm = record {
+    rest = rest;
+    is = λ w e. subst (λ (v : Entry). (said_at new row v ≡ J) × Known new width row v.kind × (over width J ≡ false)) (ok-same e) (said, known, calm);
+    crowd = λ e. cc;
+    short = λ e. cc;
+    two = λ s e. cc;
   }
 
-  pub joins-crowd : r.ok ≡ false → JoinsAt keeps width x y rows row more (record { kind = 255; first = 0 }) rows
-  joins-crowd off =
-      let more8 : ltb 8 (length (places_of J)) ≡ true = not-not (ltb 8 (length (places_of J))) ∙ ap not (sym j.ok ∙ off) in
-      crowds (lt-ltb width (length (places_of J)) (omega (arith, ltb-true 8 (length (places_of J)) more8)))
-
-  module _ (on : r.ok ≡ true) where
-    abbrev made : Made r.state.kind r.state.places
-    made = (j.is on).1
-
-    all : length (listed r.state.places) ≡ r.state.places.count
-    all = length-take-le r.state.places.count r.state.places.list (omega (arith, made.roomy.most, made.roomy.room))
+  module _ (s : State) (j : Joins (Some s) J) (room : length s.places.list ≡ 8) where
+    all : length (listed s.places) ≡ s.places.count
+    all = length-take-le s.places.count s.places.list (omega (arith, s.places.few))
 
     -- the places of the joined state are those of the result
-    places-of : (b : Bool) → eqb r.state.kind 0 ≡ b → length (places_of (said r.state.kind (listed r.state.places))) ≡ r.state.places.count
-    places-of true e = let z : r.state.places.count ≡ 0 = eqb-true r.state.places.count 0 (sym made.given ∙ e) in rw e (sym z)
-    places-of false e = rw e all
+    places-of : (b : Bool) → eqb s.kind 0 ≡ b → length (places_of (said s.kind (listed s.places))) ≡ length (listed s.places)
+    places-of true e = let z : s.places.count ≡ 0 = eqb-true s.places.count 0 (sym s.given ∙ e) in rw e (sym z ∙ sym all)
+    places-of false e = rw e
 
-    count_of : length (places_of J) ≡ r.state.places.count
-    count_of = ap (λ (a : Status). length (places_of a)) (sym (j.is on).0) ∙ places-of (eqb r.state.kind 0) refl
+    count_of : length (places_of J) ≡ length (listed s.places)
+    count_of = ap (λ (a : Status). length (places_of a)) (sym (j.is s refl)) ∙ places-of (eqb s.kind 0) refl
 
-    pub joins-over : width < r.state.places.count → JoinsAt keeps width x y rows row more (record { kind = 255; first = 0 }) rows
-    joins-over l = crowds (lt-ltb width (length (places_of J)) (omega (arith, count_of)))
-
-    module _ (fits : r.state.places.count ≤ width) where
+    module _ (fits : length (listed s.places) ≤ width) where
       calm : over width J ≡ false
       calm = le-ltb width (length (places_of J)) (omega (arith, count_of))
 
-      one-said : r.state.places.count < 2 → (b : Bool) → eqb r.state.kind 0 ≡ b
-          → said r.state.kind (get_or r.state.places.list 0 0 ∷ []) ≡ said r.state.kind (listed r.state.places)
-      one-said l true e = rw e
-      one-said l false e =
-          let no0 : r.state.places.count ≡ 0 → ⊥ = eqb-false r.state.places.count 0 (sym made.given ∙ e) in
-          let one : r.state.places.count ≡ 1 = counts r.state.places.count l no0 in
-          ap (said r.state.kind) (sym (one-take r.state.places.list r.state.places.count one made.roomy.room))
+      pub joins-alive : length (listed s.places) ≡ 0 → Is (Ok (record { kind = 0; first = 0 })) rows
+      joins-alive e =
+          let n : s.places.count ≡ 0 = omega (arith, all) in
+          let k : s.kind ≡ 0 = eqb-true s.kind 0 (s.given ∙ eq-eqb s.places.count 0 n) in
+          joins-ok (record { kind = 0; first = 0 }) rows (else-none _ _ rows)
+          (said-one rows row 0 0 (omega arith) ∙ ap (λ (b : Bool). cond b alive (gone (ltb 3 s.kind) (kind_of s.kind) (listed s.places))) (sym (eq-eqb s.kind 0 k)) ∙ j.is s refl)
+          (known-one rows width row 0 (omega arith)) calm
+
+      pub joins-one : length (listed s.places) ≡ 1 → (f : ℕ) → f ≡ get_or (listed s.places) 0 0 → Is (Ok (record { kind = s.kind; first = f })) rows
+      joins-one e f ef =
+          joins-ok (record { kind = s.kind; first = f }) rows (else-none _ _ rows)
+          (said-one rows row s.kind f s.known ∙ ap (said s.kind) (ap (λ (n : ℕ). n ∷ []) ef ∙ sym (single (listed s.places) e)) ∙ j.is s refl)
+          (known-one rows width row s.kind s.known) calm
+
+      pub joins-many : (f : ℕ) (new : List ℕ) → 2 ≤ length (listed s.places) → row + width < length rows → Wrote rows row (listed s.places) new
+          → Is (Ok (record { kind = s.kind + 8; first = f })) new
+      joins-many f new l lr w =
+          let some : s.places.count ≢ 0 = λ z. omega (arith, all) in
+          let pos : s.kind ≢ 0 = eqb-false s.kind 0 (s.given ∙ ne_eqb s.places.count 0 some) in
+          let back : s.kind + 8 - 8 ≡ s.kind = omega arith in
+          joins-ok (record { kind = s.kind + 8; first = f }) new
+          (else-wider row (row + (length (listed s.places) + 1)) (row + (width + 1)) rows new (omega arith) w.rest)
+          (said_row new row (s.kind + 8) f (omega arith) ∙ ap (λ (k : ℕ). said k (row_at new row)) back ∙ ap (said s.kind) w.is ∙ j.is s refl)
+          (record {
+            kind = omega (arith, s.known);
+            single = λ z. absurd (nine s.kind pos z);
+            row = λ z. record { few = omega (arith, w.count); most = omega (arith, w.count); room = omega (arith, w.rest.room) };
+          })
+          calm
         where
-          counts : (n : ℕ) → n < 2 → (n ≡ 0 → ⊥) → n ≡ 1
-          counts n a b = omega arith
-
-      pub joins-one : r.state.places.count < 2 → JoinsAt keeps width x y rows row more (record { kind = r.state.kind; first = get_or r.state.places.list 0 0 }) rows
-      joins-one l = record {
-        rest = else-none _ _ rows;
-        is = λ q. (
-          said-one rows row r.state.kind (get_or r.state.places.list 0 0) made.known ∙ one-said l (eqb r.state.kind 0) refl ∙ (j.is on).0,
-          known-one rows width row r.state.kind made.known,
-          calm,
-        );
-        crowd = λ e. absurd (omega (arith, made.known));
-        short = λ e. absurd (omega (arith, made.known));
-        three = inl (omega (arith, made.known));
-      }
-
-      pub joins-short : length rows ≤ row + width → JoinsAt keeps width x y rows row more (record { kind = 254; first = 0 }) rows
-      joins-short l = record {
-        rest = else-none _ _ rows;
-        is = λ q. absurd (omega arith);
-        crowd = λ e. absurd (omega arith);
-        short = λ e. omega arith;
-        three = inr (inr refl);
-      }
-
-      pub joins-many : (f : ℕ) (new : List ℕ) → 2 ≤ r.state.places.count → row + width < length rows → Wrote rows row (listed r.state.places) new
-          → JoinsAt keeps width x y rows row more (record { kind = r.state.kind + 8; first = f }) new
-      joins-many f new l room w =
-          let gone : r.state.places.count ≡ 0 → ⊥ = λ z. omega arith in
-          let pos : r.state.kind ≡ 0 → ⊥ = eqb-false r.state.kind 0 (made.given ∙ ne_eqb r.state.places.count 0 gone) in
-          let back : r.state.kind + 8 - 8 ≡ r.state.kind = omega arith in
-          record {
-            rest = else-wider row (row + (length (listed r.state.places) + 1)) (row + (width + 1)) rows new (omega (arith, all)) w.rest;
-            is = λ q. (
-              said_row new row (r.state.kind + 8) f (omega arith) ∙ ap (λ (k : ℕ). said k (row_at new row)) back ∙ ap (said r.state.kind) w.is ∙ (j.is on).0,
-              record {
-                kind = omega (arith, made.known);
-                single = λ z. absurd (nine r.state.kind pos z);
-                row = λ z. record { few = omega (arith, w.count, all); most = omega (arith, w.count, all); room = omega (arith, w.rest.room) };
-              },
-              calm,
-            );
-            crowd = λ e. absurd (omega (arith, made.known));
-            short = λ e. absurd (omega (arith, made.known));
-            three = inl (omega (arith, made.known));
-          }
-        where
-          nine : (k : ℕ) → (k ≡ 0 → ⊥) → k + 8 < 9 → ⊥
+          nine : (k : ℕ) → k ≢ 0 → k + 8 < 9 → ⊥
           nine k a b = omega arith

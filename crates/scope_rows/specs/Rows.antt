@@ -1,5 +1,6 @@
 -- What the rows of joined states hold: reading and writing one, the join of two branches, and copies.
-use Rattle.std.specs.Prelude.{ℕ, ◌+◌, ◌≤◌, ◌<◌, ◌^◌, ◌≡◌, Bool, true, false, List, ◌⊎◌, ltb, length, get_or}
+use Rattle.std.specs.Prelude.{ℕ, ◌+◌, ◌≤◌, ◌<◌, ◌^◌, ◌≡◌, Bool, true, false, List, ◌⊎◌, ltb, length, get_or, Result, Ok, Err}
+use Rattle.image_fields.specs.declared.Fault.TheVariants.{Places}
 use Rattle.tables.specs.Limits.{Limits}
 use Rattle.rules.specs.State.{State as Status, join_state}
 use Rattle.rules.specs.Rules.{joining, joins}
@@ -7,6 +8,8 @@ use Rattle.rules.specs.Walk.{places_of, crowded}
 use Rattle.scope_stack.specs.declared.Locals.{Locals}
 use Rattle.scope_stack.specs.declared.States.{States}
 use Rattle.scope_stack.specs.declared.Entry.{Entry}
+use Rattle.scope_rows.specs.declared.Stop.{Stop}
+use Rattle.scope_rows.specs.declared.Stop.TheVariants.{Fault, Rows}
 use Rattle.scope_stack.specs.View.{row_of, row_at, said_at, view, Known, Held, Rowed}
 
 -- not in the rows from `at` up to `end`
@@ -42,13 +45,13 @@ pub record Alike (x y : Entry) : Type 0 where
   pub single : x.kind < 8
   pub first : (x.kind ≡ 0) ⊎ (y.first ≡ x.first)
 
--- the joined state, with its row at the first's; 255: it has too many places; 254: the rows end before its row does
-pub record JoinsAt (k : Bool) (width : ℕ) (x y : Entry) (rows : List ℕ) (row more : ℕ) (r : Entry) (new : List ℕ) : Type 0 where
+-- the joined state, with its row at the first's; or it has too many places, or the rows end before its row does
+pub record JoinsAt (k : Bool) (width : ℕ) (x y : Entry) (rows : List ℕ) (row more : ℕ) (r : Result Entry Stop) (new : List ℕ) : Type 0 where
   pub rest : Else row (row + (width + 1)) rows new
-  pub is : r.kind < 15 → (said_at new row r ≡ join_of k x y rows row more) × Known new width row r.kind × (over width (join_of k x y rows row more) ≡ false)
-  pub crowd : r.kind ≡ 255 → over width (join_of k x y rows row more) ≡ true
-  pub short : r.kind ≡ 254 → length rows < row + (width + 1)
-  pub three : (r.kind < 15) ⊎ ((r.kind ≡ 255) ⊎ (r.kind ≡ 254))
+  pub is : (z : Entry) → r ≡ Ok z → (said_at new row z ≡ join_of k x y rows row more) × Known new width row z.kind × (over width (join_of k x y rows row more) ≡ false)
+  pub crowd : r ≡ Err (Fault Places) → over width (join_of k x y rows row more) ≡ true
+  pub short : r ≡ Err Rows → length rows < row + (width + 1)
+  pub two : (e : Stop) → r ≡ Err e → (e ≡ Fault Places) ⊎ (e ≡ Rows)
 
 -- two branches of n locals, with their rows at a and b, which lie apart
 pub record Branches (n width : ℕ) (t u : States) (rows : List ℕ) (a b : ℕ) : Type 0 where
@@ -62,16 +65,16 @@ pub record Branches (n width : ℕ) (t u : States) (rows : List ℕ) (a b : ℕ)
   pub apart : (row_of a width n ≤ b) ⊎ (row_of b width n ≤ a)
   pub fits : (row_of a width n < 2 ^ 64) × (row_of b width n < 2 ^ 64)
 
--- told 0: the states after both branches, with their rows at a; 255: a state has too many places; 254: the rows end too early
-pub record JoinsAll (k : Bool) (n width : ℕ) (t u : States) (rows : List ℕ) (a b : ℕ) (r : States) (new : List ℕ) (told : ℕ) : Type 0 where
+-- the states after both branches, with their rows at a; or a state has too many places, or the rows end too early
+pub record JoinsAll (k : Bool) (n width : ℕ) (t u : States) (rows : List ℕ) (a b : ℕ) (r : Result States Stop) (new : List ℕ) : Type 0 where
   pub rest : Else a (row_of a width n) rows new
-  pub held : told ≡ 0 → Held r
-  pub rowed : told ≡ 0 → Rowed n r new a width
-  pub is : told ≡ 0 → (l : Locals) → l.count ≡ n → view l r new a width ≡ joins (joining k) (view l t rows a width) (view l u rows b width)
-  pub calm : told ≡ 0 → (L : Limits) → L.places ≡ width → (l : Locals) → l.count ≡ n → crowded L (joins (joining k) (view l t rows a width) (view l u rows b width)) ≡ false
-  pub crowd : told ≡ 255 → (L : Limits) → L.places ≡ width → (l : Locals) → l.count ≡ n → crowded L (joins (joining k) (view l t rows a width) (view l u rows b width)) ≡ true
-  pub short : told ≡ 254 → length rows < row_of a width n
-  pub three : (told ≡ 0) ⊎ ((told ≡ 255) ⊎ (told ≡ 254))
+  pub held : (s : States) → r ≡ Ok s → Held s
+  pub rowed : (s : States) → r ≡ Ok s → Rowed n s new a width
+  pub is : (s : States) → r ≡ Ok s → (l : Locals) → l.count ≡ n → view l s new a width ≡ joins (joining k) (view l t rows a width) (view l u rows b width)
+  pub calm : (s : States) → r ≡ Ok s → (L : Limits) → L.places ≡ width → (l : Locals) → l.count ≡ n → crowded L (joins (joining k) (view l t rows a width) (view l u rows b width)) ≡ false
+  pub crowd : r ≡ Err (Fault Places) → (L : Limits) → L.places ≡ width → (l : Locals) → l.count ≡ n → crowded L (joins (joining k) (view l t rows a width) (view l u rows b width)) ≡ true
+  pub short : r ≡ Err Rows → length rows < row_of a width n
+  pub two : (e : Stop) → r ≡ Err e → (e ≡ Fault Places) ⊎ (e ≡ Rows)
 
 -- states whose rows are to be copied from a place to another, which lie apart
 pub record Copied (n width : ℕ) (kinds rows : List ℕ) (src dst : ℕ) : Type 0 where

@@ -2,63 +2,62 @@
 #![tactic(auto)]
 
 ghost use Rattle.std.specs.Prelude.{◌≡◌, false, ◌+◌, ◌^◌, ◌≤◌, ◌<◌, length, get_or};
-ghost use Rattle.scope_state.specs.View.{listed, state_of, Roomy, Made};
-ghost use Rattle.scope_stack.specs.View.{row_at, said_at, Known};
+ghost use Rattle.scope_state.specs.View.{listed, state_of};
+ghost use Rattle.scope_stack.specs.View.{entry_at, row_at, said_at, Known};
 ghost use Rattle.scope_rows.specs.Rows.{Wrote, Loads, Alike, JoinsAt, Branches, JoinsAll, Copied, Copies};
 
-use image_fields::wide;
+use image_fields::Fault;
 use scope_stack::{Entry, States};
 use scope_state::{Kinds, Places, State};
 
-fn read_row(rows: &[u32], row: usize) -> Places
-    requires { (get_or rows.now row 0 ≤ 8) × (row + get_or rows.now row 0 < length rows.now) }
-    ensures { (listed result ≡ row_at rows.now row) × Roomy result × (result.count ≡ get_or rows.now row 0) }
-{
-    let n = rows[row] as usize;
-    let start = row + 1;
-    let mut list = [0; 8];
-    let mut j = 0;
-    while j < n {
-        list[j] = rows[start + j];
-        j += 1;
-    }
-    let count = n as u8;
-    Places {
-        count: count,
-        list: list,
-    }
+// Why a walk stops: a fault, or memory of our own does not reach, the rows that are lent above all.
+#[derive(Clone, Copy, Debug, PartialEq, Eq)]
+pub enum Stop {
+    Fault(Fault),
+    Rows,
 }
 
-fn write_row(rows: &mut [u32], row: usize, p: Places)
-    requires { Roomy p × (row + p.count < length rows.old) }
-    ensures { Wrote rows.old row (listed p) rows.new }
+fn read_row(rows: &[u32], row: usize) -> Places
+    requires { (get_or rows.now row 0 ≤ 8) × (row + get_or rows.now row 0 < length rows.now) }
+    ensures { listed result ≡ row_at rows.now row }
 {
-    let n = wide(p.count);
     let start = row + 1;
-    let mut j = 0;
-    while j < n {
-        rows[start + j] = p.list[j];
-        j += 1;
-    }
-    rows[row] = p.count as u32;
+    let end = start + rows[row] as usize;
+    Places::of(&rows[start..end])
+}
+
+fn write_row(rows: &mut [u32], row: usize, places: &[u32])
+    requires { (length places.now < 256) × (row + length places.now < length rows.old) }
+    ensures { Wrote rows.old row places.now rows.new }
+{
+    let start = row + 1;
+    let end = start + places.len();
+    rows[start..end].copy_from_slice(places);
+    rows[row] = places.len() as u32;
 }
 
 // A state as the crate scope_state has it.
 fn load(rows: &[u32], e: Entry, row: usize) -> State
     requires { Loads rows.now row e.kind }
-    ensures { (state_of result ≡ said_at rows.now row e) × Made result.kind result.places }
+    ensures { state_of result ≡ said_at rows.now row e }
 {
-    let k = e.kind;
-    if k == 0 {
-        return State::alive();
+    match e.kind {
+        0 => State::alive(),
+        1..=7 => State::at(e.kind, e.first),
+        _ => State {
+            kind: e.kind - 8,
+            places: read_row(rows, row),
+        },
     }
-    if k < 8 {
-        return State::at(k, e.first);
-    }
-    let p = read_row(rows, row);
-    State {
-        kind: k - 8,
-        places: p,
+}
+
+fn entry_at(t: &States, i: usize) -> Entry
+    requires { i < 64 }
+    ensures { result ≡ entry_at t.now i }
+{
+    Entry {
+        kind: t.kinds[i],
+        first: t.firsts[i],
     }
 }
 
@@ -66,17 +65,7 @@ fn load(rows: &[u32], e: Entry, row: usize) -> State
 fn differ(x: Entry, y: Entry) -> bool
     ensures { result ≡ false → Alike x y }
 {
-    let k = x.kind;
-    if k != y.kind {
-        return true;
-    }
-    if k == 0 {
-        return false;
-    }
-    if 8 <= k {
-        return true;
-    }
-    x.first != y.first
+    x.kind != y.kind || 8 <= x.kind || (x.kind != 0 && x.first != y.first)
 }
 
 // What two branches say of one local, with their rows; a joined row goes to the first's.
@@ -88,51 +77,40 @@ fn join_at(
     more: usize,
     width: usize,
     keeps: bool,
-) -> Entry
+) -> Result<Entry, Stop>
     requires { Known rows.old width row x.kind × Known rows.old width more y.kind × (width ≤ 8) × (row + width < 2 ^ 64) }
     ensures { JoinsAt «keeps» width x y rows.old row more result rows.new }
 {
     let a = load(&*rows, x, row);
     let b = load(&*rows, y, more);
-    let r = a.join(b, keeps);
-    if !r.ok {
-        return Entry {
-            kind: 255,
-            first: 0,
-        };
+    let Some(s) = a.join(b, keeps) else {
+        return Err(Stop::Fault(Fault::Places));
+    };
+    let places = s.places.as_slice();
+    if width < places.len() {
+        return Err(Stop::Fault(Fault::Places));
     }
-    let s = r.state;
-    let p = s.places;
-    let many = wide(p.count);
-    if width < many {
-        return Entry {
-            kind: 255,
-            first: 0,
-        };
-    }
-    let first = p.list[0];
-    if many < 2 {
-        return Entry {
+    match places {
+        [] => Ok(Entry { kind: 0, first: 0 }),
+        [first] => Ok(Entry {
             kind: s.kind,
-            first: first,
-        };
-    }
-    if rows.len() <= row + width {
-        return Entry {
-            kind: 254,
-            first: 0,
-        };
-    }
-    write_row(rows, row, p);
-    let kind = s.kind + 8;
-    Entry {
-        kind: kind,
-        first: first,
+            first: *first,
+        }),
+        [first, ..] => {
+            if rows.len() <= row + width {
+                return Err(Stop::Rows);
+            }
+            write_row(rows, row, places);
+            Ok(Entry {
+                kind: s.kind + 8,
+                first: *first,
+            })
+        }
     }
 }
 
-// The states after two branches of n locals, then's with their rows at a, the other's at b. Told: 0, or 255 where a state has
-// too many places, or 254 where the rows end before a row that is needed.
+// The states after two branches of n locals, then's with their rows at a, the other's at b; or a state has too many places, or the rows
+// end before one that is needed.
 pub fn join(
     mut then: States,
     other: States,
@@ -142,34 +120,22 @@ pub fn join(
     b: usize,
     width: usize,
     keeps: bool,
-    told: &mut u8,
-) -> States
+) -> Result<States, Stop>
     requires { Branches n width then other rows.old a b }
-    ensures { JoinsAll «keeps» n width then other rows.old a b result rows.new told.new }
+    ensures { JoinsAll «keeps» n width then other rows.old a b result rows.new }
 {
-    *told = 0;
-    let mut i = 0;
-    while i < n {
-        let k = then.kinds[i];
-        let f = then.firsts[i];
-        let x = Entry { kind: k, first: f };
-        let l = other.kinds[i];
-        let g = other.firsts[i];
-        let y = Entry { kind: l, first: g };
+    for i in 0..n {
+        let x = entry_at(&then, i);
+        let y = entry_at(&other, i);
         if differ(x, y) {
             let row = i * (width + 1);
-            let z = join_at(x, y, rows, a + row, b + row, width, keeps);
-            if 15 <= z.kind {
-                *told = z.kind;
-                return then;
-            }
+            let z = join_at(x, y, rows, a + row, b + row, width, keeps)?;
             then.kinds[i] = z.kind;
             then.firsts[i] = z.first;
             then.alive = scope_stack::with_bit(then.alive, i, z.kind == 0);
         }
-        i += 1;
     }
-    then
+    Ok(then)
 }
 
 // The rows of n locals, from a place to another; or false, where the rows end before one that is needed.
@@ -184,8 +150,7 @@ pub fn copy_rows(
     requires { Copied n width kinds.now rows.old src dst }
     ensures { Copies n width kinds.now rows.old src dst result rows.new }
 {
-    let mut i = 0;
-    while i < n {
+    for i in 0..n {
         if 8 <= kinds[i] {
             let row = i * (width + 1);
             let to = dst + row;
@@ -193,9 +158,8 @@ pub fn copy_rows(
                 return false;
             }
             let p = read_row(&*rows, src + row);
-            write_row(rows, to, p);
+            write_row(rows, to, p.as_slice());
         }
-        i += 1;
     }
     true
 }

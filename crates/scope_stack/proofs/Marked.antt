@@ -1,9 +1,10 @@
 -- Laws of marks: a frame that gives its locals of a name a state.
 -- Assumes nothing.
-use Rattle.std.proofs.Common.{◌≡◌, ℕ, ◌+◌, ◌-◌, ◌<◌, ◌≤◌, Bool, true, false, cond, not, ◌&&◌, eqb, ◌≢◌, List, [], ◌∷◌, get_or, sym, refl, ap, ◌∙◌, subst, ⊎_elim, arith, le-ltb, lt-ltb, ne_eqb}
+use Rattle.std.proofs.Common.{◌≡◌, ℕ, zero, suc, ◌+◌, ◌-◌, ◌<◌, ◌≤◌, Bool, true, false, cond, not, ◌&&◌, eqb, ◌≢◌, List, [], ◌∷◌, get_or, sym, refl, ap, ◌∙◌, subst, ⊎_elim, arith, le-ltb, lt-ltb, ne_eqb}
 use Rattle.image_fields.proofs.Tests.{less}
 use Rattle.rules.specs.State.{Kind, State as Status, alive, gone, is_alive}
-use Rattle.rules.specs.Stack.{in_frame, mark}
+use Rattle.rules.specs.Stack.{local, in_frame, mark}
+use Rattle.scope_state.specs.Locals.{static_in}
 use Rattle.scope_state.specs.Kinds.{said, put}
 use Rattle.scope_stack.specs.declared.Locals.{Locals}
 use Rattle.scope_stack.specs.declared.States.{States}
@@ -128,9 +129,20 @@ module _ (name d : ℕ) (o : Bool) (kind place : ℕ) where
         ∙ ap (λ (x : ℕ). in_frame name x f (view l old rows cur width)) (frame s)
         ∙ sym (mark-frame name f (view l old rows cur width))
 
-  pub marks : (names depths : List ℕ) (n : ℕ) (t old : States) → kind < 7 → Marking names depths n t old
-      → (l : Locals) → l.names ≡ names → l.depths ≡ depths → l.count ≡ n → ((g : ℕ → Status) → d ≡ depth_of name (stacked l.count (static_at l) g))
+  pub marks : (l : Locals) (t old : States) → kind < 7 → Marking l.names l.depths l.count t old → ((g : ℕ → Status) → d ≡ depth_of name (stacked l.count (static_at l) g))
       → Marks l name (put o (said kind (place ∷ []))) old t
-  marks names depths n t old small h l e f c frame =
-      let g : Marking l.names l.depths l.count t old = rw (e, f, c) h in
-      record { is = marks-is l t old small g frame; rowed = marks-rowed l t old small g }
+  marks l t old small h frame = record { is = marks-is l t old small h frame; rowed = marks-rowed l t old small h }
+
+-- what a mark does does not hang on the types and births of the locals
+depth_same : (name n : ℕ) (l k : Locals) → k.names ≡ l.names → k.depths ≡ l.depths → (g : ℕ → Status) → depth_of name (stacked n (static_at l) g) ≡ depth_of name (stacked n (static_at k) g)
+unfolding stacked
+depth_same name zero l k en ed g = refl
+depth_same name (suc n) l k en ed g =
+    ap (λ (x : List ℕ). depth_of name (local (static_in x l.types l.depths l.births n) (g n) ∷ stacked n (static_at l) g)) (sym en)
+    ∙ ap (λ (x : List ℕ). depth_of name (local (static_in k.names l.types x l.births n) (g n) ∷ stacked n (static_at l) g)) (sym ed)
+    ∙ ap (λ (x : ℕ). cond (eqb (get_or k.names n 0) name) (get_or k.depths n 0) x) (depth_same name n l k en ed g)
+
+module _ (name d : ℕ) (o : Bool) (kind place : ℕ) where
+  pub marks-alike : (l k : Locals) (t old : States) → k.names ≡ l.names → k.depths ≡ l.depths → k.count ≡ l.count → kind < 7 → Marking name d o kind place l.names l.depths l.count t old
+      → ((g : ℕ → Status) → d ≡ depth_of name (stacked l.count (static_at l) g)) → Marks k name (put o (said kind (place ∷ []))) old t
+  marks-alike l k t old en ed ec small h frame = marks name d o kind place k t old small (rw (en, ed, ec) h) (λ g. rw ec (frame g ∙ depth_same name l.count l k en ed g))

@@ -1,18 +1,19 @@
--- The depth of the newest local of a name, in a stack from what its locals are and what is said of them.
+-- The depth of the newest local of a name is that of the local that a lookup finds.
 -- Assumes nothing.
-use Rattle.std.proofs.Common.{◌≡◌, ℕ, ◌-◌, ◌<◌, ◌≤◌, eq-eqb, ne_eqb}
+use Rattle.std.proofs.Common.{◌≡◌, ℕ, Bool, true, false, cond, eqb, [], ◌∷◌, refl}
+use Rattle.std.proofs.Math.Option.{Option, none, some}
 use Rattle.rules.specs.State.{State as Status}
-use Rattle.rules.specs.Stack.{Static}
-use Rattle.scope_state.specs.Locals.{stacked}
-use Rattle.scope_state.proofs.Stacked.{stacked-pos, stacked-none}
+use Rattle.rules.specs.Stack.{Static, Local, local, lookup, Stack as Scope}
 use Rattle.scope_stack.specs.View.{depth_of}
 
-module _ (f : ℕ → Static) (g : ℕ → Status) (n i : ℕ) where
-  pub depth-hit : 0 < i → (f (i - 1)).name ≡ n → depth_of n (stacked i f g) ≡ (f (i - 1)).depth
-  depth-hit h e = rw (stacked-pos f g i h, eq-eqb _ _ e)
+abbrev pub depth_in : Option (Local Status) → ℕ
+depth_in none = 0
+depth_in (some (local s a)) = s.depth
 
-  pub depth-miss : 0 < i → ((f (i - 1)).name ≡ n → ⊥) → depth_of n (stacked i f g) ≡ depth_of n (stacked (i - 1) f g)
-  depth-miss h e = rw (stacked-pos f g i h, ne_eqb _ _ e)
+depth-step : (b : Bool) (s : Static) (a : Status) (r : ℕ) (o : Option (Local Status)) → r ≡ depth_in o → cond b s.depth r ≡ depth_in (cond b (some (local s a)) o)
+depth-step true s a r o e = refl
+depth-step false s a r o e = e
 
-  pub depth-end : i ≤ 0 → depth_of n (stacked i f g) ≡ 0
-  depth-end h = rw (stacked-none f g i h)
+pub depth-lookup : (n : ℕ) (σ : Scope Status) → depth_of n σ ≡ depth_in (lookup n σ)
+depth-lookup n [] = refl
+depth-lookup n (local s a ∷ σ) = depth-step (eqb s.name n) s a (depth_of n σ) (lookup n σ) (depth-lookup n σ)

@@ -14,8 +14,8 @@ ghost use Rattle.scope_stack.specs.View.{stacked, static_at, depth_of, Kept, Hel
 use scope_state::{Births, Depths, Firsts, Kinds, Names, Types};
 
 // The locals registered, oldest first: the first count of each array. A birth is the span of the statement that registered the local, 0 for
-// a parameter or `this`. A bit of dtors for each whose type has a destructor.
-#[derive(Clone, Copy)]
+// a parameter or `this`. A bit of dtors for each whose type has a destructor. Arrays, and by value: document 01, "Choosing the form by place".
+#[derive(Clone, Copy, PartialEq, Eq)]
 pub struct Locals {
     pub count: usize,
     pub names: Names,
@@ -27,7 +27,7 @@ pub struct Locals {
 
 // Their states: kind 0 Alive, 1 to 6 the error that a use reports, with one place, and 8 more where a row has the places. A bit of alive
 // for each that is Alive; what is past the locals is Alive.
-#[derive(Clone, Copy)]
+#[derive(Clone, Copy, PartialEq, Eq)]
 pub struct States {
     pub kinds: Kinds,
     pub firsts: Firsts,
@@ -42,35 +42,21 @@ pub struct Entry {
 }
 
 // The depth of the newest local of a name, or 0.
-fn frame_of<'a>(names: &'a Names, depths: &'a Depths, count: usize, name: u16) -> u8
-    requires { count ≤ 64 }
-    ensures { (l : Locals) (g : ℕ → Status) → l.names ≡ names.now → l.depths ≡ depths.now → l.count ≡ count → result ≡ depth_of name (stacked l.count (static_at l) g) }
+fn frame_of(l: &Locals, name: u16) -> u8
+    requires { l.now.count ≤ 64 }
+    ensures { (g : ℕ → Status) → result ≡ depth_of name (stacked l.now.count (static_at l.now) g) }
 {
-    let mut i = count;
-    while 0 < i {
-        let j = i - 1;
-        if names[j] == name {
-            return depths[j];
-        }
-        i = j;
+    match scope_state::find_local(&l.names, l.count, name) {
+        Some(i) => l.depths[i],
+        None => 0,
     }
-    0
 }
 
 // Whether a local of the name a, depth d and this kind is marked where the frame of that depth marks a name.
 fn is_marked(a: u16, name: u16, d: u8, depth: u8, only_alive: bool, kind: u8) -> bool
     ensures { result ≡ ((a == name && d == depth) && not (only_alive && not (kind == 0))) }
 {
-    if a != name {
-        return false;
-    }
-    if d != depth {
-        return false;
-    }
-    if only_alive {
-        return kind == 0;
-    }
-    true
+    a == name && d == depth && (!only_alive || kind == 0)
 }
 
 fn bit(i: usize) -> u64
@@ -87,9 +73,10 @@ pub fn with_bit(w: u64, i: usize, on: bool) -> u64
 {
     let b = bit(i);
     if on {
-        return w | b;
+        w | b
+    } else {
+        w & (18446744073709551615 - b)
     }
-    w & (18446744073709551615 - b)
 }
 
 // The highest set bit: the newest local that a word marks.
@@ -178,26 +165,17 @@ impl States {
     }
 
     // The innermost frame that has the name gives its locals of the name a state; where `only_alive`, those that live.
-    pub fn mark<'a>(
-        mut self,
-        names: &'a Names,
-        depths: &'a Depths,
-        n: usize,
-        name: u16,
-        kind: u8,
-        place: u32,
-        only_alive: bool,
-    ) -> States
-        requires { Held self × (n ≤ 64) × (kind < 7) }
-        ensures { Held result × ((l : Locals) → l.names ≡ names.now → l.depths ≡ depths.now → l.count ≡ n → Marks l name (put only_alive (said kind (place ∷ []))) self result) }
+    pub fn mark(mut self, l: &Locals, name: u16, kind: u8, place: u32, only_alive: bool) -> States
+        requires { Held self × (l.now.count ≤ 64) × (kind < 7) }
+        ensures { Held result × Marks l.now name (put only_alive (said kind (place ∷ []))) self result
+            × ((k : Locals) → k.names ≡ l.now.names → k.depths ≡ l.now.depths → k.count ≡ l.now.count → Marks k name (put only_alive (said kind (place ∷ []))) self result) }
     {
-        let depth = frame_of(names, depths, n, name);
-        let mut at = 0;
-        while at < n {
+        let depth = frame_of(l, name);
+        for at in 0..l.count {
             if is_marked(
-                names[at],
+                l.names[at],
                 name,
-                depths[at],
+                l.depths[at],
                 depth,
                 only_alive,
                 self.kinds[at],
@@ -206,7 +184,6 @@ impl States {
                 self.firsts[at] = place;
                 self.alive = with_bit(self.alive, at, kind == 0);
             }
-            at += 1;
         }
         self
     }
@@ -216,34 +193,24 @@ impl States {
         requires { Held self × (n ≤ m) × (m ≤ 64) }
         ensures { Leaves n m self result }
     {
-        let mut i = n;
-        while i < m {
+        for i in n..m {
             self.kinds[i] = 0;
             self.firsts[i] = 0;
             self.alive = with_bit(self.alive, i, true);
-            i += 1;
         }
         self
     }
 }
 
 // Whether some local of the name in the frame of a depth is not Alive: then its registration marks it Alive.
-pub fn needs_revival<'a>(
-    names: &'a Names,
-    depths: &'a Depths,
-    alive: u64,
-    name: u16,
-    depth: u8,
-) -> bool
-    ensures { (p : ℕ → Bool) → alive ≡ word_at 0 64 p → result ≡ false → (i : ℕ) → i < 64 → p i ≡ false → Named names.now depths.now name depth i → ⊥ }
+pub fn needs_revival(l: &Locals, alive: u64, name: u16, depth: u8) -> bool
+    ensures { (p : ℕ → Bool) → alive ≡ word_at 0 64 p → result ≡ false → (i : ℕ) → i < 64 → p i ≡ false → Named l.now.names l.now.depths name depth i → ⊥ }
 {
     let mut m = 18446744073709551615 - alive;
     while 0 < m {
         let k = newest(m);
-        if names[k] == name {
-            if depths[k] == depth {
-                return true;
-            }
+        if l.names[k] == name && l.depths[k] == depth {
+            return true;
         }
         m = without(m, k);
     }

@@ -1,68 +1,22 @@
--- Laws of lists of places: the first n of an array, walked from its start.
+-- Laws of lists of places.
 -- Assumes nothing.
-use Prim.Native.Nat.{ℕ, suc, ◌+◌, ◌≤◌, ◌<◌}
+use Prim.Native.Nat.{ℕ, ◌+◌, ◌≤◌, ◌<◌}
 use mathlib.Core.Path.{◌≡◌, refl, sym, ap, ◌∙◌}
 use mathlib.Core.List.{List, [], ◌∷◌, ◌++◌}
-use mathlib.Core.Bool.{Bool, true, false, cond, ◌&&◌}
-use borrow.Author.Tests.{eq-eqb, ne_eqb, ltb-true, le-ltb, lt-ltb}
-use native.Mathlib.Nat.{lt_of_lt_of_le}
+use mathlib.Core.Bool.{Bool, true, false, cond}
+use borrow.Author.Tests.{le-ltb, lt-ltb, ltb-true, not-false}
 use native.Mathlib.Numerals.{add-one}
 use native.Mathlib.Omega.{arith}
-use lib.Dec.{eqb, ltb}
-use lib.ListN.{length, get_or, take, drop, set, length-take, length-append, drop_of_length-le}
-use lib.Seq.{drop-cons, get_or-take, length-take-le, take-suc-set}
+use lib.Dec.{eqb}
+use lib.ListN.{length, get_or, take, drop, set, length-append, length-take}
+use lib.Seq.{drop-cons, take-suc-set}
+use Rattle.std.specs.Prelude.{Option, Some, None, is_some, ◌==◌}
+use Rattle.std.specs.List.{list_any}
+use Rattle.std.specs.Cmp.Lexicographic.{pointwise}
 use Rattle.image_fields.specs.Table.{member}
-use Rattle.image_fields.proofs.Tests.{false-true}
 use Rattle.rules.specs.State.{places_eq, combine}
 use Rattle.scope_state.specs.declared.Places.{Places}
-use Rattle.scope_state.specs.View.{listed, Roomy, Fits}
-
-pub rest-cons : (a : List ℕ) (i n : ℕ) → i < n → n ≤ length a → drop i (take n a) ≡ get_or a i 0 ∷ drop (i + 1) (take n a)
-rest-cons a i n h le =
-    let in-range : i < length (take n a) = rw (length-take-le n a le) h in
-    rw (add-one, drop-cons (take n a) i 0 in-range, get_or-take n a i 0 h)
-
-pub rest_end : (a : List ℕ) (i n : ℕ) → n ≤ i → drop i (take n a) ≡ []
-rest_end a i n h =
-    let short : length (take n a) ≤ i = simp length-take (omega arith) in
-    drop_of_length-le (take n a) short
-
-module _ (p i n : ℕ) (a : List ℕ) where
-  pub has-hit : i < n → n ≤ length a → get_or a i 0 ≡ p → member eqb (drop i (take n a)) p ≡ true
-  unfolding member
-  has-hit h le e = rw (rest-cons a i n h le, eq-eqb _ _ e)
-
-  pub has-miss : i < n → n ≤ length a → (get_or a i 0 ≡ p → ⊥) → member eqb (drop i (take n a)) p ≡ member eqb (drop (i + 1) (take n a)) p
-  unfolding member
-  has-miss h le e = rw (rest-cons a i n h le, ne_eqb _ _ e)
-
-  pub has_end : n ≤ i → member eqb (drop i (take n a)) p ≡ false
-  unfolding member
-  has_end h = rw (rest_end a i n h)
-
-module _ (i n : ℕ) (a b : List ℕ) where
-  pub same-hit : i < n → n ≤ length a → n ≤ length b → get_or a i 0 ≡ get_or b i 0
-      → places_eq (drop i (take n a)) (drop i (take n b)) ≡ places_eq (drop (i + 1) (take n a)) (drop (i + 1) (take n b))
-  same-hit h la lb e = rw (rest-cons a i n h la, rest-cons b i n h lb, eq-eqb _ _ e)
-
-  pub same-miss : i < n → n ≤ length a → n ≤ length b → (get_or a i 0 ≡ get_or b i 0 → ⊥) → places_eq (drop i (take n a)) (drop i (take n b)) ≡ false
-  same-miss h la lb e = rw (rest-cons a i n h la, rest-cons b i n h lb, ne_eqb _ _ e)
-
-  pub same_end : n ≤ i → places_eq (drop i (take n a)) (drop i (take n b)) ≡ true
-  same_end h = rw (rest_end a i n h, rest_end b i n h)
-
-both_false : (b : Bool) → (b && false) ≡ false
-both_false true = refl
-both_false false = refl
-
-same_length : (xs ys : List ℕ) → (length xs ≡ length ys → ⊥) → places_eq xs ys ≡ false
-same_length [] [] h = absurd (h refl)
-same_length [] (y ∷ ys) h = refl
-same_length (x ∷ xs) [] h = refl
-same_length (x ∷ xs) (y ∷ ys) h = rw (same_length xs ys (λ e. h (ap suc e))) (both_false (eqb x y))
-
-pub counts-differ : (n m : ℕ) (a b : List ℕ) → n ≤ length a → m ≤ length b → (n ≡ m → ⊥) → places_eq (take n a) (take m b) ≡ false
-counts-differ n m a b la lb h = same_length (take n a) (take m b) (λ e. h (sym (length-take-le n a la) ∙ e ∙ length-take-le m b lb))
+use Rattle.scope_state.specs.View.{listed, Fits}
 
 add-grows : (b : Bool) (p : ℕ) (ps : List ℕ) → length ps ≤ length (cond b ps (ps ++ (p ∷ [])))
 add-grows true p ps = omega arith
@@ -73,32 +27,39 @@ combine-grows ps [] = omega arith
 combine-grows ps (q ∷ qs) =
     omega (arith, add-grows (member eqb ps q) q ps, combine-grows (cond (member eqb ps q) ps (ps ++ (q ∷ []))) qs)
 
-pub combine-next : (ps a : List ℕ) (i n : ℕ) → i < n → n ≤ length a
-    → combine ps (drop i (take n a)) ≡ combine (cond (member eqb ps (get_or a i 0)) ps (ps ++ (get_or a i 0 ∷ []))) (drop (i + 1) (take n a))
-combine-next ps a i n h le = rw (rest-cons a i n h le)
-
-pub combine-end : (ps a : List ℕ) (i n : ℕ) → n ≤ i → combine ps (drop i (take n a)) ≡ ps
-combine-end ps a i n h = rw (rest_end a i n h)
-
--- a 9th place now is one in the end
-pub combine-crowd : (ps a : List ℕ) (i n : ℕ) → i < n → n ≤ length a
-    → ltb 8 (length (cond (member eqb ps (get_or a i 0)) ps (ps ++ (get_or a i 0 ∷ [])))) ≡ true → 8 < length (combine ps (drop i (take n a)))
-combine-crowd ps a i n h le e =
-    rw (combine-next ps a i n h le)
-    (lt_of_lt_of_le (ltb-true 8 (length (cond (member eqb ps (get_or a i 0)) ps (ps ++ (get_or a i 0 ∷ [])))) e)
-    (combine-grows (cond (member eqb ps (get_or a i 0)) ps (ps ++ (get_or a i 0 ∷ []))) (drop (i + 1) (take n a))))
-
 -- a place stored after the first n
 pub take-add : (n : ℕ) (a : List ℕ) (p : ℕ) → n < length a → take (n + 1) (set a n p) ≡ take n a ++ (p ∷ [])
 take-add n a p h = rw (add-one, take-suc-set a n p h)
 
-pub listed-length : (p : Places) → Roomy p → length (listed p) ≡ p.count
-listed-length p h = length-take-le _ _ (omega (arith, h.most, h.room))
+-- std's answers are the rules'
+pub any-member : (ps : List ℕ) (p : ℕ) → list_any (λ y. y == p) ps ≡ member eqb ps p
+unfolding member
+any-member [] p = refl
+any-member (q ∷ ps) p = rw (any-member ps p)
 
-pub fits-ok : (p : Places) (ps : List ℕ) → listed p ≡ ps → Roomy p → Fits (record { ok = true; places = p }) ps
-fits-ok p ps e h =
-    let most : length ps ≤ 8 = rw (sym e, listed-length p h) h.most in
-    record { ok = rw (le-ltb 8 (length ps) most); is = λ t. (e, h) }
+pub pointwise-places : (ps qs : List ℕ) → pointwise ◌==◌ ps qs ≡ places_eq ps qs
+pointwise-places [] [] = refl
+pointwise-places [] (q ∷ qs) = refl
+pointwise-places (p ∷ ps) [] = refl
+pointwise-places (p ∷ ps) (q ∷ qs) = rw (pointwise-places ps qs)
 
-pub fits-no : (p : Places) (ps : List ℕ) → 8 < length ps → Fits (record { ok = false; places = p }) ps
-fits-no p ps h = record { ok = rw (lt-ltb 8 (length ps) h); is = λ t. false-true t }
+pub fits-ok : (p : Places) (ps : List ℕ) → listed p ≡ ps → Fits (Some p) ps
+fits-ok p ps e =
+    let short : length (listed p) ≤ 8 = simp length-take (omega (arith, p.few)) in
+    let most : length ps ≤ 8 = rw (sym e) short in
+    record { ok = rw (le-ltb 8 (length ps) most); is = λ q t. cc }
+
+pub fits-no : (ps : List ℕ) → 8 < length ps → Fits None ps
+fits-no ps h = record { ok = rw (lt-ltb 8 (length ps) h); is = λ q t. cc }
+
+pub fits-none : {r : Option Places} {ps : List ℕ} → Fits r ps → r ≡ None → 8 < length ps
+fits-none {r} {ps} f e = ltb-true 8 (length ps) (not-false _ (sym f.ok ∙ ap is_some e))
+
+module _ (ps qs : List ℕ) (i : ℕ) (h : i < length qs) where
+  pub combine-next : combine ps (drop i qs) ≡ combine (cond (member eqb ps (get_or qs i 0)) ps (ps ++ (get_or qs i 0 ∷ []))) (drop (i + 1) qs)
+  combine-next = rw (add-one, drop-cons qs i 0 h)
+
+  -- a 9th place now is one in the end
+  pub combine-crowd : 8 < length (cond (member eqb ps (get_or qs i 0)) ps (ps ++ (get_or qs i 0 ∷ []))) → 8 < length (combine ps (drop i qs))
+  combine-crowd l =
+      rw combine-next (omega (arith, combine-grows (cond (member eqb ps (get_or qs i 0)) ps (ps ++ (get_or qs i 0 ∷ []))) (drop (i + 1) qs)))

@@ -4,17 +4,18 @@ use Prim.Native.Nat.{ℕ, zero, suc, ◌+◌, ◌-◌, ◌≤◌, ◌<◌}
 use mathlib.Core.Path.{◌≡◌, refl, ap, subst}
 use mathlib.Core.Bool.{cond, ◌&&◌}
 use mathlib.Core.List.{List, [], ◌∷◌}
+use mathlib.Core.Logic.{◌≢◌, ⊎_elim}
 use mathlib.Core.Option.{none, some}
 use borrow.Author.Tests.{eq-eqb, ne_eqb}
 use native.Mathlib.Numerals.{add-one}
 use native.Mathlib.Omega.{arith}
 use lib.Dec.{eqb}
-use lib.ListN.{length}
-use Rattle.tables_lookup.specs.declared.Found.{Found}
-use Rattle.tables_lookup.specs.declared.Found.TheVariants.{At}
+use lib.ListN.{length, get_or}
+use Rattle.image_fields.proofs.Tests.{less}
+use Rattle.std.specs.Prelude.{Option, Some, None}
 use Rattle.rules.specs.State.{State as Status}
 use Rattle.rules.specs.Stack.{Static, local, Shape, shape, lookup, in_frame, Stack as Scope}
-use Rattle.scope_state.specs.Locals.{stacked, Below, Finds}
+use Rattle.scope_state.specs.Locals.{stacked, static_in, Below, Finds}
 
 module _ (f : ℕ → Static) (g : ℕ → Status) where
   pub length-stacked : (n : ℕ) → length (stacked n f g) ≡ n
@@ -64,15 +65,31 @@ framed name d h f g zero = refl
 framed name d h f g (suc n) =
     ap (λ (σ : Scope Status). local (f n) (cond (eqb (f n).name name && eqb (f n).depth d) (h (g n)) (g n)) ∷ σ) (framed name d h f g n)
 
-module _ (f : ℕ → Static) (g : ℕ → Status) (n i : ℕ) where
-  pub find-hit : 0 < i → (f (i - 1)).name ≡ n → lookup n (stacked i f g) ≡ some (local (f (i - 1)) (g (i - 1)))
-  find-hit h e = rw (stacked-pos f g i h, eq-eqb _ _ e)
+module _ (f : ℕ → Static) (g : ℕ → Status) (name : ℕ) where
+  pub find-none : (n : ℕ) → ((k : ℕ) → k < n → (f k).name ≢ name) → lookup name (stacked n f g) ≡ none
+  unfolding stacked
+  find-none zero h = refl
+  find-none (suc n) h =
+      let other : (f n).name ≢ name = h n (omega arith) in
+      rw (ne_eqb _ _ other) (find-none n (λ k l. h k (omega arith)))
 
-  pub find-miss : 0 < i → ((f (i - 1)).name ≡ n → ⊥) → lookup n (stacked i f g) ≡ lookup n (stacked (i - 1) f g)
-  find-miss h e = rw (stacked-pos f g i h, ne_eqb _ _ e)
+  pub find-last : (n i : ℕ) → i < n → (f i).name ≡ name → ((k : ℕ) → i < k → k < n → (f k).name ≢ name)
+      → lookup name (stacked n f g) ≡ some (local (f i) (g i))
+  unfolding stacked
+  find-last zero i l e h = absurd (omega arith)
+  find-last (suc n) i l e h =
+      ⊎_elim
+      (λ (q : i < n). let other : (f n).name ≢ name = h n q (omega arith) in rw (ne_eqb _ _ other) (find-last n i q e (λ k a b. h k a (omega arith))))
+      (λ (q : n ≤ i). let z : n ≡ i = omega arith in rw (z, eq-eqb _ _ e))
+      (less i n)
 
-  pub find-end : i ≤ 0 → lookup n (stacked i f g) ≡ none
-  find-end h = rw (stacked-none f g i h)
+-- what a search from the newest local down finds
+module _ (names : List ℕ) (n name : ℕ) where
+  pub finds-none : ((k : ℕ) → k < n → get_or names k 0 ≢ name) → Finds names n name None
+  finds-none h = record { below = tt; is = λ types depths births at. find-none (static_in names types depths births) at name n h }
 
-pub found_below : {names : List ℕ} {n name : ℕ} {r : Found} → Finds names n name r → {i : ℕ} → r ≡ At i → i < n
-found_below {n = n} f e = subst (λ (x : Found). Below x n) e f.below
+  pub finds-last : (i : ℕ) → i < n → get_or names i 0 ≡ name → ((k : ℕ) → i < k → k < n → get_or names k 0 ≢ name) → Finds names n name (Some i)
+  finds-last i l e h = record { below = l; is = λ types depths births at. find-last (static_in names types depths births) at name n i l e h }
+
+pub found_below : {names : List ℕ} {n name : ℕ} {r : Option ℕ} → Finds names n name r → {i : ℕ} → r ≡ Some i → i < n
+found_below {n = n} f e = subst (λ (x : Option ℕ). Below x n) e f.below

@@ -1,8 +1,6 @@
 -- The locals of lent arrays, oldest first, and the stack that they are, newest first.
-use Rattle.std.specs.Prelude.{ℕ, zero, suc, ◌+◌, ◌-◌, ◌*◌, ◌<◌, ◌≡◌, cond, List, [], ◌∷◌, ltb, get_or, take, drop}
-use Rattle.std.proofs.Math.Option.{Option, none, some}
-use Rattle.tables_lookup.specs.declared.Found.{Found}
-use Rattle.tables_lookup.specs.declared.Found.TheVariants.{At, Nothing}
+use Rattle.std.specs.Prelude.{ℕ, zero, suc, ◌+◌, ◌-◌, ◌*◌, ◌<◌, ◌≡◌, cond, List, [], ◌∷◌, ltb, get_or, take, drop, Option, Some, None}
+use Rattle.std.proofs.Math.Option.{Option as Maybe, none, some}
 use Rattle.rules.specs.State.{State as Status}
 use Rattle.rules.specs.Stack.{Static, Local, local, lookup, Stack as Scope}
 use Rattle.scope_state.specs.Kinds.{said}
@@ -36,16 +34,16 @@ status_of kind first rows at = cond (ltb kind 8) (said kind (first ∷ [])) (sai
 abbrev pub state_in : List ℕ → List ℕ → List ℕ → ℕ → ℕ → ℕ → Status
 state_in kinds firsts rows cur width i = status_of (get_or kinds i 0) (get_or firsts i 0) rows (row_of cur width i)
 
-abbrev pub Below : Found → ℕ → Type 0
-Below Nothing n = Unit {0}
-Below (At i) n = i < n
+abbrev pub Below : Option ℕ → ℕ → Type 0
+Below None n = Unit {0}
+Below (Some i) n = i < n
 
 -- the local that was found
-abbrev pub found_in : List ℕ → List ℕ → List ℕ → List ℕ → (ℕ → Status) → Found → Option (Local Status)
-found_in names types depths births at Nothing = none
-found_in names types depths births at (At i) = some (local (static_in names types depths births i) (at i))
+abbrev pub found_in : List ℕ → List ℕ → List ℕ → List ℕ → (ℕ → Status) → Option ℕ → Maybe (Local Status)
+found_in names types depths births at None = none
+found_in names types depths births at (Some i) = some (local (static_in names types depths births i) (at i))
 
 -- the number of the newest of the first n locals of a name, whatever else is said of them
-pub record Finds (names : List ℕ) (n name : ℕ) (r : Found) : Type 0 where
+pub record Finds (names : List ℕ) (n name : ℕ) (r : Option ℕ) : Type 0 where
   pub below : Below r n
   pub is : (types depths births : List ℕ) (at : ℕ → Status) → lookup name (lent names types depths births at n) ≡ found_in names types depths births at r

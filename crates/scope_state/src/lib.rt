@@ -1,15 +1,11 @@
 // The state of a local: its kind and its places, and the join of two. Every operation equals its rule, through `listed` and `state_of`.
 #![tactic(auto)]
 
-ghost use Rattle.std.specs.Prelude.{◌≡◌, cond, ◌&&◌, [], ◌∷◌, ◌++◌, ◌≤◌, ◌<◌, eqb, ltb};
-ghost use Rattle.image_fields.specs.Table.{member};
-ghost use Rattle.rules.specs.State.{alive, places_eq, combine as combined, join_state};
+ghost use Rattle.std.specs.Prelude.{◌≡◌, cond, [], ◌∷◌, ◌++◌, ◌≤◌, ◌<◌, ◌==◌, eqb, length};
 ghost use Rattle.scope_state.specs.Kinds.{said, base_of, conditional as conditional_of, family as family_of};
-ghost use Rattle.scope_state.specs.View.{listed, state_of, Roomy, Made, Fits, Joins};
 ghost use Rattle.scope_state.specs.Locals.{Finds};
 
 use image_fields::wide;
-use tables_lookup::Found;
 
 // A number for each local; how many a stack may have stands here alone.
 pub type Names = [u16; 64];
@@ -29,47 +25,54 @@ pub type Firsts = [u32; 64];
 pub struct Places {
     pub count: u8,
     pub list: [u32; 8],
+    ghost few: { count ≤ 8 },
 }
 
-// The state of a name: 0 Alive, else the kind of error that a use of it reports.
-#[derive(Clone, Copy)]
+// The state of a name: 0 Alive, which has no places, else the kind of error that a use of it reports.
+#[derive(Clone, Copy, PartialEq)]
 pub struct State {
     pub kind: u8,
     pub places: Places,
-}
-
-// What comes next, or ok false: a 9th place.
-#[derive(Clone, Copy)]
-pub struct NextPlaces {
-    pub ok: bool,
-    pub places: Places,
-}
-
-#[derive(Clone, Copy)]
-pub struct NextState {
-    pub ok: bool,
-    pub state: State,
+    ghost known: { kind < 7 },
+    ghost given: { eqb kind 0 ≡ eqb places.count 0 },
 }
 
 // The number of the newest local of a name.
-pub fn find_local(names: &Names, count: usize, name: u16) -> Found
+pub fn find_local(names: &Names, count: usize, name: u16) -> Option<usize>
     requires { count ≤ 64 }
     ensures { Finds names.now count name result }
 {
-    let mut i = count;
-    while 0 < i {
-        let j = i - 1;
-        if names[j] == name {
-            return Found::At(j);
+    for i in (0..count).rev() {
+        if names[i] == name {
+            return Some(i);
         }
-        i = j;
     }
-    Found::Nothing
+    None
+}
+
+impl PartialEq for Places {
+    ghost use Rattle.std.proofs.Common.{rules};
+    ghost use Rattle.std.specs.Cmp.Rules.{comparing};
+    ghost use Rattle.std.specs.Ordering.{on};
+    ghost use Rattle.std.specs.Cmp.Lexicographic.{pointwise};
+    ghost use Rattle.scope_state.specs.View.{listed};
+
+    ghost eq = { on listed (pointwise ◌==◌) };
+
+    ghost laws = { Prim.search (comparing, rules) };
+
+    fn eq(&self, other: &Places) -> bool {
+        self.as_slice() == other.as_slice()
+    }
 }
 
 impl Places {
+    ghost use Rattle.image_fields.specs.Table.{member};
+    ghost use Rattle.rules.specs.State.{combine as combined};
+    ghost use Rattle.scope_state.specs.View.{listed, Fits};
+
     pub fn none() -> Places
-        ensures { (listed result ≡ []) × Roomy result × (result.count ≡ 0) }
+        ensures { (listed result ≡ []) × (result.count ≡ 0) }
     {
         Places {
             count: 0,
@@ -77,103 +80,48 @@ impl Places {
         }
     }
 
-    fn one(place: u32) -> Places
-        ensures { (listed result ≡ place ∷ []) × Roomy result × (result.count ≡ 1) }
+    pub fn of(places: &[u32]) -> Places
+        requires { length places.now ≤ 8 }
+        ensures { listed result ≡ places.now }
     {
         let mut list = [0; 8];
-        list[0] = place;
+        list[..places.len()].copy_from_slice(places);
         Places {
-            count: 1,
+            count: places.len() as u8,
             list: list,
         }
     }
 
-    fn has(self, place: u32) -> bool
-        requires { Roomy self }
-        ensures { result ≡ member eqb (listed self) place }
+    pub fn as_slice(&self) -> &[u32]
+        ensures { result.now ≡ listed self.now }
     {
-        let n = wide(self.count);
-        let mut i = 0;
-        while i < n {
-            if self.list[i] == place {
-                return true;
-            }
-            i += 1;
-        }
-        false
+        &self.list[..wide(self.count)]
     }
 
-    // One place more, unless it is there.
-    fn add(self, place: u32) -> NextPlaces
-        requires { Roomy self }
+    // One place more, unless it is there. None: it is the 9th.
+    fn add(mut self, place: u32) -> Option<Places>
         ensures { Fits result (cond (member eqb (listed self) place) (listed self) (listed self ++ (place ∷ []))) }
     {
-        if self.has(place) {
-            return NextPlaces {
-                ok: true,
-                places: self,
-            };
+        if self.as_slice().contains(&place) {
+            return Some(self);
         }
-        let n = self.count;
-        if 8 <= n {
-            return NextPlaces {
-                ok: false,
-                places: self,
-            };
+        if self.count == 8 {
+            return None;
         }
-        let mut out = self;
-        let at = wide(n);
-        out.list[at] = place;
-        out.count = n + 1;
-        NextPlaces {
-            ok: true,
-            places: out,
-        }
+        self.list[wide(self.count)] = place;
+        self.count += 1;
+        Some(self)
     }
 
-    // combine_spans: these places, then the other's new ones.
-    fn combine(self, other: Places) -> NextPlaces
-        requires { Roomy self × Roomy other }
+    // combine_spans: these places, then the other's new ones. None: a 9th place.
+    fn combine(self, other: Places) -> Option<Places>
         ensures { Fits result (combined (listed self) (listed other)) }
     {
-        let n = wide(other.count);
         let mut out = self;
-        let mut i = 0;
-        while i < n {
-            let p = other.list[i];
-            let r = out.add(p);
-            if !r.ok {
-                return NextPlaces {
-                    ok: false,
-                    places: self,
-                };
-            }
-            out = r.places;
-            i += 1;
+        for p in other.as_slice() {
+            out = out.add(*p)?;
         }
-        NextPlaces {
-            ok: true,
-            places: out,
-        }
-    }
-
-    // Whether both are the same places in the same order.
-    fn same(self, other: Places) -> bool
-        requires { Roomy self × Roomy other }
-        ensures { result ≡ places_eq (listed self) (listed other) }
-    {
-        let n = wide(self.count);
-        if n != wide(other.count) {
-            return false;
-        }
-        let mut i = 0;
-        while i < n {
-            if self.list[i] != other.list[i] {
-                return false;
-            }
-            i += 1;
-        }
-        true
+        Some(out)
     }
 }
 
@@ -181,10 +129,7 @@ impl Places {
 fn base(kind: u8) -> u8
     ensures { result ≡ base_of kind }
 {
-    if 3 < kind {
-        return kind - 3;
-    }
-    kind
+    if 3 < kind { kind - 3 } else { kind }
 }
 
 // conditionalize_state
@@ -192,25 +137,11 @@ fn conditional(kind: u8) -> u8
     requires { kind < 7 }
     ensures { result ≡ conditional_of kind }
 {
-    if kind == 0 {
-        return 0;
+    match kind {
+        0 => 0,
+        1..=3 => kind + 3,
+        _ => kind,
     }
-    if 3 < kind {
-        return kind;
-    }
-    kind + 3
-}
-
-// Whether two states under a condition stay so, if they are of one family.
-fn stays(a: u8, b: u8, keeps: bool) -> bool
-    ensures { result ≡ («keeps» && (ltb 3 a && ltb 3 b)) }
-{
-    if keeps {
-        if 3 < a {
-            return 3 < b;
-        }
-    }
-    false
 }
 
 // Of two states of one family that family's number, under a condition if both are and so asked; else that of Consumed.
@@ -221,15 +152,15 @@ fn family(a: u8, b: u8, keeps: bool) -> u8
     if x != base(b) {
         return 3;
     }
-    if stays(a, b, keeps) {
-        return a;
-    }
-    x
+    if keeps && 3 < a && 3 < b { a } else { x }
 }
 
 impl State {
+    ghost use Rattle.rules.specs.State.{alive, join_state};
+    ghost use Rattle.scope_state.specs.View.{state_of, Joins};
+
     pub fn alive() -> State
-        ensures { (state_of result ≡ alive) × Made result.kind result.places }
+        ensures { state_of result ≡ alive }
     {
         State {
             kind: 0,
@@ -240,61 +171,37 @@ impl State {
     // Given up at one place.
     pub fn at(kind: u8, place: u32) -> State
         requires { (0 < kind) × (kind < 7) }
-        ensures { (state_of result ≡ said kind (place ∷ [])) × Made result.kind result.places }
+        ensures { state_of result ≡ said kind (place ∷ []) }
     {
         State {
             kind: kind,
-            places: Places::one(place),
+            places: Places::of(&[place]),
         }
     }
 
-    fn same(self, other: State) -> bool
-        requires { Made self.kind self.places × Made other.kind other.places }
-        ensures { result ≡ (eqb self.kind other.kind && places_eq (listed self.places) (listed other.places)) }
-    {
-        if self.kind != other.kind {
-            return false;
-        }
-        let p = self.places;
-        let q = other.places;
-        p.same(q)
-    }
-
-    // merge_join_state: the state after two branches, this one then's; two conditional ones of a family keep it, if so asked.
-    pub fn join(self, other: State, keeps: bool) -> NextState
-        requires { Made self.kind self.places × Made other.kind other.places }
+    // merge_join_state: the state after two branches, this one then's; two conditional ones of a family keep it, if so asked. None: a 9th place.
+    pub fn join(self, other: State, keeps: bool) -> Option<State>
         ensures { Joins result (join_state «keeps» (state_of self) (state_of other)) }
     {
-        let a = self.kind;
-        let b = other.kind;
-        let p = self.places;
-        let q = other.places;
-        if a == 0 {
-            let s = State {
-                kind: conditional(b),
-                places: q,
-            };
-            return NextState { ok: true, state: s };
+        if self.kind == 0 {
+            return Some(State {
+                kind: conditional(other.kind),
+                places: other.places,
+            });
         }
-        if b == 0 {
-            let s = State {
-                kind: conditional(a),
-                places: p,
-            };
-            return NextState { ok: true, state: s };
+        if other.kind == 0 {
+            return Some(State {
+                kind: conditional(self.kind),
+                places: self.places,
+            });
         }
-        if self.same(other) {
-            return NextState {
-                ok: true,
-                state: self,
-            };
+        if self == other {
+            return Some(self);
         }
-        let r = p.combine(q);
-        let ps = r.places;
-        let s = State {
-            kind: family(a, b, keeps),
-            places: ps,
-        };
-        NextState { ok: r.ok, state: s }
+        let places = self.places.combine(other.places)?;
+        Some(State {
+            kind: family(self.kind, other.kind, keeps),
+            places: places,
+        })
     }
 }

@@ -1,20 +1,20 @@
 -- What the code of each kind of statement does is what the rules say of whatever statement was read there.
 -- Assumes nothing.
-use mathlib.Core.Option.{Option, some}
+use mathlib.Core.Option.{Option as Maybe, some}
+use Rattle.std.specs.Prelude.{Option, Some, None, IfSome}
 use mathlib.Core.Path.{◌≡◌, refl, sym, ap, ◌∙◌, subst}
 use mathlib.Core.List.{List, [], ◌∷◌, ◌++◌, append-nil}
-use mathlib.Core.Bool.{Bool, true, false, cond, ◌&&◌, ◌||◌}
+use mathlib.Core.Bool.{Bool, true, false, cond, ◌&&◌}
 use mathlib.Core.Logic.{◌⊎◌, inl, inr, ⊎_elim}
 use Prim.Native.Nat.{ℕ, ◌+◌, ◌*◌, ◌≤◌, ◌<◌}
 use native.Mathlib.Omega.{arith}
 use native.Mathlib.Nat.{add-zero}
-use borrow.Author.Tests.{ne_eqb, eqb-true, eqb-false}
 use lib.ListN.{length, get_or, length-append}
 use lib.Dec.{eqb}
 use lib.Seq.{slice, length-slice}
 use Rattle.image_fields.specs.Number.{two, four}
 use Rattle.image_fields.specs.Bytes.{two_bytes, four_bytes, number_bytes, Bytes}
-use Rattle.image_fields.proofs.Tests.{and-true, false-true, less}
+use Rattle.image_fields.proofs.Tests.{less}
 use Rattle.tables.specs.Limits.{version1}
 use Rattle.tables.specs.Tables.{Tables}
 use Rattle.image_body.specs.Expr.{Expr, arg_width, count_width, last_width}
@@ -45,22 +45,18 @@ use Rattle.image_lines.proofs.Told.{past, lined-same, lined-warnings, lined-left
 use Rattle.statements_steps.specs.Drops.{delete_bytes}
 use Rattle.statements_steps.proofs.Lists.{only-left}
 use Rattle.statements_acts.specs.Drops.{admitted}
-use Rattle.statements_acts.specs.declared.Which.{Which}
-use Rattle.statements_acts.specs.declared.Which.TheVariants.{All}
 use Rattle.statements_acts.specs.declared.Put.{Put}
 use Rattle.statements_acts.specs.declared.Named.{Named}
-use Rattle.statements_acts.specs.declared.Named.TheVariants.{Nobody}
 use Rattle.statements_acts.specs.declared.Change.{Change}
 use Rattle.statements_acts.specs.declared.Change.TheVariants.{Nothing, Register}
 use Rattle.statements_acts.specs.declared.Place.{Place}
 use Rattle.statements_acts.specs.declared.Warned.{Warned}
 use Rattle.statements_steps.specs.Statement.{front_drops, own_bytes, front_bytes, front_reports, settle}
 use Rattle.statements_acts.specs.Act.{change_in, taken_in, FrontThere, Within, Grows, cursors_at, Acts, ActsThere}
-use Rattle.statements_acts.specs.Parts.{deleted_name, delete_of, revive_of, sparing, no_put, relisted, Copied, wrapping, warning_at, WarnsAt, Untouched}
+use Rattle.statements_acts.specs.Parts.{deleted_name, delete_of, revive_of, sparing, no_put, relisted, Copied, wrapping, warning_at, WarnsAt, Untouched, Leaves}
 use Rattle.statements_acts.proofs.Slices.{written-slice, no_value, one_value}
 use Rattle.statements_acts.proofs.Fronts.{Front, head_bytes_lem, front-plain, front-variable, front-assign, front-return, front-bare, front-jump}
 use Rattle.statements_acts.proofs.Taken.{delete-is, revive-is}
-use Rattle.statements_acts.proofs.Views.{callee-some}
 
 none-at : (xs : List ℕ) {i j : ℕ} → j ≡ i → Stored xs i [] xs j
 none-at xs {i} e = record { cells = refl; place = e ∙ sym (add-zero i) }
@@ -69,7 +65,7 @@ pub stored-from : {xs ys zs u : List ℕ} {i j : ℕ} → xs ≡ ys → Stored x
 stored-from {xs} {ys} {zs} {u} {i} {j} e s = subst (λ x. Stored x i u zs j) e s
 
 -- the locals that a return deletes, as the code asks
-sparing-is : (sw : Switches) (T : Tables) (σ : Scope Status) (which : Which) (n : rules.Named) → which ≡ sparing n → collect (states off) T (admitted which) 0 σ ≡ return_drops (states sw) T (concerns sw) n σ
+sparing-is : (sw : Switches) (T : Tables) (σ : Scope Status) (which : Option ℕ) (n : rules.Named) → which ≡ sparing n → collect (states off) T (admitted which) 0 σ ≡ return_drops (states sw) T (concerns sw) n σ
 sparing-is sw T σ which rules.nobody e = ap (λ x. collect (states off) T (admitted x) 0 σ) e
 sparing-is sw T σ which (rules.called n p) e = ap (λ x. collect (states off) T (admitted x) 0 σ) e
 
@@ -113,7 +109,7 @@ long_of u v w n =
 
 module _ (sw : Switches) (T : Tables) (σ : Scope Status) (p : Place) where
   -- what was copied behind deletes, if nothing is reported
-  pub acts-of : (c : Tree) (loop : Option ℕ) (put : Put) {to : ℕ} {s before' out out' warns left : List ℕ} (q : Place) (change : Change) (taken : Named) → Copied s p put to out q out'
+  pub acts-of : (c : Tree) (loop : Maybe ℕ) (put : Put) {to : ℕ} {s before' out out' warns left : List ℕ} (q : Place) (change : Change) (taken : Option Named) → Copied s p put to out q out'
       → Stored before' p.written (delete_bytes (front_drops sw T c loop σ)) out put.at → put.count ≡ length (front_drops sw T c loop σ)
       → Front T s p.at to c → front_reports sw T c loop p.at σ ≡ []
       → ((d : ℕ) → taken_in taken (change_in d change σ) ≡ settle T c d σ)
@@ -152,11 +148,11 @@ module _ (s : List ℕ) (small : Bytes s) (p : Place) (to : ℕ) (g : FrontThere
         let e = none-put-is p ep in
         grows-of w r.0 r.1 (omega arith) (omega arith)
 
-    pub plain-acts : (sw : Switches) (T : Tables) (σ : Scope Status) (warns left : List ℕ) (loop : Option ℕ) → ActsThere sw T s loop σ p out warns left (record { place = q; change = Nothing; taken = Nobody }) out' warns left
+    pub plain-acts : (sw : Switches) (T : Tables) (σ : Scope Status) (warns left : List ℕ) (loop : Maybe ℕ) → ActsThere sw T s loop σ p out warns left (record { place = q; change = Nothing; taken = None }) out' warns left
     plain-acts sw T σ warns left loop = record {
       acts = λ f t x next r deep read.
           let v = front-plain T s small p.at to g f t x next read u r in
-          acts-of sw T σ p (before x r) loop (no_put p) q Nothing Nobody (subst (λ z. Copied s p z to out q out') ep w)
+          acts-of sw T σ p (before x r) loop (no_put p) q Nothing None (subst (λ z. Copied s p z to out q out') ep w)
           (subst (λ d. Stored out p.written (delete_bytes d) out p.written) (sym (v.1.drops sw loop σ)) (none-stored out p.written))
           (sym (ap length (v.1.drops sw loop σ))) v.0 (v.1.reports sw loop p.at σ) (λ d. sym (v.1.settles d σ));
     }
@@ -177,10 +173,10 @@ module _ (s : List ℕ) (small : Bytes s) (p : Place) (to : ℕ) (g : FrontThere
       let e = none-put-is p ep in
       grows-of w (omega arith) r.1 (omega arith) (omega arith)
 
-  pub variable-acts : (put : Put) → put ≡ no_put p → {out out' : List ℕ} (q : Place) → Copied s p put to out q out' → (sw : Switches) (T : Tables) (σ : Scope Status) (n ty born : ℕ) (taken : Named)
+  pub variable-acts : (put : Put) → put ≡ no_put p → {out out' : List ℕ} (q : Place) → Copied s p put to out q out' → (sw : Switches) (T : Tables) (σ : Scope Status) (n ty born : ℕ) (taken : Option Named)
       → n ≡ two s (p.at + 5) → ty ≡ two s (p.at + 7) → born ≡ four s (p.at + 1)
       → ((e : Expr) (next : ℕ) → Stands e s (p.at + 9) next → (τ : Scope Status) → taken_in taken τ ≡ apply_all (states off) (take_over T (shape σ) n ty e) τ)
-      → (warns left : List ℕ) (loop : Option ℕ) → ActsThere sw T s loop σ p out warns left (record { place = q; change = Register n ty born; taken = taken }) out' warns left
+      → (warns left : List ℕ) (loop : Maybe ℕ) → ActsThere sw T s loop σ p out warns left (record { place = q; change = Register n ty born; taken = taken }) out' warns left
   variable-acts put ep {out} {out'} q w sw T σ n ty born taken en et eb tk warns left loop = record {
     acts = λ f t x next r deep read.
         let v = front-variable T s small p.at to g f t x next read low high r in
@@ -240,12 +236,12 @@ module _ (s : List ℕ) (small : Bytes s) (p : Place) (end : ℕ) (g : FrontTher
       let a = r.0 in
       grows-of w (omega arith) r.1 (omega arith) (omega arith)
 
-  pub assign-acts : {before' out out' : List ℕ} (put : Put) (q : Place) (change : Change) (taken : Named) → Copied s p put (end + 2) out q out' → (sw : Switches) (T : Tables) (σ : Scope Status)
+  pub assign-acts : {before' out out' : List ℕ} (put : Put) (q : Place) (change : Change) (taken : Option Named) → Copied s p put (end + 2) out q out' → (sw : Switches) (T : Tables) (σ : Scope Status)
       → (span : ℕ) → span ≡ four s (p.at + 1) → ((e : Expr) (next : ℕ) → Stands e s (p.at + 5) next
       → Stored before' p.written (delete_bytes (assign_drops (states sw) T (concerns sw) span e σ)) out put.at × (put.count ≡ length (assign_drops (states sw) T (concerns sw) span e σ)))
       → ((e : Expr) (next : ℕ) → Stands e s (p.at + 5) next → change ≡ revive_of (name_in (viewed e)))
       → ((e v : Expr) (i j : ℕ) → Stands e s (p.at + 5) i → Stands v s i j → (τ : Scope Status) → taken_in taken τ ≡ apply_all (states off) (assign_takes T (shape σ) e v) τ)
-      → (warns left : List ℕ) (loop : Option ℕ) → ActsThere sw T s loop σ p before' warns left (record { place = q; change = change; taken = taken }) out' warns left
+      → (warns left : List ℕ) (loop : Maybe ℕ) → ActsThere sw T s loop σ p before' warns left (record { place = q; change = change; taken = taken }) out' warns left
   assign-acts {before'} {out} {out'} put q change taken w sw T σ span es dr rv tk warns left loop = record {
     acts = λ f t x next r deep read.
         let v = front-assign T s small p.at end g f t x next read k r in
@@ -272,20 +268,20 @@ module _ (s : List ℕ) (small : Bytes s) (p : Place) (end : ℕ) (g : FrontTher
       let a = r.0 in
       grows-of w (omega arith) r.1 (omega arith) (omega arith)
 
-  pub return-acts : {before' out out' : List ℕ} (put : Put) (q : Place) → Copied s p put (end + 2) out q out' → (sw : Switches) (T : Tables) (σ : Scope Status) (which : Which)
+  pub return-acts : {before' out out' : List ℕ} (put : Put) (q : Place) → Copied s p put (end + 2) out q out' → (sw : Switches) (T : Tables) (σ : Scope Status) (which : Option ℕ)
       → ((e : Expr) (next : ℕ) → Stands e s (p.at + 6) next → which ≡ sparing (name_in (viewed e)))
       → Stored before' p.written (delete_bytes (collect (states off) T (admitted which) 0 σ)) out put.at × (put.count ≡ length (collect (states off) T (admitted which) 0 σ))
-      → (warns left : List ℕ) (loop : Option ℕ) → ActsThere sw T s loop σ p before' warns left (record { place = q; change = Nothing; taken = Nobody }) out' warns left
+      → (warns left : List ℕ) (loop : Maybe ℕ) → ActsThere sw T s loop σ p before' warns left (record { place = q; change = Nothing; taken = None }) out' warns left
   return-acts {before'} {out} {out'} put q w sw T σ which ew dr warns left loop = record {
     acts = λ f t x next r deep read.
         let v = front-return T s small p.at end g f t x next read k o r in
         let d = sparing-is sw T σ which (name_in (viewed v.e)) (ew v.e end v.stands) in
-        subst (λ c. Acts sw T c loop σ p before' warns left (record { place = q; change = Nothing; taken = Nobody }) out' warns left) (sym v.is)
-        (acts-of sw T σ p _ loop put q Nothing Nobody w (subst (λ x. Stored before' p.written (delete_bytes x) out put.at) d dr.0) (dr.1 ∙ ap length d) v.front refl (λ i. refl));
+        subst (λ c. Acts sw T c loop σ p before' warns left (record { place = q; change = Nothing; taken = None }) out' warns left) (sym v.is)
+        (acts-of sw T σ p _ loop put q Nothing None w (subst (λ x. Stored before' p.written (delete_bytes x) out put.at) d dr.0) (dr.1 ∙ ap length d) v.front refl (λ i. refl));
   }
 
 -- a statement of so many bytes that puts nothing in, changes nothing and leaves locals behind
-pub record Lists (sw : Switches) (T : Tables) (c : Tree) (loop : Option ℕ) (at : ℕ) (σ : Scope Status) (rs : List Report) : Type 0 where
+pub record Lists (sw : Switches) (T : Tables) (c : Tree) (loop : Maybe ℕ) (at : ℕ) (σ : Scope Status) (rs : List Report) : Type 0 where
   pub drops : front_drops sw T c loop σ ≡ []
   pub reports : front_reports sw T c loop at σ ≡ rs
   pub settles : (d : ℕ) → settle T c d σ ≡ σ
@@ -295,21 +291,9 @@ module _ (s : List ℕ) (small : Bytes s) (p : Place) (size : ℕ) (few : 5 ≤ 
     copied : Copied s (relisted p n) (no_put p) (p.at + size) out q out'
     copied = subst (λ z. Copied s (relisted p n) z (p.at + size) out q out') ep (subst (λ z. Copied s z put (p.at + size) out q out') e' w)
 
-    pub lists-grows : n ≤ p.lefts + 4672 → Grows s p q
-    lists-grows l =
-        let c = copied in
-        let b = c.bytes.place in
-        let e = length-slice p.at (p.at + size) s reach in
-        let a = c.at in
-        let i = c.inserted in
-        let x = c.errors in
-        let y = c.warnings in
-        let z = c.lefts in
-        record { on = omega arith; inside = subst (λ m. m ≤ length s) (sym a) reach; written = omega arith; errors = omega arith; warnings = omega arith; lefts = omega arith; inserted = omega arith }
-
-    pub lists-acts : (sw : Switches) (T : Tables) (σ : Scope Status) (c : Tree) (loop : Option ℕ) (q' : Static → Bool) (τ : Scope Status) → Front T s p.at (p.at + size) c
+    pub lists-acts : (sw : Switches) (T : Tables) (σ : Scope Status) (c : Tree) (loop : Maybe ℕ) (q' : Static → Bool) (τ : Scope Status) → Front T s p.at (p.at + size) c
         → Lists sw T c loop p.at σ (gather (states off) T q' (left_at (four s (p.at + 1))) τ) → (span : ℕ) → span ≡ four s (p.at + 1) → {left left' : List ℕ} → {out₀ : List ℕ} → Listed p.paged (gather (states off) T q' (left_at span) τ) left out₀ p.lefts left' out n
-        → (warns : List ℕ) → Acts sw T c loop σ p out₀ warns left (record { place = q; change = Nothing; taken = Nobody }) out' warns left'
+        → (warns : List ℕ) → Acts sw T c loop σ p out₀ warns left (record { place = q; change = Nothing; taken = None }) out' warns left'
     lists-acts sw T σ c loop q' τ front is span es {left} {left'} {out₀} st warns =
         let k = copied in
         let b = subst (λ x. Stored out p.written x out' q.written) (written-slice front.written) k.bytes in
@@ -339,21 +323,32 @@ module _ (s : List ℕ) (small : Bytes s) (p : Place) (size : ℕ) (few : 5 ≤ 
           settles = λ d. sym (is.settles d);
         }
 
+-- what is left behind, deleted or listed, is as much as a statement's bytes allow
+pub leaves-grows : (s : List ℕ) (p : Place) (size : ℕ) → 5 ≤ size → p.at + size ≤ length s → {p' : Place} → p' ≡ relisted p p'.lefts → p'.lefts ≤ p.lefts + 4672
+    → {put : Put} → put.at ≤ p.written + 1344 → put.count ≤ 64 → {out out' : List ℕ} {q : Place} → Copied s p' put (p.at + size) out q out' → Grows s p q
+leaves-grows s p size few reach {p'} e' l {put} lp lc {out} {out'} {q} w =
+    let c : Copied s (relisted p p'.lefts) put (p.at + size) out q out' = subst (λ z. Copied s z put (p.at + size) out q out') e' w in
+    let b = c.bytes.place in
+    let e = length-slice p.at (p.at + size) s reach in
+    let a = c.at in
+    let i = c.inserted in
+    let x = c.errors in
+    let y = c.warnings in
+    let z = c.lefts in
+    record { on = omega arith; inside = subst (λ m. m ≤ length s) (sym a) reach; written = omega arith; errors = omega arith; warnings = omega arith; lefts = omega arith; inserted = omega arith }
+
 -- a statement of so many bytes that leaves locals behind, and before which these are deleted
-pub record Clears (sw : Switches) (T : Tables) (c : Tree) (loop : Option ℕ) (at : ℕ) (σ : Scope Status) (ds : List Drop) : Type 0 where
+pub record Clears (sw : Switches) (T : Tables) (c : Tree) (loop : Maybe ℕ) (at : ℕ) (σ : Scope Status) (ds : List Drop) : Type 0 where
   pub drops : front_drops sw T c loop σ ≡ ds
   pub reports : front_reports sw T c loop at σ ≡ []
   pub settles : (d : ℕ) → settle T c d σ ≡ σ
 
 module _ (s : List ℕ) (small : Bytes s) (p : Place) (size : ℕ) (few : 5 ≤ size) (reach : p.at + size ≤ length s) {out out' : List ℕ} (put : Put) (q : Place) (w : Copied s p put (p.at + size) out q out') where
-  pub clears-grows : put.at ≤ p.written + 1344 → put.count ≤ 64 → Grows s p q
-  clears-grows l n = grows-of w (omega arith) reach (omega arith) (omega arith)
-
-  pub clears-acts : {before' : List ℕ} (sw : Switches) (T : Tables) (σ : Scope Status) (c : Tree) (loop : Option ℕ) (ds : List Drop) → Front T s p.at (p.at + size) c → Clears sw T c loop p.at σ ds
+  pub clears-acts : {before' : List ℕ} (sw : Switches) (T : Tables) (σ : Scope Status) (c : Tree) (loop : Maybe ℕ) (ds : List Drop) → Front T s p.at (p.at + size) c → Clears sw T c loop p.at σ ds
       → Stored before' p.written (delete_bytes ds) out put.at × (put.count ≡ length ds)
-      → (warns left : List ℕ) → Acts sw T c loop σ p before' warns left (record { place = q; change = Nothing; taken = Nobody }) out' warns left
+      → (warns left : List ℕ) → Acts sw T c loop σ p before' warns left (record { place = q; change = Nothing; taken = None }) out' warns left
   clears-acts {before'} sw T σ c loop ds front is dr warns left =
-      acts-of sw T σ p c loop put q Nothing Nobody w (subst (λ x. Stored before' p.written (delete_bytes x) out put.at) (sym is.drops) dr.0) (dr.1 ∙ ap length (sym is.drops)) front is.reports
+      acts-of sw T σ p c loop put q Nothing None w (subst (λ x. Stored before' p.written (delete_bytes x) out put.at) (sym is.drops) dr.0) (dr.1 ∙ ap length (sym is.drops)) front is.reports
       (λ d. sym (is.settles d))
 
 -- with its switch off a bare return deletes nothing
@@ -365,7 +360,7 @@ bare-none : (sw : Switches) (T : Tables) → sw.bare_returns ≡ false → (σ :
 bare-none sw T e σ = ap (λ (b : Bool). collect (states off) T (λ l. b) 0 σ) e ∙ none-admitted T σ
 
 -- nor does a Break or Continue
-jump-none : (sw : Switches) (T : Tables) → sw.jumps ≡ false → (loop : Option ℕ) (σ : Scope Status) → jump_drops (states sw) T (concerns sw) loop σ ≡ []
+jump-none : (sw : Switches) (T : Tables) → sw.jumps ≡ false → (loop : Maybe ℕ) (σ : Scope Status) → jump_drops (states sw) T (concerns sw) loop σ ≡ []
 jump-none sw T e loop σ = ap (λ (b : Bool). collect (states off) T (λ l. b && in_loop loop l) 0 σ) e ∙ none-admitted T σ
 
 -- a Return without a value
@@ -376,30 +371,38 @@ module _ (s : List ℕ) (small : Bytes s) (p : Place) {end : ℕ} (g : FrontTher
       (front-bare T s small p.at g.f g.t g.x g.next g.read k o (done tt)).1.inside
 
   module _ (n : ℕ) (p' : Place) (e' : p' ≡ relisted p n) (put : Put) (ep : put ≡ no_put p) {out out' : List ℕ} (q : Place) (w : Copied s p' put (p.at + 8) out q out') where
-    pub bare-grows : n ≤ p.lefts + 4672 → Grows s p q
-    bare-grows = lists-grows s small p 8 (omega arith) bare-reach n p' e' put ep q w
-
     pub bare-acts : (sw : Switches) → sw.bare_returns ≡ false → (T : Tables) (σ : Scope Status) (span : ℕ) → span ≡ four s (p.at + 1) → {left left' : List ℕ}
-        → {out₀ : List ℕ} → Listed p.paged (gather (states off) T (admitted All) (left_at span) σ) left out₀ p.lefts left' out n
-        → (warns : List ℕ) (loop : Option ℕ) → ActsThere sw T s loop σ p out₀ warns left (record { place = q; change = Nothing; taken = Nobody }) out' warns left'
+        → {out₀ : List ℕ} → Listed p.paged (gather (states off) T (admitted None) (left_at span) σ) left out₀ p.lefts left' out n
+        → (warns : List ℕ) (loop : Maybe ℕ) → ActsThere sw T s loop σ p out₀ warns left (record { place = q; change = Nothing; taken = None }) out' warns left'
     bare-acts sw off' T σ span es {left} {left'} {out₀} st warns loop = record {
       acts = λ f t x next r deep read.
           let v = front-bare T s small p.at f t x next read k o r in
-          subst (λ c. Acts sw T c loop σ p out₀ warns left (record { place = q; change = Nothing; taken = Nobody }) out' warns left') (sym v.0)
-          (lists-acts s small p 8 (omega arith) bare-reach n p' e' put ep q w sw T σ _ loop (admitted All) σ v.1
+          subst (λ c. Acts sw T c loop σ p out₀ warns left (record { place = q; change = Nothing; taken = None }) out' warns left') (sym v.0)
+          (lists-acts s small p 8 (omega arith) bare-reach n p' e' put ep q w sw T σ _ loop (admitted None) σ v.1
           (record { drops = bare-none sw T off' σ; reports = ap (λ (b : Bool). left_behind T b (four s (p.at + 1)) at_bare_return σ) off'; settles = λ d. refl }) span es st warns);
     }
 
   pub bare-cleared : {before' out out' : List ℕ} (put : Put) (q : Place) → Copied s p put (p.at + 8) out q out' → (sw : Switches) → sw.bare_returns ≡ true → (T : Tables) (σ : Scope Status)
-      → Stored before' p.written (delete_bytes (collect (states off) T (admitted All) 0 σ)) out put.at × (put.count ≡ length (collect (states off) T (admitted All) 0 σ))
-      → (warns left : List ℕ) (loop : Option ℕ) → ActsThere sw T s loop σ p before' warns left (record { place = q; change = Nothing; taken = Nobody }) out' warns left
+      → Stored before' p.written (delete_bytes (collect (states off) T (admitted None) 0 σ)) out put.at × (put.count ≡ length (collect (states off) T (admitted None) 0 σ))
+      → (warns left : List ℕ) (loop : Maybe ℕ) → ActsThere sw T s loop σ p before' warns left (record { place = q; change = Nothing; taken = None }) out' warns left
   bare-cleared {before'} {out} {out'} put q w sw on' T σ dr warns left loop = record {
     acts = λ f t x next r deep read.
         let v = front-bare T s small p.at f t x next read k o r in
-        subst (λ c. Acts sw T c loop σ p before' warns left (record { place = q; change = Nothing; taken = Nobody }) out' warns left) (sym v.0)
-        (clears-acts s small p 8 (omega arith) bare-reach put q w sw T σ _ loop (collect (states off) T (admitted All) 0 σ) v.1
+        subst (λ c. Acts sw T c loop σ p before' warns left (record { place = q; change = Nothing; taken = None }) out' warns left) (sym v.0)
+        (clears-acts s small p 8 (omega arith) bare-reach put q w sw T σ _ loop (collect (states off) T (admitted None) 0 σ) v.1
         (record { drops = ap (λ (b : Bool). collect (states off) T (λ l. b) 0 σ) on'; reports = ap (λ (b : Bool). left_behind T b (four s (p.at + 1)) at_bare_return σ) on'; settles = λ d. refl }) dr warns left);
   }
+
+  pub bare-left : (drops : Bool) (sw : Switches) → sw.bare_returns ≡ drops → (T : Tables) (σ : Scope Status) {span : ℕ} → span ≡ four s (p.at + 1) → {p' : Place} → p' ≡ relisted p p'.lefts
+      → {put : Put} {out mid left left' : List ℕ} → Leaves drops T σ span p out left p' put mid left' → {q : Place} {out' : List ℕ} → Copied s p' put (p.at + 8) mid q out'
+      → (warns : List ℕ) (loop : Maybe ℕ) → ActsThere sw T s loop σ p out warns left (record { place = q; change = Nothing; taken = None }) out' warns left'
+  bare-left true sw on T σ es e' {put} {out} {mid} {left} {left'} v {q} {out'} w warns loop =
+      let d = v.deletes refl in
+      subst (λ z. ActsThere sw T s loop σ p out warns left (record { place = q; change = Nothing; taken = None }) out' warns z) (sym d.1)
+      (bare-cleared put q (subst (λ z. Copied s z put (p.at + 8) mid q out') d.0 w) sw on T σ (d.2, d.3) warns left loop)
+  bare-left false sw off' T σ es e' v {q} w warns loop =
+      let d = v.lists refl in
+      bare-acts _ _ e' _ d.0 q w sw off' T σ _ es d.1 warns loop
 
 -- a Break or Continue
 module _ (s : List ℕ) (small : Bytes s) (p : Place) {end : ℕ} (g : FrontThere s p.at end) (k : 8 < get_or s p.at 0) where
@@ -409,31 +412,40 @@ module _ (s : List ℕ) (small : Bytes s) (p : Place) {end : ℕ} (g : FrontTher
       (front-jump T s small p.at g.f g.t g.x g.next g.read k (done tt)).2.inside
 
   module _ (n : ℕ) (p' : Place) (e' : p' ≡ relisted p n) (put : Put) (ep : put ≡ no_put p) {out out' : List ℕ} (q : Place) (w : Copied s p' put (p.at + 5) out q out') where
-    pub jump-grows : n ≤ p.lefts + 4672 → Grows s p q
-    jump-grows = lists-grows s small p 5 (omega arith) jump-reach n p' e' put ep q w
-
-    pub jump-acts : (sw : Switches) → sw.jumps ≡ false → (T : Tables) (σ : Scope Status) (loop : Option ℕ) (τ : Scope Status) → ((m : ℕ) → gather (states off) T (admitted All) (left_at m) τ ≡ left_behind T false m (at_jump loop) σ) → (span : ℕ) → span ≡ four s (p.at + 1) → {left left' : List ℕ}
-        → {out₀ : List ℕ} → Listed p.paged (gather (states off) T (admitted All) (left_at span) τ) left out₀ p.lefts left' out n
-        → (warns : List ℕ) → ActsThere sw T s loop σ p out₀ warns left (record { place = q; change = Nothing; taken = Nobody }) out' warns left'
+    pub jump-acts : (sw : Switches) → sw.jumps ≡ false → (T : Tables) (σ : Scope Status) (loop : Maybe ℕ) (τ : Scope Status) → ((m : ℕ) → gather (states off) T (admitted None) (left_at m) τ ≡ left_behind T false m (at_jump loop) σ) → (span : ℕ) → span ≡ four s (p.at + 1) → {left left' : List ℕ}
+        → {out₀ : List ℕ} → Listed p.paged (gather (states off) T (admitted None) (left_at span) τ) left out₀ p.lefts left' out n
+        → (warns : List ℕ) → ActsThere sw T s loop σ p out₀ warns left (record { place = q; change = Nothing; taken = None }) out' warns left'
     jump-acts sw off' T σ loop τ ed span es {left} {left'} {out₀} st warns = record {
       acts = λ f t x next r deep read.
           let v = front-jump T s small p.at f t x next read k r in
-          subst (λ c. Acts sw T c loop σ p out₀ warns left (record { place = q; change = Nothing; taken = Nobody }) out' warns left') (sym v.1)
-          (lists-acts s small p 5 (omega arith) jump-reach n p' e' put ep q w sw T σ _ loop (admitted All) τ v.2
+          subst (λ c. Acts sw T c loop σ p out₀ warns left (record { place = q; change = Nothing; taken = None }) out' warns left') (sym v.1)
+          (lists-acts s small p 5 (omega arith) jump-reach n p' e' put ep q w sw T σ _ loop (admitted None) τ v.2
           (record { drops = jump-none sw T off' loop σ; reports = ap (λ (b : Bool). left_behind T b (four s (p.at + 1)) (at_jump loop) σ) off' ∙ sym (ed (four s (p.at + 1))); settles = λ d. refl }) span es st warns);
     }
 
-  pub jump-cleared : {before' out out' : List ℕ} (put : Put) (q : Place) → Copied s p put (p.at + 5) out q out' → (sw : Switches) → sw.jumps ≡ true → (T : Tables) (σ : Scope Status) (loop : Option ℕ) (τ : Scope Status)
-      → collect (states off) T (admitted All) 0 τ ≡ collect (states off) T (λ l. in_loop loop l) 0 σ
-      → Stored before' p.written (delete_bytes (collect (states off) T (admitted All) 0 τ)) out put.at × (put.count ≡ length (collect (states off) T (admitted All) 0 τ))
-      → (warns left : List ℕ) → ActsThere sw T s loop σ p before' warns left (record { place = q; change = Nothing; taken = Nobody }) out' warns left
+  pub jump-cleared : {before' out out' : List ℕ} (put : Put) (q : Place) → Copied s p put (p.at + 5) out q out' → (sw : Switches) → sw.jumps ≡ true → (T : Tables) (σ : Scope Status) (loop : Maybe ℕ) (τ : Scope Status)
+      → collect (states off) T (admitted None) 0 τ ≡ collect (states off) T (λ l. in_loop loop l) 0 σ
+      → Stored before' p.written (delete_bytes (collect (states off) T (admitted None) 0 τ)) out put.at × (put.count ≡ length (collect (states off) T (admitted None) 0 τ))
+      → (warns left : List ℕ) → ActsThere sw T s loop σ p before' warns left (record { place = q; change = Nothing; taken = None }) out' warns left
   jump-cleared {before'} {out} {out'} put q w sw on' T σ loop τ ed dr warns left = record {
     acts = λ f t x next r deep read.
         let v = front-jump T s small p.at f t x next read k r in
-        subst (λ c. Acts sw T c loop σ p before' warns left (record { place = q; change = Nothing; taken = Nobody }) out' warns left) (sym v.1)
-        (clears-acts s small p 5 (omega arith) jump-reach put q w sw T σ _ loop (collect (states off) T (admitted All) 0 τ) v.2
+        subst (λ c. Acts sw T c loop σ p before' warns left (record { place = q; change = Nothing; taken = None }) out' warns left) (sym v.1)
+        (clears-acts s small p 5 (omega arith) jump-reach put q w sw T σ _ loop (collect (states off) T (admitted None) 0 τ) v.2
         (record { drops = ap (λ (b : Bool). collect (states off) T (λ l. b && in_loop loop l) 0 σ) on' ∙ sym ed; reports = ap (λ (b : Bool). left_behind T b (four s (p.at + 1)) (at_jump loop) σ) on'; settles = λ d. refl }) dr warns left);
   }
+
+  pub jump-left : (drops : Bool) (sw : Switches) → sw.jumps ≡ drops → (T : Tables) (σ τ : Scope Status) (loop : Maybe ℕ)
+      → collect (states off) T (admitted None) 0 τ ≡ collect (states off) T (λ l. in_loop loop l) 0 σ → ((m : ℕ) → gather (states off) T (admitted None) (left_at m) τ ≡ left_behind T false m (at_jump loop) σ) → {span : ℕ} → span ≡ four s (p.at + 1) → {p' : Place} → p' ≡ relisted p p'.lefts
+      → {put : Put} {out mid left left' : List ℕ} → Leaves drops T τ span p out left p' put mid left' → {q : Place} {out' : List ℕ} → Copied s p' put (p.at + 5) mid q out'
+      → (warns : List ℕ) → ActsThere sw T s loop σ p out warns left (record { place = q; change = Nothing; taken = None }) out' warns left'
+  jump-left true sw on T σ τ loop cs ls es e' {put} {out} {mid} {left} {left'} v {q} {out'} w warns =
+      let d = v.deletes refl in
+      subst (λ z. ActsThere sw T s loop σ p out warns left (record { place = q; change = Nothing; taken = None }) out' warns z) (sym d.1)
+      (jump-cleared put q (subst (λ z. Copied s z put (p.at + 5) mid q out') d.0 w) sw on T σ loop τ cs (d.2, d.3) warns left)
+  jump-left false sw off' T σ τ loop cs ls es e' v {q} w warns =
+      let d = v.lists refl in
+      jump-acts _ _ e' _ d.0 q w sw off' T σ loop τ ls _ es d.1 warns
 
 -- an expression statement
 delete-bytes : (p : ℕ) (e : Expr) → (10 ∷ (four_bytes p ++ two_bytes 0)) ++ encode_expr e ≡ encode_expr (delete_node p e)
@@ -442,19 +454,13 @@ delete-bytes p e =
     let z : encode_expr e ≡ (encode_expr e ++ []) ++ [] = sym (append-nil (encode_expr e ++ []) ∙ append-nil (encode_expr e)) in
     ap (λ l. (10 ∷ (four_bytes p ++ two_bytes 0)) ++ l) z
 
-own-bytes : (w : Bool) (callee at p : ℕ) (e : Expr) → callee ≡ cond w (callee_at e at) 0 → (w ≡ true → 0 < callee_at e at)
-    → wrapping callee p ++ encode_expr e ≡ encode_expr (cond w (delete_node p e) e)
-own-bytes true callee at p e ec pos =
-    let n : 0 < callee_at e at = pos refl in
-    rw (ne_eqb callee 0 (λ z. omega arith)) (delete-bytes p e)
-own-bytes false callee at p e ec pos = rw ec refl
+own-bytes : (w : Bool) (callee : Option ℕ) (at p : ℕ) (e : Expr) → callee ≡ cond w (Some (callee_at e at)) None → wrapping callee p ++ encode_expr e ≡ encode_expr (cond w (delete_node p e) e)
+own-bytes true callee at p e ec = rw ec (delete-bytes p e)
+own-bytes false callee at p e ec = rw ec refl
 
-own-told : (w : Bool) (callee at p : ℕ) (e : Expr) → callee ≡ cond w (callee_at e (at + 5)) 0 → (w ≡ true → 0 < callee_at e (at + 5))
-    → warning_at callee p ≡ unused w p e at
-own-told true callee at p e ec pos =
-    let n : 0 < callee_at e (at + 5) = pos refl in
-    rw (ne_eqb callee 0 (λ z. omega arith)) (ap (λ c. warning p c ∷ []) ec)
-own-told false callee at p e ec pos = rw ec refl
+own-told : (w : Bool) (callee : Option ℕ) (at p : ℕ) (e : Expr) → callee ≡ cond w (Some (callee_at e (at + 5))) None → warning_at callee p ≡ unused w p e at
+own-told true callee at p e ec = rw ec refl
+own-told false callee at p e ec = rw ec refl
 
 own-errors : (w : Bool) (p : ℕ) (e : Expr) (at : ℕ) → errors (unused w p e at) ≡ []
 own-errors true p e at = refl
@@ -468,15 +474,17 @@ own-lefts : (w : Bool) (p : ℕ) (e : Expr) (at : ℕ) → lefts (unused w p e a
 own-lefts true p e at = refl
 own-lefts false p e at = refl
 
-wrapped-room : (b : Bool) (p : ℕ) → length (cond b [] (10 ∷ (four_bytes p ++ two_bytes 0))) ≤ 7
+pub head-room : (callee : Option ℕ) (p : ℕ) → length (wrapping callee p) ≤ 7
 unfolding four_bytes two_bytes
-wrapped-room true p = omega arith
-wrapped-room false p = omega arith
+head-room None p = omega arith
+head-room (Some callee) p = omega arith
 
-pub head-room : (callee p : ℕ) → length (wrapping callee p) ≤ 7
-head-room callee p = wrapped-room (eqb callee 0) p
+-- a callee stands within the bytes
+pub callee-room : (callee : Option ℕ) (n : ℕ) → n ≤ 65536 → IfSome callee (λ c. c < n + 8) → IfSome callee (λ c. c < 4294967296)
+callee-room None n h b = b
+callee-room (Some c) n h b = omega arith
 
-pub warns-none : (b : Bool) {callee : ℕ} → callee ≡ 0 → (span : ℕ) (out : List ℕ) (written : ℕ) (warns : List ℕ) (told : ℕ)
+pub warns-none : (b : Bool) {callee : Option ℕ} → callee ≡ None → (span : ℕ) (out : List ℕ) (written : ℕ) (warns : List ℕ) (told : ℕ)
     → WarnsAt b callee span out written warns told (record { written = written; warnings = told }) out warns
 warns-none b e span out written warns told = record {
   bytes = λ n. rw e (none-stored out written);
@@ -486,16 +494,16 @@ warns-none b e span out written warns told = record {
   few = omega arith;
 }
 
-pub warns-some : (b : Bool) {callee span : ℕ} → (callee ≡ 0 → ⊥) → {m : ℕ} → m ≡ span → {out mid out' : List ℕ} {written next : ℕ} → Stored out written (10 ∷ (four_bytes m ++ two_bytes 0)) mid next
+pub warns-some : (b : Bool) {found : Option ℕ} {callee span : ℕ} → found ≡ Some callee → {m : ℕ} → m ≡ span → {out mid out' : List ℕ} {written next : ℕ} → Stored out written (10 ∷ (four_bytes m ++ two_bytes 0)) mid next
     → {warns warns' : List ℕ} {told more : ℕ} → Listed b (warning m callee ∷ []) warns mid told warns' out' more → more ≤ told + 73
-    → WarnsAt b callee span out written warns told (record { written = next; warnings = more }) out' warns'
-warns-some b {callee} {span} ne {m} es {out} {mid} {out'} {written} {next} a {warns} {warns'} {told} {more} l few =
-    subst (λ z. WarnsAt b callee z out written warns told (record { written = next; warnings = more }) out' warns') es
+    → WarnsAt b found span out written warns told (record { written = next; warnings = more }) out' warns'
+warns-some b {found} {callee} {span} is {m} es {out} {mid} {out'} {written} {next} a {warns} {warns'} {told} {more} l few =
+    subst (λ z. WarnsAt b found z out written warns told (record { written = next; warnings = more }) out' warns') es
     (record {
-      bytes = λ n. rw (ne_eqb callee 0 ne) (subst (λ (x : List ℕ). Stored out written (10 ∷ (four_bytes m ++ two_bytes 0)) x next) (sym (l.numbers n).0) a);
-      warned = λ n. rw (ne_eqb callee 0 ne) (l.numbers n).1;
-      lines = λ y h. rw (ne_eqb callee 0 ne) (subst (λ (x : List ℕ). Stored x told (shown_all (warning m callee ∷ [])) out' more) (past a h).0 (l.lines y));
-      long = rw (ne_eqb callee 0 ne) a.place;
+      bytes = λ n. rw is (subst (λ (x : List ℕ). Stored out written (10 ∷ (four_bytes m ++ two_bytes 0)) x next) (sym (l.numbers n).0) a);
+      warned = λ n. rw is (l.numbers n).1;
+      lines = λ y h. rw is (subst (λ (x : List ℕ). Stored x told (shown_all (warning m callee ∷ [])) out' more) (past a h).0 (l.lines y));
+      long = rw is a.place;
       few = few;
     })
 
@@ -511,7 +519,7 @@ module _ (s : List ℕ) (small : Bytes s) (p : Place) (end : ℕ) (g : FrontTher
       (omega arith, omega arith)
 
   -- what is copied and put
-  module _ {out o1 o2 out' warns warns' : List ℕ} {i j : ℕ} (callee : ℕ) (r : Warned) (head : Stored out p.written (slice p.at (p.at + 5) s) o1 i)
+  module _ {out o1 o2 out' warns warns' : List ℕ} {i j : ℕ} (callee : Option ℕ) (r : Warned) (head : Stored out p.written (slice p.at (p.at + 5) s) o1 i)
       (mid : WarnsAt p.paged callee (four s (p.at + 1)) o1 i warns p.warnings r o2 warns') (tail : Stored o2 r.written (slice (p.at + 5) end s) out' j) where
     abbrev pub place : Place
     place = record { at = end; last = p.at; written = j; errors = p.errors; warnings = r.warnings; lefts = p.lefts; inserted = p.inserted; fits = p.fits; paged = p.paged }
@@ -531,9 +539,9 @@ module _ (s : List ℕ) (small : Bytes s) (p : Place) (end : ℕ) (g : FrontTher
         record { on = omega arith; inside = b; written = omega arith; errors = omega arith; warnings = omega arith; lefts = omega arith; inserted = omega arith }
 
     pub expr-acts : (change : Change) (sw : Switches) (T : Tables) (σ : Scope Status)
-        → ((e : Expr) (next : ℕ) → Stands e s (p.at + 5) next → callee ≡ cond (auto T (ty_of e) && is_call (viewed e)) (callee_at e (p.at + 5)) 0)
+        → ((e : Expr) (next : ℕ) → Stands e s (p.at + 5) next → callee ≡ cond (auto T (ty_of e) && is_call (viewed e)) (Some (callee_at e (p.at + 5))) None)
         → ((e : Expr) (next : ℕ) → Stands e s (p.at + 5) next → change ≡ delete_of (deleted_name (viewed e)))
-        → (left : List ℕ) (loop : Option ℕ) → ActsThere sw T s loop σ p out warns left (record { place = place; change = change; taken = Nobody }) out' warns' left
+        → (left : List ℕ) (loop : Maybe ℕ) → ActsThere sw T s loop σ p out warns left (record { place = place; change = change; taken = None }) out' warns' left
     unfolding head_bytes value_flag value_count
     expr-acts change sw T σ ec ed left loop = record {
       acts = λ f t x next rest deep read.
@@ -544,16 +552,15 @@ module _ (s : List ℕ) (small : Bytes s) (p : Place) (end : ℕ) (g : FrontTher
           let z : end ≡ next = one_value s p.at end g 3 k (omega arith) refl v.0 next st in
           let n = w.end in
           let c = ec v.0 next st in
-          let pos : (auto T (ty_of v.0) && is_call (viewed v.0)) ≡ true → 0 < callee_at v.0 (p.at + 5) = λ y. callee-some v.0 (p.at + 5) (and-true (auto T (ty_of v.0)) (is_call (viewed v.0)) y).1 in
           let h : slice p.at (p.at + 5) s ≡ 3 ∷ four_bytes (four s (p.at + 1)) = written-slice (head_bytes_lem s small p.at 3 k l) in
           let m : slice (p.at + 5) end s ≡ encode_expr v.0 = ap (λ y. slice (p.at + 5) y s) z ∙ written-slice w in
           let span = four s (p.at + 1) in
           let wrap = auto T (ty_of v.0) && is_call (viewed v.0) in
-          let told : warning_at callee span ≡ unused wrap span v.0 p.at = own-told wrap callee p.at span v.0 c pos in
+          let told : warning_at callee span ≡ unused wrap span v.0 p.at = own-told wrap callee p.at span v.0 c in
           let whole : slice p.at (p.at + 5) s ++ (wrapping callee span ++ slice (p.at + 5) end s) ≡ (3 ∷ four_bytes span) ++ encode_expr (cond wrap (delete_node span v.0) v.0) =
           ap (λ y. y ++ (wrapping callee span ++ slice (p.at + 5) end s)) h ∙ ap (λ y. (3 ∷ four_bytes span) ++ (wrapping callee span ++ y)) m
-          ∙ ap (λ y. (3 ∷ four_bytes span) ++ y) (own-bytes wrap callee (p.at + 5) span v.0 c pos) in
-          subst (λ y. Acts sw T y loop σ p out warns left (record { place = place; change = change; taken = Nobody }) out' warns' left) (sym (v.3 rest)) (record {
+          ∙ ap (λ y. (3 ∷ four_bytes span) ++ y) (own-bytes wrap callee (p.at + 5) span v.0 c) in
+          subst (λ y. Acts sw T y loop σ p out warns left (record { place = place; change = change; taken = None }) out' warns' left) (sym (v.3 rest)) (record {
             bytes = λ n. subst (λ y. Stored out p.written y out' j) whole (both_stored head (both_stored (mid.bytes n) tail));
             warned = λ n. subst (λ y. Stored warns p.warnings (entries_of version1 y) warns' r.warnings) (told ∙ sym (own-warnings wrap span v.0 p.at)) (mid.warned n);
             listed = λ n. subst (λ y. Stored left p.lefts (entries_of version1 y) left p.lefts) (sym (own-lefts wrap span v.0 p.at)) (none-stored left p.lefts);
@@ -597,25 +604,3 @@ jump-there s at end g low =
 -- the tag that the code tests
 pub tag-there : {s : List ℕ} {at end : ℕ} → FrontThere s at end → at < length s
 tag-there {s} {at} g = within s at (get_or s at 0) refl (stmt-tag g.f g.t s at g.x g.next g.read).0
-
-or_cases : (a b : Bool) → (a || b) ≡ true → (a ≡ true) ⊎ (b ≡ true)
-or_cases true b e = inl refl
-or_cases false b e = inr e
-
-pub variable-tag : (k : ℕ) → (eqb k 4 || eqb k 5) ≡ true → (3 < k) × (k < 6)
-variable-tag k e = ⊎_elim (λ a. let z = eqb-true k 4 a in (omega arith, omega arith)) (λ b. let z = eqb-true k 5 b in (omega arith, omega arith)) (or_cases (eqb k 4) (eqb k 5) e)
-
-or-none : (a b : Bool) → (a || b) ≡ false → (a ≡ false) × (b ≡ false)
-or-none true b e = false-true (sym e)
-or-none false b e = (refl, e)
-
-one_of : (k : ℕ) → (k ≡ 2 → ⊥) → (k ≡ 3 → ⊥) → (k ≡ 4 → ⊥) → (k ≡ 5 → ⊥) → (k ≡ 6 → ⊥) → 2 ≤ k → k ≤ 6 → ⊥
-one_of k n2 n3 n4 n5 n6 l h =
-    ⊎_elim (λ a. n2 (omega arith)) (λ a. ⊎_elim (λ b. n3 (omega arith)) (λ b. ⊎_elim (λ c. n4 (omega arith)) (λ c. ⊎_elim (λ d. n5 (omega arith)) (λ d. n6 (omega arith)) (less k 6)) (less k 5)) (less k 4)) (less k 3)
-
-pub plain-tag : (k : ℕ) → (k ≡ 2 → ⊥) → (k ≡ 3 → ⊥) → k ≤ 8 → (k ≡ 6 → ⊥) → (eqb k 4 || eqb k 5) ≡ false → Untouched k
-plain-tag k n2 n3 low n6 e =
-    let z = or-none (eqb k 4) (eqb k 5) e in
-    let n4 = eqb-false k 4 z.0 in
-    let n5 = eqb-false k 5 z.1 in
-    ⊎_elim {C = Untouched k} inl (λ l2. ⊎_elim {C = Untouched k} (λ l7. inr (l7, omega arith)) (λ l6. absurd (one_of k n2 n3 n4 n5 n6 l2 l6)) (less 6 k)) (less k 2)

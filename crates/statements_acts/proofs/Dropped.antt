@@ -7,8 +7,7 @@ use mathlib.Core.List.{List, [], ◌∷◌, ◌++◌}
 use native.Mathlib.Omega.{arith}
 use lib.ListN.{length, get_or}
 use Rattle.tables.specs.Tables.{Tables}
-use Rattle.tables_lookup.specs.declared.Found.{Found}
-use Rattle.tables_lookup.specs.declared.Found.TheVariants.{At, Nothing}
+use Rattle.std.specs.Prelude.{Option, Some, None}
 use Rattle.rules.specs.Expr.{called}
 use Rattle.rules.specs.Questions.{auto}
 use Rattle.tables.specs.Limits.{version1}
@@ -27,7 +26,6 @@ use Rattle.scope_stack.proofs.Words.{top_below, top-rest, word-zero, ones, many,
 use Rattle.scope_state.specs.Locals.{stacked, found_in, Finds}
 use Rattle.scope_state.proofs.Stacked.{stacked-more, stacked-none}
 use Rattle.statements_acts.specs.Drops.{admitted}
-use Rattle.statements_acts.specs.declared.Which.TheVariants.{All}
 use Rattle.statements_acts.specs.Marks.{static_in, lent, drop_in, Marked}
 use Rattle.statements_acts.proofs.Lent.{found_as}
 
@@ -46,9 +44,6 @@ bounded-more at m place put j place' put' b t lp lq =
     let l : j < b.n = top_below m j b.n t b.word in
     record { n = j; word = top-rest m j t; room = omega (arith, b.room); many = omega (arith, b.many) }
 
-pub bounded-one : (at m place put j : ℕ) → Bounded at m place put → Top m j → (place + 21 ≤ at + 1344) × (put + 1 ≤ 64)
-bounded-one at m place put j b t = let l : j < b.n = top_below m j b.n t b.word in (omega (arith, b.room), omega (arith, b.many))
-
 -- three numbers for each, or the 73 bytes of a line
 pub record Placed (at m place : ℕ) : Type 0 where
   pub n : ℕ
@@ -62,9 +57,6 @@ pub placed-more : (at m place j place' : ℕ) → Placed at m place → Top m j 
 placed-more at m place j place' b t lp =
     let l : j < b.n = top_below m j b.n t b.word in
     record { n = j; word = top-rest m j t; room = omega (arith, b.room) }
-
-pub placed_one : (at m place j : ℕ) → Placed at m place → Top m j → place + 73 ≤ at + 4672
-placed_one at m place j b t = let l : j < b.n = top_below m j b.n t b.word in omega (arith, b.room)
 
 and_assoc : (a b c : Bool) → ((a && b) && c) ≡ (a && (b && c))
 and_assoc true b c = refl
@@ -157,23 +149,23 @@ module _ {B : Type 0} (T : Tables) (names types depths births : List ℕ) (g : �
 
 -- the set bits of a mark are as many as the deletes by it, if no name is spared
 module _ {B : Type 0} (T : Tables) (names types depths births : List ℕ) (g : ℕ → Status) (says : Static → B) where
-  many-drops : (n : ℕ) → many n (drop_in T types g) ≡ length (some' T names types depths births g (admitted All) says n)
+  many-drops : (n : ℕ) → many n (drop_in T types g) ≡ length (some' T names types depths births g (admitted None) says n)
   unfolding stacked many
   many-drops zero = refl
   many-drops (suc n) =
-      by_bit (drop_in T types g n) (many n (drop_in T types g)) (says (static_in names types depths births n)) (some' T names types depths births g (admitted All) says n) (many-drops n)
+      by_bit (drop_in T types g n) (many n (drop_in T types g)) (says (static_in names types depths births n)) (some' T names types depths births g (admitted None) says n) (many-drops n)
     where
       by_bit : (b : Bool) (k : ℕ) (d : B) (ds : List B) → k ≡ length ds → cond b (suc k) k ≡ length (cond b (d ∷ ds) ds)
       by_bit true k d ds e = ap suc e
       by_bit false k d ds e = e
 
-  pub turns-drops : (n mark : ℕ) → n ≤ 64 → Marked T types g n mark → ones 64 mark ≡ length (some' T names types depths births g (admitted All) says n)
+  pub turns-drops : (n mark : ℕ) → n ≤ 64 → Marked T types g n mark → ones 64 mark ≡ length (some' T names types depths births g (admitted None) says n)
   turns-drops n mark le e = ap (ones 64) e ∙ ones-word n (drop_in T types g) le ∙ many-drops n
 
 -- the entries of what is left behind, in either form
 module _ (T : Tables) (names types depths births : List ℕ) (g : ℕ → Status) (paged : Bool) (span k : ℕ) (lefts₀ out₀ : List ℕ) (at₀ : ℕ) where
   abbrev Each : (List Report → List ℕ) → List ℕ → ℕ → List ℕ → ℕ → Type 0
-  Each f old m new at = (put : ℕ) × Left T names types depths births g (admitted All) (left_at span) f old at₀ k m new at put
+  Each f old m new at = (put : ℕ) × Left T names types depths births g (admitted None) (left_at span) f old at₀ k m new at put
 
   pub record Listing (m : ℕ) (lefts out : List ℕ) (at : ℕ) : Type 0 where
     pub numbers : paged ≡ false → (out ≡ out₀) × Each (entries_of version1) lefts₀ m lefts at
@@ -181,8 +173,8 @@ module _ (T : Tables) (names types depths births : List ℕ) (g : ℕ → Status
 
   pub listing-all : (m : ℕ) → m ≡ word_of k (drop_in T types g) → Listing m lefts₀ out₀ at₀
   listing-all m e = record {
-    numbers = λ n. (refl, (0, left-all T names types depths births g (admitted All) (left_at span) (entries_of version1) lefts₀ at₀ k m e));
-    lines = λ y. (0, left-all T names types depths births g (admitted All) (left_at span) shown_all out₀ at₀ k m e);
+    numbers = λ n. (refl, (0, left-all T names types depths births g (admitted None) (left_at span) (entries_of version1) lefts₀ at₀ k m e));
+    lines = λ y. (0, left-all T names types depths births g (admitted None) (left_at span) shown_all out₀ at₀ k m e);
   }
 
   module _ (m : ℕ) (lefts out : List ℕ) (at : ℕ) (h : Listing m lefts out at) where
@@ -195,38 +187,38 @@ module _ (T : Tables) (names types depths births : List ℕ) (g : ℕ → Status
             u.0 ∙ v.0,
             (
               v.1.0 + 1,
-              left-put T names types depths births g (admitted All) (left_at span) (entries_of version1) lefts₀ at₀ k m lefts at v.1.0 v.1.1 j w (span ∷ name ∷ born ∷ []) lefts' at' refl
+              left-put T names types depths births g (admitted None) (left_at span) (entries_of version1) lefts₀ at₀ k m lefts at v.1.0 v.1.1 j w (span ∷ name ∷ born ∷ []) lefts' at' refl
                   (λ x. rw (en, eb)) u.1,
             ),
           );
       lines = λ y.
           let v = h.lines y in (
             v.0 + 1,
-            left-put T names types depths births g (admitted All) (left_at span) shown_all out₀ at₀ k m out at v.0 v.1 j w (shown_all (left span name born ∷ [])) out' at' refl
+            left-put T names types depths births g (admitted None) (left_at span) shown_all out₀ at₀ k m out at v.0 v.1 j w (shown_all (left span name born ∷ [])) out' at' refl
                 (λ x. rw (en, eb, shown-more, shown-single)) (l.lines y),
           );
     }
 
-    pub listing_none : m ≤ 0 → Listed paged (some' T names types depths births g (admitted All) (left_at span) k) lefts₀ out₀ at₀ lefts out at
+    pub listing_none : m ≤ 0 → Listed paged (some' T names types depths births g (admitted None) (left_at span) k) lefts₀ out₀ at₀ lefts out at
     listing_none z = record {
       numbers = λ n.
           let v = h.numbers n in
-          (v.0, (left-none T names types depths births g (admitted All) (left_at span) (entries_of version1) lefts₀ at₀ k m lefts at v.1.0 v.1.1 refl z).0);
+          (v.0, (left-none T names types depths births g (admitted None) (left_at span) (entries_of version1) lefts₀ at₀ k m lefts at v.1.0 v.1.1 refl z).0);
       lines = λ y.
           let v = h.lines y in
-          (left-none T names types depths births g (admitted All) (left_at span) shown_all out₀ at₀ k m out at v.0 v.1 shown-none z).0;
+          (left-none T names types depths births g (admitted None) (left_at span) shown_all out₀ at₀ k m out at v.0 v.1 shown-none z).0;
     }
 
 -- no local of the name, or its newest local
-module _ (T : Tables) (names types depths births : List ℕ) (g : ℕ → Status) (k p n s : ℕ) (r : Found) (f : Finds names k n r) where
-  drop-is : (x : Found) → r ≡ x → drop_named (states off) T (λ l. true) p (called n s) (lent names types depths births g k) ≡ drop_newest (states off) T (λ l. true) p n (found_in names types depths births g x)
+module _ (T : Tables) (names types depths births : List ℕ) (g : ℕ → Status) (k p n s : ℕ) (r : Option ℕ) (f : Finds names k n r) where
+  drop-is : (x : Option ℕ) → r ≡ x → drop_named (states off) T (λ l. true) p (called n s) (lent names types depths births g k) ≡ drop_newest (states off) T (λ l. true) p n (found_in names types depths births g x)
   drop-is x e = ap (drop_newest (states off) T (λ l. true) p n) (found_as f types depths births g e)
 
-  pub assign-none : r ≡ Nothing → drop_named (states off) T (λ l. true) p (called n s) (lent names types depths births g k) ≡ []
-  assign-none e = drop-is Nothing e
+  pub assign-none : r ≡ None → drop_named (states off) T (λ l. true) p (called n s) (lent names types depths births g k) ≡ []
+  assign-none e = drop-is None e
 
-  pub assign-kept : (i : ℕ) → r ≡ At i → drop_in T types g i ≡ false → drop_named (states off) T (λ l. true) p (called n s) (lent names types depths births g k) ≡ []
-  assign-kept i e off = drop-is (At i) e ∙ ap (λ (b : Bool). cond b (drop_of p n (get_or types i 0) ∷ []) []) off
+  pub assign-kept : (i : ℕ) → r ≡ Some i → drop_in T types g i ≡ false → drop_named (states off) T (λ l. true) p (called n s) (lent names types depths births g k) ≡ []
+  assign-kept i e off = drop-is (Some i) e ∙ ap (λ (b : Bool). cond b (drop_of p n (get_or types i 0) ∷ []) []) off
 
-  pub assign-drop : (i : ℕ) → r ≡ At i → drop_in T types g i ≡ true → drop_named (states off) T (λ l. true) p (called n s) (lent names types depths births g k) ≡ drop_of p n (get_or types i 0) ∷ []
-  assign-drop i e on = drop-is (At i) e ∙ ap (λ (b : Bool). cond b (drop_of p n (get_or types i 0) ∷ []) []) on
+  pub assign-drop : (i : ℕ) → r ≡ Some i → drop_in T types g i ≡ true → drop_named (states off) T (λ l. true) p (called n s) (lent names types depths births g k) ≡ drop_of p n (get_or types i 0) ∷ []
+  assign-drop i e on = drop-is (Some i) e ∙ ap (λ (b : Bool). cond b (drop_of p n (get_or types i 0) ∷ []) []) on

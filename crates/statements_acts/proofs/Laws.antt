@@ -2,33 +2,20 @@
 -- Assumes nothing.
 use Prim.Native.Nat.{ℕ, suc, ◌+◌}
 use mathlib.Core.Path.{◌≡◌, sym, ap, ◌∙◌, subst}
-use mathlib.Core.Bool.{Bool, true, not}
+use mathlib.Core.Bool.{Bool}
 use mathlib.Core.List.{List, [], ◌∷◌, ◌++◌, append-nil}
 use native.Mathlib.Omega.{arith}
-use lib.Dec.{eqb}
 use lib.ListN.{length}
 use Rattle.image_fields.specs.Bytes.{four_bytes}
 use Rattle.tables.specs.Tables.{Tables}
 use Rattle.tables_lookup.specs.Ty.{should_auto_delete}
 use Rattle.image_encoding.specs.Body.{encode_expr}
 use Rattle.rules.specs.Questions.{auto}
-use Rattle.rules.specs.Stack.{Static}
 use Rattle.rules.specs.Rules.{Drop, drop_of}
 use Rattle.rules.specs.Report.{delete_node, ident_node}
 use Rattle.image_writing.specs.Stored.{Stored}
 use Rattle.image_writing.proofs.Stores.{none-stored, both_stored}
 use Rattle.statements_steps.specs.Drops.{delete_bytes}
-use Rattle.statements_acts.specs.Drops.{admitted}
-use Rattle.statements_acts.specs.declared.Which.{Which}
-use Rattle.statements_acts.specs.declared.Which.TheVariants.{But, All}
-
--- what is deleted, case by case
-module _ (w : Which) (l : Static) where
-  pub but-admits : (n name : ℕ) → w ≡ But n → l.name ≡ name → not (eqb name n) ≡ admitted w l
-  but-admits n name e en = ap (λ (x : ℕ). not (eqb x n)) (sym en) ∙ ap (λ (x : Which). admitted x l) (sym e)
-
-  pub all-admits : w ≡ All → true ≡ admitted w l
-  all-admits e = ap (λ (x : Which). admitted x l) (sym e)
 
 -- the question to the tables
 pub auto-is : (T : Tables) {r : Bool} (k t : ℕ) → k ≡ t → r ≡ should_auto_delete T.types T.structs k → r ≡ auto T t

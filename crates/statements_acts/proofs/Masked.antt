@@ -16,7 +16,7 @@ use Rattle.scope_stack.specs.Word.{word_at}
 use Rattle.scope_stack.proofs.Words.{word_same}
 use Rattle.scope_state.specs.Locals.{stacked}
 use Rattle.statements_acts.specs.Drops.{admitted}
-use Rattle.statements_acts.specs.declared.Which.TheVariants.{All}
+use Rattle.std.specs.Prelude.{None}
 use Rattle.statements_acts.specs.Marks.{static_in, lent, drop_in, Marked}
 
 -- what is said of the locals from base on; those before it count as given up
@@ -40,7 +40,7 @@ module _ (T : Tables) (types : List ℕ) (g : ℕ → Status) (base : ℕ) where
   -- and by it those locals are deleted, and no others, whatever tells them apart
   module _ {B : Type 0} (names depths births : List ℕ) (q : Static → Bool) (says : Static → B) where
     pub since-drops : (n : ℕ) → ((i : ℕ) → i < n → q (static_in names types depths births i) ≡ leb base i)
-        → gather (states off) T (admitted All) says (lent names types depths births (state_since base g) n) ≡ gather (states off) T q says (lent names types depths births g n)
+        → gather (states off) T (admitted None) says (lent names types depths births (state_since base g) n) ≡ gather (states off) T q says (lent names types depths births g n)
     unfolding stacked
     since-drops zero h = refl
     since-drops (suc n) h =

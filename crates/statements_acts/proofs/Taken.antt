@@ -5,7 +5,6 @@ use mathlib.Core.Bool.{Bool, true, false, not, ◌&&◌}
 use mathlib.Core.Option.{none, some}
 use Prim.Native.Nat.{ℕ}
 use lib.Dec.{eqb}
-use borrow.Author.Tests.{eq-eqb, ne_eqb}
 use Rattle.tables.specs.Tables.{Tables}
 use Rattle.image_body.specs.Expr.{Expr}
 use Rattle.rules.specs.Questions.{is_temp_of}
@@ -16,7 +15,8 @@ use Rattle.rules.specs.Stack.{Static, Shape, static_of, Stack as Scope}
 use Rattle.rules.specs.Effects.{deleted_by, deleted_in, take_named, take_over, take_from, assign_takes}
 use Rattle.rules.specs.Rules.{states, apply_all, revived, off}
 use Rattle.statements_acts.specs.declared.Named.{Named}
-use Rattle.statements_acts.specs.declared.Named.TheVariants.{Nobody, Called}
+use Rattle.std.specs.Prelude.{Option, Some, None}
+use Rattle.std.specs.Bool.{then_some}
 use Rattle.statements_acts.specs.Act.{named_of, change_in, taken_in}
 use Rattle.statements_acts.specs.Parts.{deleted_name, delete_of, revive_of, takes_over}
 
@@ -31,48 +31,38 @@ last-false false true false = refl
 last-false false false true = refl
 last-false false false false = refl
 
-third-false : (a b d : Bool) → false ≡ (a && b && false && d)
-third-false true true d = refl
-third-false true false d = refl
-third-false false true d = refl
-third-false false false d = refl
-
-second-only : (b : Bool) → b ≡ (true && b && true && true)
-second-only true = refl
-second-only false = refl
+reorder : (a b c d : Bool) → (((a && d) && c) && b) ≡ (a && b && c && d)
+reorder true true true true = refl
+reorder true true true false = refl
+reorder true true false true = refl
+reorder true true false false = refl
+reorder true false true true = refl
+reorder true false true false = refl
+reorder true false false true = refl
+reorder true false false false = refl
+reorder false b c d = refl
 
 module _ (T : Tables) (Γ : Shape) (m n t : ℕ) where
-  pub takes_same : m ≡ n → false ≡ takes_over T Γ m n t
-  takes_same e = rw (eq-eqb m n e) refl
-
   pub takes_none : static_of m Γ ≡ none → false ≡ takes_over T Γ m n t
   takes_none e = rw e (last-false (not (eqb m n)) (is_temp_of T m) (not (is_temp_of T n)))
 
-  pub takes-other : {s : Static} → static_of m Γ ≡ some s → (s.ty ≡ t → ⊥) → false ≡ takes_over T Γ m n t
-  takes-other {s} e ne = rw (e, ne_eqb s.ty t ne) (last-false (not (eqb m n)) (is_temp_of T m) (not (is_temp_of T n)))
-
-  pub takes-temp : is_temp_of T n ≡ true → false ≡ takes_over T Γ m n t
-  takes-temp e = rw e (third-false (not (eqb m n)) (is_temp_of T m) _)
-
-  pub takes-last : {s : Static} {r : Bool} → (m ≡ n → ⊥) → static_of m Γ ≡ some s → s.ty ≡ t → is_temp_of T n ≡ false → r ≡ is_temp_of T m → r ≡ takes_over T Γ m n t
-  takes-last {s} ne e et en er = rw (ne_eqb m n ne, e, eq-eqb s.ty t et, en, ← er) (second-only _)
+  pub takes-all : {s : Static} → static_of m Γ ≡ some s → {a b r : Bool} → a ≡ (not (eqb m n) && eqb s.ty t) → b ≡ (a && not (is_temp_of T n)) → r ≡ (b && is_temp_of T m) → r ≡ takes_over T Γ m n t
+  takes-all {s} e ea eb er = rw (e, er, eb, ea) (reorder (not (eqb m n)) (is_temp_of T m) (not (is_temp_of T n)) (eqb s.ty t))
 
 -- what a name takes over of a value
 module _ (T : Tables) (Γ : Shape) (n t : ℕ) (e : Expr) (σ : Scope Status) where
-  pub value_none : {r : Named} → named_of r ≡ name_in (viewed e) → r ≡ Nobody → σ ≡ apply_all (states off) (take_over T Γ n t e) σ
+  pub value_none : {r : Option Named} → named_of r ≡ name_in (viewed e) → r ≡ None → σ ≡ apply_all (states off) (take_over T Γ n t e) σ
   unfolding take_over
   value_none g er = ap (λ x. apply_all (states off) (take_named T Γ n t x) σ) (sym (ap named_of er) ∙ g)
 
-  module _ {r : Named} {m p : ℕ} (g : named_of r ≡ name_in (viewed e)) (er : r ≡ Called m p) where
-    asked : take_named T Γ n t (called m p) ≡ take_over T Γ n t e
+  module _ {r : Option Named} {x : Named} (g : named_of r ≡ name_in (viewed e)) (er : r ≡ Some x) where
+    asked : take_named T Γ n t (called x.name x.span) ≡ take_over T Γ n t e
     unfolding take_over
     asked = ap (take_named T Γ n t) (sym (ap named_of er) ∙ g)
 
-    pub value_taken : {b : Bool} → b ≡ takes_over T Γ m n t → b ≡ true → taken_in (Called m p) σ ≡ apply_all (states off) (take_over T Γ n t e) σ
-    value_taken eb y = rw (← asked, ← eb, y) refl
-
-    pub value-left : {b : Bool} → b ≡ takes_over T Γ m n t → b ≡ false → σ ≡ apply_all (states off) (take_over T Γ n t e) σ
-    value-left eb y = rw (← asked, ← eb, y) refl
+    pub value_taken : (b : Bool) → b ≡ takes_over T Γ x.name n t → taken_in (then_some b x) σ ≡ apply_all (states off) (take_over T Γ n t e) σ
+    value_taken true eb = rw (← asked, ← eb) refl
+    value_taken false eb = rw (← asked, ← eb) refl
 
 -- what a local's name takes over of a value
 module _ (T : Tables) (Γ : Shape) (n : ℕ) (e : Expr) (σ : Scope Status) where
@@ -84,12 +74,12 @@ module _ (T : Tables) (Γ : Shape) (n : ℕ) (e : Expr) (σ : Scope Status) wher
   from_some {l} z et eo = rw z (eo ∙ ap (λ x. apply_all (states off) (take_over T Γ n x e) σ) (sym et))
 
 -- what an assignment to a name takes over
-module _ (T : Tables) (Γ : Shape) (e v : Expr) {r : Named} (g : named_of r ≡ name_in (viewed e)) (σ : Scope Status) where
-  pub assign-none : r ≡ Nobody → σ ≡ apply_all (states off) (assign_takes T Γ e v) σ
+module _ (T : Tables) (Γ : Shape) (e v : Expr) {r : Option Named} (g : named_of r ≡ name_in (viewed e)) (σ : Scope Status) where
+  pub assign-none : r ≡ None → σ ≡ apply_all (states off) (assign_takes T Γ e v) σ
   unfolding assign_takes
   assign-none er = rw (← g, er) refl
 
-  pub assign-named : {m p : ℕ} → r ≡ Called m p → {o : Scope Status} → o ≡ apply_all (states off) (take_from T Γ m (static_of m Γ) v) σ → o ≡ apply_all (states off) (assign_takes T Γ e v) σ
+  pub assign-named : {x : Named} → r ≡ Some x → {o : Scope Status} → o ≡ apply_all (states off) (take_from T Γ x.name (static_of x.name Γ) v) σ → o ≡ apply_all (states off) (assign_takes T Γ e v) σ
   unfolding assign_takes
   assign-named er eo = rw (← g, er) eo
 

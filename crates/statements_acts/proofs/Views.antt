@@ -21,6 +21,8 @@ use Rattle.tables.specs.Tables.{Tables}
 use Rattle.rules.specs.Questions.{auto}
 use Rattle.rules.specs.Expr.{View, an_ident, a_this, a_delete, other, field_view, delete_view, call_view, view_of, view, nobody, called, ident_in, name_in, is_call, ty_of, callee_at, callee_in}
 use Rattle.expressions_effects.proofs.Laws.{name-at, inner, later}
+use Rattle.std.specs.Prelude.{Option, Some, None, IfSome}
+use Rattle.std.specs.Bool.{then_some}
 use Rattle.statements_acts.specs.declared.Named.{Named}
 use Rattle.statements_acts.specs.declared.Change.TheVariants.{Nothing}
 use Rattle.statements_acts.specs.Act.{named_of}
@@ -154,7 +156,7 @@ module _ (s : List ℕ) (at p : ℕ) (looked : Looked s at p) where
     unfolding node_of
     no-delete-at h e next st = sym (ap delete_of (no-delete-view s p next (through e) (looked e next st) (λ t. h _ (ev ∙ ap (node_of s p) t))))
 
-    pub delete-at : {child : ℕ} → v ≡ Delete child → (r : Named) → ((e : Expr) (next : ℕ) → Stands e s child next → named_of r ≡ name_in (view e))
+    pub delete-at : {child : ℕ} → v ≡ Delete child → (r : Option Named) → ((e : Expr) (next : ℕ) → Stands e s child next → named_of r ≡ name_in (view e))
         → (e : Expr) (next : ℕ) → Stands e s at next → delete_of (named_of r) ≡ delete_of (deleted_name (view e))
     unfolding node_of
     delete-at {child} ed r f e next st =
@@ -206,12 +208,20 @@ and_none : (a b : Bool) → b ≡ false → (a && b) ≡ false
 and_none true b e = e
 and_none false b e = refl
 
+pub some_below : (r : Bool) {x n : ℕ} → x < n → IfSome (then_some r x) (λ y. y < n)
+some_below true h = h
+some_below false h = tt
+
+some_where : (r : Bool) {c : Bool} → c ≡ true → {x y : ℕ} → x ≡ y → then_some r x ≡ cond (r && c) (Some y) None
+some_where true e en = rw (e, en) refl
+some_where false e en = refl
+
 -- the result of a call, as the code asks
 module _ (s : List ℕ) (at p : ℕ) (looked : Looked s at p) {v : Node} (ev : v ≡ node_at s p) where
-  pub no-call-at : ((m : ℕ) → v ≡ Call m → ⊥) → (T : Tables) (e : Expr) (next : ℕ) → Stands e s at next → 0 ≡ cond (auto T (ty_of e) && is_call (view e)) (callee_at e at) 0
+  pub no-call-at : ((m : ℕ) → v ≡ Call m → ⊥) → (T : Tables) (e : Expr) (next : ℕ) → Stands e s at next → None ≡ cond (auto T (ty_of e) && is_call (view e)) (Some (callee_at e at)) None
   unfolding node_of
   no-call-at h T e next st =
-      sym (ap (λ b. cond b (callee_at e at) 0) (and_none (auto T (ty_of e)) _ (no-call-view s p next (through e) (looked e next st) (λ t. h _ (ev ∙ ap (node_of s p) t)))))
+      sym (ap (λ b. cond b (Some (callee_at e at)) None) (and_none (auto T (ty_of e)) _ (no-call-view s p next (through e) (looked e next st) (λ t. h _ (ev ∙ ap (node_of s p) t)))))
 
   pub callee-in : {child : ℕ} → v ≡ Call child → (get_or s p 0 ≡ 6) × (child ≡ p + 7) × (p < length s)
   unfolding node_of
@@ -225,23 +235,8 @@ module _ (s : List ℕ) (at p : ℕ) (looked : Looked s at p) {v : Node} (ev : v
     answered : r ≡ auto T (ty_of e)
     answered = er ∙ ap (auto T) (head_at s at next e st).1.ty
 
-    pub callee_at_lem : r ≡ true → child ≡ cond (auto T (ty_of e) && is_call (view e)) (callee_at e at) 0
-    callee_at_lem y =
+    pub callee_at_lem : then_some r child ≡ cond (auto T (ty_of e) && is_call (view e)) (Some (callee_at e at)) None
+    callee_at_lem =
         let i = callee-in ec in
         let c : is_call (view e) ≡ true = call-view s p next (through e) (looked e next st) i.0 in
-        rw (← answered, y, c) (i.1 ∙ callee-is e s at p next st (looked e next st) c)
-
-    pub kept_at : r ≡ false → 0 ≡ cond (auto T (ty_of e) && is_call (view e)) (callee_at e at) 0
-    kept_at y = rw (← answered, y) refl
-
--- a callee stands at no 0
-mutual
-  unfolding through through_first callee_at callee_in
-
-  pub callee-some : (e : Expr) (at : ℕ) → is_call (view e) ≡ true → 0 < callee_at e at
-  callee-some (node h ks xs) at c = some-by ks (noop_unary h) h xs at c
-
-  some-by : (ks : Exprs) (b : Bool) (h : Head) (xs : Exprs) (at : ℕ) → is_call (view_of (through_first ks b (node h ks xs))) ≡ true → 0 < callee_in ks b at
-  some-by none b h xs at c = false-true (sym (none-no-call h (eqb h.tag 1) (eqb h.tag 2) (eqb h.tag 6) (eqb h.tag 10) (eqb h.tag 11)) ∙ c)
-  some-by (more d ds) true h xs at c = callee-some d (at + 8) c
-  some-by (more d ds) false h xs at c = omega arith
+        rw (← answered) (some_where r c (i.1 ∙ callee-is e s at p next st (looked e next st) c))

@@ -1,6 +1,6 @@
 -- What the code of a statement does, whatever statement was read there.
-use Rattle.std.specs.Prelude.{ℕ, ◌+◌, ◌*◌, ◌≤◌, ◌≡◌, true, false, List, length}
-use Rattle.std.proofs.Math.Option.{Option}
+use Rattle.std.specs.Prelude.{ℕ, ◌+◌, ◌*◌, ◌≤◌, ◌≡◌, true, false, List, length, Some, None, Option}
+use Rattle.std.proofs.Math.Option.{Option as Maybe}
 use Rattle.image_fields.specs.Parsed.{Parsed, ok}
 use Rattle.tables.specs.Limits.{version1}
 use Rattle.tables.specs.Tables.{Tables}
@@ -17,7 +17,6 @@ use Rattle.image_writing.specs.Stored.{Stored}
 use Rattle.image_lines.specs.Lined.{Cursors, cursors}
 use Rattle.image_lines.specs.Told.{Lined}
 use Rattle.statements_acts.specs.declared.Named.{Named}
-use Rattle.statements_acts.specs.declared.Named.TheVariants.{Nobody, Called}
 use Rattle.statements_acts.specs.declared.Change.{Change}
 use Rattle.statements_acts.specs.declared.Change.TheVariants.{Nothing, Delete, Register, Revive}
 use Rattle.statements_acts.specs.declared.Place.{Place}
@@ -25,9 +24,9 @@ use Rattle.statements_acts.specs.declared.Act.{Act}
 use Rattle.statements_steps.specs.Statement.{front_size, front_drops, front_bytes, front_reports, settle}
 
 -- the code's names and changes
-abbrev pub named_of : Named → rules.Named
-named_of Nobody = rules.nobody
-named_of (Called n p) = rules.called n p
+abbrev pub named_of : Option Named → rules.Named
+named_of None = rules.nobody
+named_of (Some x) = rules.called x.name x.span
 
 abbrev pub change_in : ℕ → Change → Scope Status → Scope Status
 change_in d Nothing σ = σ
@@ -35,9 +34,9 @@ change_in d (Delete n p) σ = mark n ((states off).killed deleted p) σ
 change_in d (Register n t p) σ = register (states off) (declared d p n t) σ
 change_in d (Revive n) σ = mark n (λ a. alive) σ
 
-abbrev pub taken_in : Named → Scope Status → Scope Status
-taken_in Nobody σ = σ
-taken_in (Called n p) σ = mark n ((states off).killed deleted p) σ
+abbrev pub taken_in : Option Named → Scope Status → Scope Status
+taken_in None σ = σ
+taken_in (Some x) σ = mark x.name ((states off).killed deleted x.span) σ
 
 -- some statement was read at a position, and its values end there
 pub record FrontThere (s : List ℕ) (at end : ℕ) : Type 0 where
@@ -76,7 +75,7 @@ cursors_at p = cursors p.errors p.warnings p.lefts
 
 -- The statement c up to its blocks, in a loop whose body has that depth, if any, walked from a place: what is stored, where the walk stands
 -- then, and how the locals change. Where a page is made, the output ends no later than the place, and no byte is stored but its lines
-pub record Acts (w : Switches) (T : Tables) (c : Tree) (loop : Option ℕ) (σ : Scope Status) (p : Place) (out warns left : List ℕ) (a : Act) (out' warns' left' : List ℕ) : Type 0 where
+pub record Acts (w : Switches) (T : Tables) (c : Tree) (loop : Maybe ℕ) (σ : Scope Status) (p : Place) (out warns left : List ℕ) (a : Act) (out' warns' left' : List ℕ) : Type 0 where
   pub bytes : p.paged ≡ false → Stored out p.written (front_bytes w T c loop σ) out' a.place.written
   pub warned : p.paged ≡ false → Stored warns p.warnings (entries_of version1 (warnings (front_reports w T c loop p.at σ))) warns' a.place.warnings
   pub listed : p.paged ≡ false → Stored left p.lefts (entries_of version1 (lefts (front_reports w T c loop p.at σ))) left' a.place.lefts
@@ -91,6 +90,6 @@ pub record Acts (w : Switches) (T : Tables) (c : Tree) (loop : Option ℕ) (σ :
   pub settles : (d : ℕ) → taken_in a.taken (change_in d a.change σ) ≡ settle T c d σ
 
 -- of whatever statement was read at the place, before whatever follows it
-pub record ActsThere (w : Switches) (T : Tables) (s : List ℕ) (loop : Option ℕ) (σ : Scope Status) (p : Place) (out warns left : List ℕ) (a : Act) (out' warns' left' : List ℕ) : Type 0 where
+pub record ActsThere (w : Switches) (T : Tables) (s : List ℕ) (loop : Maybe ℕ) (σ : Scope Status) (p : Place) (out warns left : List ℕ) (a : Act) (out' warns' left' : List ℕ) : Type 0 where
   pub acts : (f : ℕ → Parsed Block) (t : Reading) (x : Stmt) (next : ℕ) (r : Tree) → t.expr_depth ≡ 24 → stmt_at f t s p.at ≡ ok x next
       → Acts w T (before x r) loop σ p out warns left a out' warns' left'

@@ -1,10 +1,8 @@
 -- Which locals are deleted or left behind.
-use Rattle.std.specs.Prelude.{Bool, true, not, eqb}
+use Rattle.std.specs.Prelude.{ℕ, Bool, true, not, eqb, Some, None, Option}
 use Rattle.rules.specs.Stack.{Static}
-use Rattle.statements_acts.specs.declared.Which.{Which}
-use Rattle.statements_acts.specs.declared.Which.TheVariants.{But, All}
 
--- whether a local that the mark has is deleted
-abbrev pub admitted : Which → Static → Bool
-admitted (But n) l = not (eqb l.name n)
-admitted All l = true
+-- whether a local that the mark has is deleted: all but those of the name that is spared, if any
+abbrev pub admitted : Option ℕ → Static → Bool
+admitted (Some n) l = not (eqb l.name n)
+admitted None l = true

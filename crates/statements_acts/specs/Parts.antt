@@ -1,5 +1,5 @@
 -- What the parts of a statement's code do.
-use Rattle.std.specs.Prelude.{ℕ, ◌+◌, ◌≤◌, ◌<◌, ◌≡◌, ◌⊎◌, List, [], ◌∷◌, ◌++◌, Bool, true, false, cond, not, ◌&&◌, length, eqb}
+use Rattle.std.specs.Prelude.{ℕ, ◌+◌, ◌≤◌, ◌<◌, ◌≡◌, ◌⊎◌, List, [], ◌∷◌, ◌++◌, Bool, true, false, not, ◌&&◌, length, eqb, Some, None, Option}
 use Rattle.std.proofs.Math.Seq.{slice}
 use Rattle.image_fields.specs.Bytes.{two_bytes, four_bytes}
 use Rattle.tables.specs.Limits.{version1}
@@ -7,15 +7,18 @@ use Rattle.tables.specs.Tables.{Tables}
 use Rattle.rules.specs.Questions.{is_temp_of}
 use Rattle.rules.specs.Expr as rules
 use Rattle.rules.specs.Expr.{View, an_ident, a_this, a_field, a_delete, a_call, other, view, name_in}
-use Rattle.rules.specs.Stack.{Shape, static_of}
+use Rattle.rules.specs.State.{State as Status}
+use Rattle.rules.specs.Stack.{Shape, static_of, Stack as Scope}
+use Rattle.rules.specs.Rules.{states, gather, collect, off}
 use Rattle.rules.specs.Effects.{ty_is}
-use Rattle.rules.specs.Report.{Report, warning}
+use Rattle.rules.specs.Report.{Report, warning, left_at}
 use Rattle.rules.specs.Verdict.{entries_of}
 use Rattle.image_writing.specs.Stored.{Stored}
 use Rattle.image_lines.specs.Lined.{shown_all}
+use Rattle.image_lines.specs.Told.{Listed}
+use Rattle.statements_steps.specs.Drops.{delete_bytes}
+use Rattle.statements_acts.specs.Drops.{admitted}
 use Rattle.statements_acts.specs.declared.Put.{Put}
-use Rattle.statements_acts.specs.declared.Which.{Which}
-use Rattle.statements_acts.specs.declared.Which.TheVariants.{But, All}
 use Rattle.statements_acts.specs.declared.Change.{Change}
 use Rattle.statements_acts.specs.declared.Change.TheVariants.{Nothing, Delete, Revive}
 use Rattle.statements_acts.specs.declared.Place.{Place}
@@ -38,10 +41,10 @@ abbrev pub revive_of : rules.Named → Change
 revive_of rules.nobody = Nothing
 revive_of (rules.called n p) = Revive n
 
--- the locals that a return deletes: all but the returned name
-abbrev pub sparing : rules.Named → Which
-sparing rules.nobody = All
-sparing (rules.called n p) = But n
+-- the name that a return spares: the returned one
+abbrev pub sparing : rules.Named → Option ℕ
+sparing rules.nobody = None
+sparing (rules.called n p) = Some n
 
 -- whether the name m is a temporary of the type t that n takes over
 abbrev pub takes_over : Tables → Shape → ℕ → ℕ → ℕ → Bool
@@ -67,20 +70,28 @@ pub record Copied (s : List ℕ) (p : Place) (put : Put) (to : ℕ) (out : List 
   pub fits : q.fits ≡ p.fits
   pub paged : q.paged ≡ p.paged
 
--- the delete round the result of the call whose callee stands there, its warning; neither at 0
-abbrev pub wrapping : ℕ → ℕ → List ℕ
-wrapping callee span = cond (eqb callee 0) [] (10 ∷ (four_bytes span ++ two_bytes 0))
+-- the delete round the result of the call whose callee stands there, its warning; neither without one
+abbrev pub wrapping : Option ℕ → ℕ → List ℕ
+wrapping None span = []
+wrapping (Some callee) span = 10 ∷ (four_bytes span ++ two_bytes 0)
 
-abbrev pub warning_at : ℕ → ℕ → List Report
-warning_at callee span = cond (eqb callee 0) [] (warning span callee ∷ [])
+abbrev pub warning_at : Option ℕ → ℕ → List Report
+warning_at None span = []
+warning_at (Some callee) span = warning span callee ∷ []
 
 -- both stored
-pub record WarnsAt (paged : Bool) (callee span : ℕ) (out : List ℕ) (written : ℕ) (warns : List ℕ) (told : ℕ) (r : Warned) (out' warns' : List ℕ) : Type 0 where
+pub record WarnsAt (paged : Bool) (callee : Option ℕ) (span : ℕ) (out : List ℕ) (written : ℕ) (warns : List ℕ) (told : ℕ) (r : Warned) (out' warns' : List ℕ) : Type 0 where
   pub bytes : paged ≡ false → Stored out written (wrapping callee span) out' r.written
   pub warned : paged ≡ false → Stored warns told (entries_of version1 (warning_at callee span)) warns' r.warnings
   pub lines : paged ≡ true → length out ≤ written → Stored out told (shown_all (warning_at callee span)) out' r.warnings
   pub long : r.written ≡ written + length (wrapping callee span)
   pub few : r.warnings ≤ told + 73
+
+-- what a mark's locals come to where they would be left behind: deletes with span 0, or reports with a span
+pub record Leaves (drops : Bool) (T : Tables) (σ : Scope Status) (span : ℕ) (p : Place) (out left : List ℕ) (q : Place) (put : Put) (out' left' : List ℕ) : Type 0 where
+  pub deletes : drops ≡ true → (q ≡ p) × (left' ≡ left)
+      × Stored out p.written (delete_bytes (collect (states off) T (admitted None) 0 σ)) out' put.at × (put.count ≡ length (collect (states off) T (admitted None) 0 σ))
+  pub lists : drops ≡ false → (put ≡ no_put p) × Listed p.paged (gather (states off) T (admitted None) (left_at span) σ) left out p.lefts left' out' q.lefts
 
 -- Block, IfElse, While
 abbrev pub Untouched : ℕ → Type 0

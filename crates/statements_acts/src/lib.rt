@@ -1,9 +1,9 @@
 // What each kind of statement writes before its blocks, and how it changes the scope stack: the arms of transform_block. Throughout,
-// tb has the tables of the image s, ns where the names stand, ln and lt the names and types of the n locals, all lent, and mark is the mark of the stack: a bit for each local that is Alive and of a type with a destructor.
+// tb has the tables of the image s, ns where the names stand, both lent, l the locals, and mark is the mark of the stack: a bit for each local that is Alive and of a type with a destructor.
 #![tactic(auto)]
 
-ghost use Rattle.std.specs.Prelude.{◌≡◌, true, cond, ◌&&◌, ◌||◌, List, [], ◌∷◌, map, ℕ, ◌+◌, ◌/◌, ◌%◌, ◌≤◌, ◌<◌, eqb, length, get_or};
-ghost use Rattle.std.proofs.Math.Option.{Option};
+ghost use Rattle.std.specs.Prelude.{◌≡◌, true, cond, ◌&&◌, ◌||◌, List, [], ◌∷◌, map, ℕ, ◌+◌, ◌/◌, ◌%◌, ◌≤◌, ◌<◌, eqb, length, get_or, IfSome};
+ghost use Rattle.std.proofs.Math.Option.{Option as Maybe};
 ghost use Rattle.image_fields.specs.Number.{four};
 ghost use Rattle.tables.specs.Tables.{Tables};
 ghost use Rattle.tables.specs.Name.{name_of};
@@ -24,24 +24,21 @@ ghost use Rattle.rules_page.specs.Page.{blanks};
 ghost use Rattle.image_lines.specs.Told.{Listed, left_begin};
 ghost use Rattle.statements_steps.specs.Drops.{delete_bytes};
 ghost use Rattle.statements_acts.specs.Drops.{admitted};
-ghost use Rattle.statements_acts.specs.declared.Which.TheVariants.{All};
 ghost use Rattle.statements_acts.specs.declared.Change.TheVariants.{Nothing};
-ghost use Rattle.statements_acts.specs.declared.Named.TheVariants.{Nobody};
 ghost use Rattle.statements_acts.specs.Act.{named_of, taken_in, FrontThere, Within, Grows, ActsThere};
-ghost use Rattle.statements_acts.specs.Parts.{deleted_name, delete_of, revive_of, takes_over, no_put, sparing, relisted, Copied, WarnsAt, Untouched};
+ghost use Rattle.statements_acts.specs.Parts.{deleted_name, delete_of, revive_of, takes_over, no_put, sparing, relisted, Copied, WarnsAt, Untouched, Leaves};
 ghost use Rattle.statements_acts.specs.Marks.{lent, Marked, Looped, EndsThere};
 
-use expressions_effects::{name_at, span_at};
+use expressions_effects::{is_temp, name_at, span_at};
 use image_body::Node;
 use image_fields::peek;
-use scope_state::{Births, Names, Types};
-use tables_lookup::Found;
+use scope_stack::Locals;
 
-// A name and the span of its node, or none.
+// A name and the span of its node.
 #[derive(Clone, Copy)]
-pub enum Named {
-    Nobody,
-    Called(u16, u32),
+pub struct Named {
+    pub name: u16,
+    pub span: u32,
 }
 
 // How a statement changes the stack once its values are evaluated: a name is deleted at a place, a local of a name, type and birth is
@@ -75,14 +72,7 @@ pub struct Place {
 pub struct Act {
     pub place: Place,
     pub change: Change,
-    pub taken: Named,
-}
-
-// Which of the locals that a mark has are deleted: all but those of a name, all.
-#[derive(Clone, Copy)]
-pub enum Which {
-    But(u16),
-    All,
+    pub taken: Option<Named>,
 }
 
 // Where the bytes end, and how many deletes were put.
@@ -93,18 +83,21 @@ pub struct Put {
 }
 
 // The name of an Ident or a ThisLiteral, looked through.
-fn name_in(s: &[u8], at: usize) -> Named
+fn name_in(s: &[u8], at: usize) -> Option<Named>
     ensures { (e : Expr) (next : ℕ) → Stands e s.now at next → named_of result ≡ name_in (viewed e) }
 {
     let p = image_body::strip_noop_unary(s, at);
-    let tag = peek(s, p);
-    if tag == 1 {
-        return Named::Called(name_at(s, p + 7), span_at(s, p + 1));
+    match peek(s, p) {
+        1 => Some(Named {
+            name: name_at(s, p + 7),
+            span: span_at(s, p + 1),
+        }),
+        2 => Some(Named {
+            name: 0,
+            span: span_at(s, p + 1),
+        }),
+        _ => None,
     }
-    if tag == 2 {
-        return Named::Called(0, span_at(s, p + 1));
-    }
-    Named::Nobody
 }
 
 // deleted_identifier
@@ -116,104 +109,70 @@ fn deleted_identifier(s: &[u8], at: usize) -> Change
         return Change::Nothing;
     };
     match name_in(s, child) {
-        Named::Called(name, span) => Change::Delete(name, span),
-        Named::Nobody => Change::Nothing,
+        Some(named) => Change::Delete(named.name, named.span),
+        None => Change::Nothing,
     }
 }
 
-// Where the tag of a call's callee stands, if the expression is a call whose result should be deleted; else 0.
-fn unused_callee(s: &[u8], tb: &[u32], at: usize) -> usize
+// Where the tag of a call's callee stands, if the expression is a call whose result should be deleted.
+fn unused_callee(s: &[u8], tb: &[u32], at: usize) -> Option<usize>
     requires { Lent s.now tb.now × (at < length s.now) }
-    ensures { (result < length s.now + 8) × ((T : Tables) → Says s.now tb.now T
-        → (e : Expr) (next : ℕ) → Stands e s.now at next → result ≡ cond (auto T (ty_of e) && is_call (viewed e)) (callee_at e at) 0) }
+    ensures { IfSome result (λ c. c < length s.now + 8) × ((T : Tables) → Says s.now tb.now T
+        → (e : Expr) (next : ℕ) → Stands e s.now at next → result ≡ cond (auto T (ty_of e) && is_call (viewed e)) (Some (callee_at e at)) None) }
 {
     let p = image_body::strip_noop_unary(s, at);
     let Node::Call(callee) = image_body::node_at(s, p) else {
-        return 0;
+        return None;
     };
-    if tables_lookup::auto_deleted(tb, image_fields::peek_two(s, at + 5)) {
-        return callee;
-    }
-    0
+    let unused = tables_lookup::auto_deleted(tb, image_fields::peek_two(s, at + 5));
+    unused.then_some(callee)
 }
 
 // Whether a temporary is taken over by a name of a type: a local of that type, and the name no temporary.
-fn takes<'a>(
-    s: &[u8],
-    ns: &[u32],
-    ln: &'a Names,
-    lt: &'a Types,
-    n: usize,
-    temp: u16,
-    name: u16,
-    ty: u16,
-) -> bool
-    requires { AllWithin s.now ns.now × (n ≤ 64) }
+fn takes(s: &[u8], ns: &[u32], l: &Locals, temp: u16, name: u16, ty: u16) -> bool
+    requires { AllWithin s.now ns.now × (l.now.count ≤ 64) }
     ensures { (T : Tables) → map (name_of s.now) ns.now ≡ T.names
-        → (ld births : List ℕ) (g : ℕ → Status) → result ≡ takes_over T (shape (lent ln.now lt.now ld births g n)) temp name ty }
+        → (ld births : List ℕ) (g : ℕ → Status) → result ≡ takes_over T (shape (lent l.now.names l.now.types ld births g l.now.count)) temp name ty }
 {
-    if temp == name {
-        return false;
-    }
-    let found = scope_state::find_local(ln, n, temp);
-    let Found::At(i) = found else {
+    let Some(i) = scope_state::find_local(&l.names, l.count, temp) else {
         return false;
     };
-    if lt[i] != ty {
-        return false;
-    }
-    if expressions_effects::is_temp(s, ns, name) {
-        return false;
-    }
-    expressions_effects::is_temp(s, ns, temp)
+    temp != name && l.types[i] == ty && !is_temp(s, ns, name) && is_temp(s, ns, temp)
 }
 
 // consumed_compiler_temp_from_value: the value at a position is a temporary that a name of a type takes over.
-fn consumed_compiler_temp_from_value<'a>(
+fn consumed_compiler_temp_from_value(
     s: &[u8],
     ns: &[u32],
-    ln: &'a Names,
-    lt: &'a Types,
-    n: usize,
+    l: &Locals,
     value: usize,
     name: u16,
     ty: u16,
-) -> Named
-    requires { AllWithin s.now ns.now × (n ≤ 64) }
+) -> Option<Named>
+    requires { AllWithin s.now ns.now × (l.now.count ≤ 64) }
     ensures { (T : Tables) → map (name_of s.now) ns.now ≡ T.names
         → (ld births : List ℕ) (g : ℕ → Status) → (e : Expr) (next : ℕ) → Stands e s.now value next
-        → (σ : Scope Status) → taken_in result σ ≡ apply_all (states off) (take_over T (shape (lent ln.now lt.now ld births g n)) name ty e) σ }
+        → (σ : Scope Status) → taken_in result σ ≡ apply_all (states off) (take_over T (shape (lent l.now.names l.now.types ld births g l.now.count)) name ty e) σ }
 {
-    let named = name_in(s, value);
-    let Named::Called(temp, _) = named else {
-        return Named::Nobody;
-    };
-    if takes(s, ns, ln, lt, n, temp, name, ty) {
-        return named;
-    }
-    Named::Nobody
+    let named = name_in(s, value)?;
+    takes(s, ns, l, named.name, name, ty).then_some(named)
 }
 
 // consumed_compiler_temp_from_assign: the name is a local's, and the value at a position a temporary that it takes over.
-fn consumed_compiler_temp_from_assign<'a>(
+fn consumed_compiler_temp_from_assign(
     s: &[u8],
     ns: &[u32],
-    ln: &'a Names,
-    lt: &'a Types,
-    n: usize,
+    l: &Locals,
     value: usize,
     name: u16,
-) -> Named
-    requires { AllWithin s.now ns.now × (n ≤ 64) }
+) -> Option<Named>
+    requires { AllWithin s.now ns.now × (l.now.count ≤ 64) }
     ensures { (T : Tables) → map (name_of s.now) ns.now ≡ T.names
         → (ld births : List ℕ) (g : ℕ → Status) → (e : Expr) (next : ℕ) → Stands e s.now value next
-        → (σ : Scope Status) → taken_in result σ ≡ apply_all (states off) (take_from T (shape (lent ln.now lt.now ld births g n)) name (static_of name (shape (lent ln.now lt.now ld births g n))) e) σ }
+        → (σ : Scope Status) → taken_in result σ ≡ apply_all (states off) (take_from T (shape (lent l.now.names l.now.types ld births g l.now.count)) name (static_of name (shape (lent l.now.names l.now.types ld births g l.now.count))) e) σ }
 {
-    let found = scope_state::find_local(ln, n, name);
-    let Found::At(i) = found else {
-        return Named::Nobody;
-    };
-    consumed_compiler_temp_from_value(s, ns, ln, lt, n, value, name, lt[i])
+    let i = scope_state::find_local(&l.names, l.count, name)?;
+    consumed_compiler_temp_from_value(s, ns, l, value, name, l.types[i])
 }
 
 // The place behind a statement that began there, its bytes copied up to a position after so many deletes.
@@ -225,13 +184,9 @@ fn behind(s: &[u8], p: Place, put: Put, to: usize, out: &mut [u8]) -> Place
     Place {
         at: to,
         last: p.at,
-        written: written,
-        errors: p.errors,
-        warnings: p.warnings,
-        lefts: p.lefts,
+        written,
         inserted: p.inserted + put.count,
-        fits: p.fits,
-        paged: p.paged,
+        ..p
     }
 }
 
@@ -248,16 +203,11 @@ fn nothing_put(p: Place) -> Put
 // A statement that changes nothing and puts nothing in, up to a position.
 fn plain_statement(s: &[u8], p: Place, to: usize, out: &mut [u8]) -> Act
     requires { Within s.now p × FrontThere s.now p.at to × Untouched (get_or s.now p.at 0) }
-    ensures acts_there { (w : Switches) (T : Tables) (σ : Scope Status) (warns left : List ℕ) (loop : Option ℕ)
+    ensures acts_there { (w : Switches) (T : Tables) (σ : Scope Status) (warns left : List ℕ) (loop : Maybe ℕ)
         → ActsThere w T s.now loop σ p out.old warns left result out.new warns left }
     ensures grows { Grows s.now p result.place }
 {
-    let place = behind(s, p, nothing_put(p), to, out);
-    Act {
-        place: place,
-        change: Change::Nothing,
-        taken: Named::Nobody,
-    }
+    unchanged(behind(s, p, nothing_put(p), to, out))
 }
 
 // An expression statement: an unused result is deleted, with a warning.
@@ -270,7 +220,7 @@ fn expr_statement(
     warns: &mut [u32],
 ) -> Act
     requires { Lent s.now tb.now × Within s.now p × FrontThere s.now p.at end × (get_or s.now p.at 0 ≡ 3) }
-    ensures acts_there { (w : Switches) (T : Tables) → Says s.now tb.now T → (σ : Scope Status) (left : List ℕ) (loop : Option ℕ)
+    ensures acts_there { (w : Switches) (T : Tables) → Says s.now tb.now T → (σ : Scope Status) (left : List ℕ) (loop : Maybe ℕ)
         → ActsThere w T s.now loop σ p out.old warns.old left result out.new warns.new left }
     ensures grows { Grows s.now p result.place }
 {
@@ -282,19 +232,14 @@ fn expr_statement(
     let place = Place {
         at: end,
         last: p.at,
-        written: written,
-        errors: p.errors,
+        written,
         warnings: warned.warnings,
-        lefts: p.lefts,
-        inserted: p.inserted,
-        fits: p.fits,
-        paged: p.paged,
+        ..p
     };
-    let change = deleted_identifier(s, value);
     Act {
-        place: place,
-        change: change,
-        taken: Named::Nobody,
+        place,
+        change: deleted_identifier(s, value),
+        taken: None,
     }
 }
 
@@ -326,7 +271,7 @@ fn put_warning(
 // The delete round an unused result, and its warning.
 fn put_unused(
     s: &[u8],
-    callee: usize,
+    callee: Option<usize>,
     at: usize,
     paged: bool,
     out: &mut [u8],
@@ -334,15 +279,15 @@ fn put_unused(
     warns: &mut [u32],
     told: usize,
 ) -> Warned
-    requires { (callee < 4294967296) × (at < length s.now) × (written < 4294967200) × (told < 4294900000) }
+    requires { IfSome callee (λ c. c < 4294967296) × (at < length s.now) × (written < 4294967200) × (told < 4294900000) }
     ensures { WarnsAt «paged» callee (four s.now (at + 1)) out.old written warns.old told result out.new warns.new }
 {
-    if callee == 0 {
+    let Some(callee) = callee else {
         return Warned {
-            written: written,
+            written,
             warnings: told,
         };
-    }
+    };
     let span = span_at(s, at + 1);
     let next = image_writing::put_delete_head(out, written, span);
     let more = put_warning(paged, out, warns, told, span, callee as u32);
@@ -353,33 +298,24 @@ fn put_unused(
 }
 
 // A Let or Const.
-fn variable_statement<'a>(
-    s: &[u8],
-    ns: &[u32],
-    ln: &'a Names,
-    lt: &'a Types,
-    n: usize,
-    p: Place,
-    end: usize,
-    out: &mut [u8],
-) -> Act
-    requires { AllWithin s.now ns.now × (n ≤ 64) × Within s.now p × FrontThere s.now p.at end
+fn variable_statement(s: &[u8], ns: &[u32], l: &Locals, p: Place, end: usize, out: &mut [u8]) -> Act
+    requires { AllWithin s.now ns.now × (l.now.count ≤ 64) × Within s.now p × FrontThere s.now p.at end
         × (3 < get_or s.now p.at 0) × (get_or s.now p.at 0 < 6) }
     ensures acts_there { (w : Switches) (T : Tables) → map (name_of s.now) ns.now ≡ T.names
-        → (ld births : List ℕ) (g : ℕ → Status) → (warns left : List ℕ) (loop : Option ℕ)
-        → ActsThere w T s.now loop (lent ln.now lt.now ld births g n) p out.old warns left result out.new warns left }
+        → (ld births : List ℕ) (g : ℕ → Status) → (warns left : List ℕ) (loop : Maybe ℕ)
+        → ActsThere w T s.now loop (lent l.now.names l.now.types ld births g l.now.count) p out.old warns left result out.new warns left }
     ensures grows { Grows s.now p result.place }
 {
     let born = span_at(s, p.at + 1);
     let name = name_at(s, p.at + 5);
     let ty = name_at(s, p.at + 7);
     let value = p.at + 9;
-    let taken = consumed_compiler_temp_from_value(s, ns, ln, lt, n, value, name, ty);
+    let taken = consumed_compiler_temp_from_value(s, ns, l, value, name, ty);
     let place = behind(s, p, nothing_put(p), end, out);
     Act {
-        place: place,
+        place,
         change: Change::Register(name, ty, born),
-        taken: taken,
+        taken,
     }
 }
 
@@ -388,71 +324,53 @@ fn revived(s: &[u8], destination: usize) -> Change
     ensures { (e : Expr) (next : ℕ) → Stands e s.now destination next → result ≡ revive_of (name_in (viewed e)) }
 {
     match name_in(s, destination) {
-        Named::Called(name, _) => Change::Revive(name),
-        Named::Nobody => Change::Nothing,
+        Some(named) => Change::Revive(named.name),
+        None => Change::Nothing,
     }
 }
 
 // The temporary that an assignment to the destination at a position takes over.
-fn taken_by<'a>(
-    s: &[u8],
-    ns: &[u32],
-    ln: &'a Names,
-    lt: &'a Types,
-    n: usize,
-    destination: usize,
-) -> Named
-    requires { AllWithin s.now ns.now × (n ≤ 64) × Walkable s.now 24 destination }
+fn taken_by(s: &[u8], ns: &[u32], l: &Locals, destination: usize) -> Option<Named>
+    requires { AllWithin s.now ns.now × (l.now.count ≤ 64) × Walkable s.now 24 destination }
     ensures { (T : Tables) → map (name_of s.now) ns.now ≡ T.names
         → (ld births : List ℕ) (g : ℕ → Status) → (e v : Expr) (p q : ℕ) → Stands e s.now destination p → Stands v s.now p q
-        → (σ : Scope Status) → taken_in result σ ≡ apply_all (states off) (assign_takes T (shape (lent ln.now lt.now ld births g n)) e v) σ }
+        → (σ : Scope Status) → taken_in result σ ≡ apply_all (states off) (assign_takes T (shape (lent l.now.names l.now.types ld births g l.now.count)) e v) σ }
 {
-    let named = name_in(s, destination);
-    let Named::Called(name, _) = named else {
-        return Named::Nobody;
-    };
+    let named = name_in(s, destination)?;
     let value = image_body::skip(s, 24, destination);
-    consumed_compiler_temp_from_assign(s, ns, ln, lt, n, value, name)
+    consumed_compiler_temp_from_assign(s, ns, l, value, named.name)
 }
 
-fn number(x: u16) -> u32
-    ensures { result ≡ x }
+// Whether a local of a name is deleted where a name is spared, if any.
+fn admits(spared: Option<u16>, name: u16) -> bool
+    ensures { (x : Static) → x.name ≡ name → result ≡ admitted spared x }
 {
-    x as u32
+    spared != Some(name)
 }
 
-fn admits(which: Which, name: u16) -> bool
-    ensures { (l : Static) → l.name ≡ name → result ≡ admitted which l }
-{
-    match which {
-        Which::But(n) => name != n,
-        Which::All => true,
-    }
-}
-
-// collect_scope_drops, and the end of a block: the deletes of the locals that the mark has, newest first, with a span.
-pub fn put_drops<'a>(
-    names: &'a Names,
-    tys: &'a Types,
+// collect_scope_drops, and the end of a block: the deletes of the locals that the mark has, but for a name that is spared, newest first, with a span.
+pub fn put_drops(
+    l: &Locals,
     mark: u64,
-    which: Which,
+    spared: Option<u16>,
     span: u32,
     out: &mut [u8],
     at: usize,
 ) -> Put
     requires { at < 4294900000 }
-    ensures { (result.at ≤ at + 1344) × (result.count ≤ 64) × ((T : Tables) (depths births : List ℕ) (g : ℕ → Status) (n : ℕ) → Marked T tys.now g n mark
-        → Stored out.old at (delete_bytes (collect (states off) T (admitted which) span (lent names.now tys.now depths births g n))) out.new result.at
-        × (result.count ≡ length (collect (states off) T (admitted which) span (lent names.now tys.now depths births g n)))) }
+    ensures { (result.at ≤ at + 1344) × (result.count ≤ 64) × ((T : Tables) (depths births : List ℕ) (g : ℕ → Status) (n : ℕ) → Marked T l.now.types g n mark
+        → Stored out.old at (delete_bytes (collect (states off) T (admitted spared) span (lent l.now.names l.now.types depths births g n))) out.new result.at
+        × (result.count ≡ length (collect (states off) T (admitted spared) span (lent l.now.names l.now.types depths births g n)))) }
 {
     let mut m = mark;
     let mut place = at;
     let mut put = 0;
+    // the bits of a word, highest first (document 02, (b)): no index is counted through
     while 0 < m {
         let i = scope_stack::newest(m);
-        let name = names[i];
-        if admits(which, name) {
-            place = image_writing::put_delete(out, place, span, name, tys[i]);
+        let name = l.names[i];
+        if admits(spared, name) {
+            place = image_writing::put_delete(out, place, span, name, l.types[i]);
             put += 1;
         }
         m = scope_stack::without(m, i);
@@ -494,9 +412,8 @@ fn put_left(
 }
 
 // What a return without a value, a Break or a Continue leaves behind: the locals that a mark has, newest first, each as the span, the name and the birth.
-pub fn list_left<'a>(
-    names: &'a Names,
-    births: &'a Births,
+pub fn list_left(
+    l: &Locals,
     mark: u64,
     span: u32,
     paged: bool,
@@ -506,7 +423,7 @@ pub fn list_left<'a>(
 ) -> usize
     requires { n < 4294800000 }
     ensures { (result ≤ n + 4672) × ((T : Tables) (tys depths : List ℕ) (g : ℕ → Status) (k : ℕ) → Marked T tys g k mark
-        → Listed «paged» (gather (states off) T (admitted All) (left_at span) (lent names.now tys depths births.now g k)) lefts.old out.old n lefts.new out.new result) }
+        → Listed «paged» (gather (states off) T (admitted None) (left_at span) (lent l.now.names tys depths l.now.births g k)) lefts.old out.old n lefts.new out.new result) }
 {
     let mut text = [32u8; 73];
     begin_lefts(paged, span, &mut text);
@@ -521,8 +438,8 @@ pub fn list_left<'a>(
             lefts,
             at,
             span,
-            number(names[i]),
-            births[i],
+            u32::from(l.names[i]),
+            l.births[i],
         );
         rest = scope_stack::without(rest, i);
     }
@@ -530,81 +447,54 @@ pub fn list_left<'a>(
 }
 
 // pre_delete_before_assign: the newest local of a name, if the mark has it.
-pub fn put_assign_drop<'a>(
-    names: &'a Names,
-    tys: &'a Types,
-    count: usize,
+pub fn put_assign_drop(
+    l: &Locals,
     mark: u64,
     name: u16,
     span: u32,
     out: &mut [u8],
     at: usize,
 ) -> Put
-    requires { (count ≤ 64) × (at < 4294900000) }
-    ensures { (result.at ≤ at + 21) × (result.count ≤ 1) × ((T : Tables) (depths births : List ℕ) (g : ℕ → Status) → Marked T tys.now g count mark
-        → Stored out.old at (delete_bytes (drop_named (states off) T (λ l. true) span (called name 0) (lent names.now tys.now depths births g count))) out.new result.at
-        × (result.count ≡ length (drop_named (states off) T (λ l. true) span (called name 0) (lent names.now tys.now depths births g count)))) }
+    requires { (l.now.count ≤ 64) × (at < 4294900000) }
+    ensures { (result.at ≤ at + 21) × (result.count ≤ 1) × ((T : Tables) (depths births : List ℕ) (g : ℕ → Status) → Marked T l.now.types g l.now.count mark
+        → Stored out.old at (delete_bytes (drop_named (states off) T (λ x. true) span (called name 0) (lent l.now.names l.now.types depths births g l.now.count))) out.new result.at
+        × (result.count ≡ length (drop_named (states off) T (λ x. true) span (called name 0) (lent l.now.names l.now.types depths births g l.now.count)))) }
 {
-    let Found::At(i) = scope_state::find_local(names, count, name) else {
-        return Put { at: at, count: 0 };
+    let Some(i) = scope_state::find_local(&l.names, l.count, name) else {
+        return Put { at, count: 0 };
     };
     if !scope_stack::has_bit(mark, i) {
-        return Put { at: at, count: 0 };
+        return Put { at, count: 0 };
     }
-    let end = image_writing::put_delete(out, at, span, name, tys[i]);
+    let end = image_writing::put_delete(out, at, span, name, l.types[i]);
     Put { at: end, count: 1 }
 }
 
-// The locals that a return of the value at a position deletes.
-fn returned_identifier_name(s: &[u8], value: usize) -> Which
+// The name that a return of the value at a position spares.
+fn returned_identifier_name(s: &[u8], value: usize) -> Option<u16>
     ensures { (e : Expr) (next : ℕ) → Stands e s.now value next → result ≡ sparing (name_in (viewed e)) }
 {
-    match name_in(s, value) {
-        Named::Called(name, _) => Which::But(name),
-        Named::Nobody => Which::All,
-    }
+    let named = name_in(s, value)?;
+    Some(named.name)
 }
 
 // A Return with a value: deletes, with span 0, then the statement.
-fn return_statement<'a>(
-    s: &[u8],
-    ln: &'a Names,
-    lt: &'a Types,
-    mark: u64,
-    p: Place,
-    end: usize,
-    out: &mut [u8],
-) -> Act
+fn return_statement(s: &[u8], l: &Locals, mark: u64, p: Place, end: usize, out: &mut [u8]) -> Act
     requires { Within s.now p × FrontThere s.now p.at end × (get_or s.now p.at 0 ≡ 2) × (get_or s.now (p.at + 5) 0 ≡ 1) }
-    ensures acts_there { (w : Switches) (T : Tables) (ld births : List ℕ) (g : ℕ → Status) (n : ℕ) → Marked T lt.now g n mark → (warns left : List ℕ) (loop : Option ℕ)
-        → ActsThere w T s.now loop (lent ln.now lt.now ld births g n) p out.old warns left result out.new warns left }
+    ensures acts_there { (w : Switches) (T : Tables) (ld births : List ℕ) (g : ℕ → Status) (n : ℕ) → Marked T l.now.types g n mark → (warns left : List ℕ) (loop : Maybe ℕ)
+        → ActsThere w T s.now loop (lent l.now.names l.now.types ld births g n) p out.old warns left result out.new warns left }
     ensures grows { Grows s.now p result.place × EndsThere s.now p.at result.place.at }
 {
-    let which = returned_identifier_name(s, p.at + 6);
-    let put = put_drops(ln, lt, mark, which, 0, out, p.written);
-    let place = behind(s, p, put, end + 2, out);
-    Act {
-        place: place,
-        change: Change::Nothing,
-        taken: Named::Nobody,
-    }
+    let spared = returned_identifier_name(s, p.at + 6);
+    let put = put_drops(l, mark, spared, 0, out, p.written);
+    unchanged(behind(s, p, put, end + 2, out))
 }
 
 // The place after so many numbers of left-behind entries, or bytes of their lines.
 fn listed(p: Place, lefts: usize) -> Place
     ensures { result ≡ relisted p lefts }
 {
-    Place {
-        at: p.at,
-        last: p.last,
-        written: p.written,
-        errors: p.errors,
-        warnings: p.warnings,
-        lefts: lefts,
-        inserted: p.inserted,
-        fits: p.fits,
-        paged: p.paged,
-    }
+    Place { lefts, ..p }
 }
 
 // Whether a switch value has a switch on, by its bit: 1, 2, 4 or 8.
@@ -617,21 +507,41 @@ pub fn has_switch(switches: u32, bit: u32) -> bool
 
 // What a statement leaves where it changes nothing.
 fn unchanged(place: Place) -> Act
-    ensures { result ≡ record { place = place; change = Nothing; taken = Nobody } }
+    ensures { result ≡ record { place = place; change = Nothing; taken = None } }
 {
     Act {
-        place: place,
+        place,
         change: Change::Nothing,
-        taken: Named::Nobody,
+        taken: None,
     }
 }
 
-// A Return without a value: what it would leave behind is deleted before it, with span 0, or else listed.
-fn bare_return<'a>(
+// What a statement without a value would leave behind of the locals that a mark has: deleted before it, with span 0, or else listed.
+fn leave(
+    l: &Locals,
+    mark: u64,
+    drops: bool,
+    span: u32,
+    p: Place,
+    out: &mut [u8],
+    lefts: &mut [u32],
+) -> (Place, Put)
+    requires { (p.written < 4294800000) × (p.lefts < 4294800000) }
+    ensures stays { (result.0 ≡ relisted p result.0.lefts) × (result.0.lefts ≤ p.lefts + 4672) × (result.1.at ≤ p.written + 1344) × (result.1.count ≤ 64) }
+    ensures leaves { (T : Tables) (depths : List ℕ) (g : ℕ → Status) (n : ℕ) → Marked T l.now.types g n mark
+        → Leaves «drops» T (lent l.now.names l.now.types depths l.now.births g n) span p out.old lefts.old result.0 result.1 out.new lefts.new }
+{
+    if drops {
+        return (p, put_drops(l, mark, None, 0, out, p.written));
+    }
+    let left = list_left(l, mark, span, p.paged, out, lefts, p.lefts);
+    (listed(p, left), nothing_put(p))
+}
+
+// A Return without a value, by switch 1.
+fn bare_return(
     s: &[u8],
-    ln: &'a Names,
-    lt: &'a Types,
-    lb: &'a Births,
+    l: &Locals,
     mark: u64,
     switches: u32,
     p: Place,
@@ -639,26 +549,20 @@ fn bare_return<'a>(
     lefts: &mut [u32],
 ) -> Act
     requires { Within s.now p × FrontThere s.now p.at (p.at + 6) × (get_or s.now p.at 0 ≡ 2) × (get_or s.now (p.at + 5) 0 ≡ 0) }
-    ensures acts_there { (T : Tables) (ld : List ℕ) (g : ℕ → Status) (n : ℕ) → Marked T lt.now g n mark → (warns : List ℕ) (loop : Option ℕ)
-        → ActsThere (switches_of switches) T s.now loop (lent ln.now lt.now ld lb.now g n) p out.old warns lefts.old result out.new warns lefts.new }
+    ensures acts_there { (T : Tables) (ld : List ℕ) (g : ℕ → Status) (n : ℕ) → Marked T l.now.types g n mark → (warns : List ℕ) (loop : Maybe ℕ)
+        → ActsThere (switches_of switches) T s.now loop (lent l.now.names l.now.types ld l.now.births g n) p out.old warns lefts.old result out.new warns lefts.new }
     ensures grows { Grows s.now p result.place × EndsThere s.now p.at result.place.at }
 {
-    if has_switch(switches, 1) {
-        let all = Which::All;
-        let put = put_drops(ln, lt, mark, all, 0, out, p.written);
-        return unchanged(behind(s, p, put, p.at + 8, out));
-    }
+    let drops = has_switch(switches, 1);
     let span = span_at(s, p.at + 1);
-    let left = list_left(ln, lb, mark, span, p.paged, out, lefts, p.lefts);
-    unchanged(behind(s, listed(p, left), nothing_put(p), p.at + 8, out))
+    let (q, put) = leave(l, mark, drops, span, p, out, lefts);
+    unchanged(behind(s, q, put, p.at + 8, out))
 }
 
-// A Break or Continue, likewise, of the frames out to the nearest loop's body, that is of the locals from base on.
-fn jump_statement<'a>(
+// A Break or Continue, by switch 2, of the frames out to the nearest loop's body, that is of the locals from base on.
+fn jump_statement(
     s: &[u8],
-    ln: &'a Names,
-    lt: &'a Types,
-    lb: &'a Births,
+    l: &Locals,
     mark: u64,
     base: usize,
     switches: u32,
@@ -667,27 +571,21 @@ fn jump_statement<'a>(
     lefts: &mut [u32],
 ) -> Act
     requires { Within s.now p × FrontThere s.now p.at (p.at + 5) × (8 < get_or s.now p.at 0) × (base ≤ 64) }
-    ensures acts_there { (T : Tables) (ld : List ℕ) (g : ℕ → Status) (n : ℕ) → Marked T lt.now g n mark → (loop : Option ℕ) → Looped ld loop base n → (warns : List ℕ)
-        → ActsThere (switches_of switches) T s.now loop (lent ln.now lt.now ld lb.now g n) p out.old warns lefts.old result out.new warns lefts.new }
+    ensures acts_there { (T : Tables) (ld : List ℕ) (g : ℕ → Status) (n : ℕ) → Marked T l.now.types g n mark → (loop : Maybe ℕ) → Looped ld loop base n → (warns : List ℕ)
+        → ActsThere (switches_of switches) T s.now loop (lent l.now.names l.now.types ld l.now.births g n) p out.old warns lefts.old result out.new warns lefts.new }
     ensures grows { Grows s.now p result.place × EndsThere s.now p.at result.place.at }
 {
     let own = scope_stack::since(mark, base);
-    if has_switch(switches, 2) {
-        let all = Which::All;
-        let put = put_drops(ln, lt, own, all, 0, out, p.written);
-        return unchanged(behind(s, p, put, p.at + 5, out));
-    }
+    let drops = has_switch(switches, 2);
     let span = span_at(s, p.at + 1);
-    let left = list_left(ln, lb, own, span, p.paged, out, lefts, p.lefts);
-    unchanged(behind(s, listed(p, left), nothing_put(p), p.at + 5, out))
+    let (q, put) = leave(l, own, drops, span, p, out, lefts);
+    unchanged(behind(s, q, put, p.at + 5, out))
 }
 
 // A Return, by its flag.
-fn either_return<'a>(
+fn either_return(
     s: &[u8],
-    ln: &'a Names,
-    lt: &'a Types,
-    lb: &'a Births,
+    l: &Locals,
     mark: u64,
     switches: u32,
     p: Place,
@@ -696,90 +594,72 @@ fn either_return<'a>(
     lefts: &mut [u32],
 ) -> Act
     requires { Within s.now p × FrontThere s.now p.at end × (get_or s.now p.at 0 ≡ 2) }
-    ensures acts_there { (T : Tables) (ld : List ℕ) (g : ℕ → Status) (n : ℕ) → Marked T lt.now g n mark → (warns : List ℕ) (loop : Option ℕ)
-        → ActsThere (switches_of switches) T s.now loop (lent ln.now lt.now ld lb.now g n) p out.old warns lefts.old result out.new warns lefts.new }
+    ensures acts_there { (T : Tables) (ld : List ℕ) (g : ℕ → Status) (n : ℕ) → Marked T l.now.types g n mark → (warns : List ℕ) (loop : Maybe ℕ)
+        → ActsThere (switches_of switches) T s.now loop (lent l.now.names l.now.types ld l.now.births g n) p out.old warns lefts.old result out.new warns lefts.new }
     ensures grows { Grows s.now p result.place × EndsThere s.now p.at result.place.at }
 {
     if peek(s, p.at + 5) == 1 {
-        return return_statement(s, ln, lt, mark, p, end, out);
+        return return_statement(s, l, mark, p, end, out);
     }
-    bare_return(s, ln, lt, lb, mark, switches, p, out, lefts)
+    bare_return(s, l, mark, switches, p, out, lefts)
 }
 
 // pre_delete_before_assign: the destination at a position is an Ident, not a ThisLiteral.
-fn pre_delete_before_assign<'a>(
+fn pre_delete_before_assign(
     s: &[u8],
-    ln: &'a Names,
-    lt: &'a Types,
-    n: usize,
+    l: &Locals,
     mark: u64,
     destination: usize,
     span: u32,
     out: &mut [u8],
     at: usize,
 ) -> Put
-    requires { (n ≤ 64) × (at < 4294900000) }
-    ensures { (result.at ≤ at + 21) × (result.count ≤ 1) × ((w : Switches) (T : Tables) (ld births : List ℕ) (g : ℕ → Status) → Marked T lt.now g n mark
+    requires { (l.now.count ≤ 64) × (at < 4294900000) }
+    ensures { (result.at ≤ at + 21) × (result.count ≤ 1) × ((w : Switches) (T : Tables) (ld births : List ℕ) (g : ℕ → Status) → Marked T l.now.types g l.now.count mark
         → (e : Expr) (next : ℕ) → Stands e s.now destination next
-        → Stored out.old at (delete_bytes (assign_drops (states w) T (concerns w) span e (lent ln.now lt.now ld births g n))) out.new result.at
-        × (result.count ≡ length (assign_drops (states w) T (concerns w) span e (lent ln.now lt.now ld births g n)))) }
+        → Stored out.old at (delete_bytes (assign_drops (states w) T (concerns w) span e (lent l.now.names l.now.types ld births g l.now.count))) out.new result.at
+        × (result.count ≡ length (assign_drops (states w) T (concerns w) span e (lent l.now.names l.now.types ld births g l.now.count)))) }
 {
     let p = image_body::strip_noop_unary(s, destination);
     let Node::Ident(_) = image_body::node_at(s, p) else {
-        return Put { at: at, count: 0 };
+        return Put { at, count: 0 };
     };
     let name = name_at(s, p + 7);
-    put_assign_drop(ln, lt, n, mark, name, span, out, at)
+    put_assign_drop(l, mark, name, span, out, at)
 }
 
 // An Assign: its delete, then the statement.
-fn assign_statement<'a>(
+fn assign_statement(
     s: &[u8],
     ns: &[u32],
-    ln: &'a Names,
-    lt: &'a Types,
-    n: usize,
+    l: &Locals,
     mark: u64,
     p: Place,
     end: usize,
     out: &mut [u8],
 ) -> Act
-    requires { AllWithin s.now ns.now × (n ≤ 64) × Within s.now p × FrontThere s.now p.at end × (get_or s.now p.at 0 ≡ 6) }
+    requires { AllWithin s.now ns.now × (l.now.count ≤ 64) × Within s.now p × FrontThere s.now p.at end × (get_or s.now p.at 0 ≡ 6) }
     ensures acts_there { (w : Switches) (T : Tables) → map (name_of s.now) ns.now ≡ T.names
-        → (ld births : List ℕ) (g : ℕ → Status) → Marked T lt.now g n mark → (warns left : List ℕ) (loop : Option ℕ)
-        → ActsThere w T s.now loop (lent ln.now lt.now ld births g n) p out.old warns left result out.new warns left }
+        → (ld births : List ℕ) (g : ℕ → Status) → Marked T l.now.types g l.now.count mark → (warns left : List ℕ) (loop : Maybe ℕ)
+        → ActsThere w T s.now loop (lent l.now.names l.now.types ld births g l.now.count) p out.old warns left result out.new warns left }
     ensures grows { Grows s.now p result.place × EndsThere s.now p.at result.place.at }
 {
     let span = span_at(s, p.at + 1);
     let dst = p.at + 5;
-    let put = pre_delete_before_assign(s, ln, lt, n, mark, dst, span, out, p.written);
+    let put = pre_delete_before_assign(s, l, mark, dst, span, out, p.written);
     let place = behind(s, p, put, end + 2, out);
-    let change = revived(s, dst);
-    let taken = taken_by(s, ns, ln, lt, n, dst);
     Act {
-        place: place,
-        change: change,
-        taken: taken,
+        place,
+        change: revived(s, dst),
+        taken: taken_by(s, ns, l, dst),
     }
-}
-
-fn is_variable(tag: u8) -> bool
-    ensures { result ≡ (eqb tag 4 || eqb tag 5) }
-{
-    if tag == 4 {
-        return true;
-    }
-    tag == 5
 }
 
 // A statement up to its blocks: its tag is at the place, its values, evaluated, end at `end`.
-pub fn statement<'a>(
+pub fn statement(
     s: &[u8],
     tb: &[u32],
-    ln: &'a Names,
-    lt: &'a Types,
-    lb: &'a Births,
-    n: usize,
+    l: &Locals,
     mark: u64,
     base: usize,
     switches: u32,
@@ -789,30 +669,20 @@ pub fn statement<'a>(
     warns: &mut [u32],
     lefts: &mut [u32],
 ) -> Act
-    requires { Lent s.now tb.now × (n ≤ 64) × (base ≤ 64) × Within s.now p × FrontThere s.now p.at end }
+    requires { Lent s.now tb.now × (l.now.count ≤ 64) × (base ≤ 64) × Within s.now p × FrontThere s.now p.at end }
     ensures acts_there { (T : Tables) → Says s.now tb.now T
-        → (ld : List ℕ) (g : ℕ → Status) → Marked T lt.now g n mark → (loop : Option ℕ) → Looped ld loop base n
-        → ActsThere (switches_of switches) T s.now loop (lent ln.now lt.now ld lb.now g n) p out.old warns.old lefts.old result out.new warns.new lefts.new }
+        → (ld : List ℕ) (g : ℕ → Status) → Marked T l.now.types g l.now.count mark → (loop : Maybe ℕ) → Looped ld loop base l.now.count
+        → ActsThere (switches_of switches) T s.now loop (lent l.now.names l.now.types ld l.now.births g l.now.count) p out.old warns.old lefts.old result out.new warns.new lefts.new }
     ensures grows { Grows s.now p result.place × EndsThere s.now p.at result.place.at }
 {
-    let at = p.at;
-    let tag = s[at];
-    if tag == 2 {
-        return either_return(s, ln, lt, lb, mark, switches, p, end, out, lefts);
-    }
-    if tag == 3 {
-        return expr_statement(s, tb, p, end, out, warns);
-    }
-    if 8 < tag {
-        return jump_statement(s, ln, lt, lb, mark, base, switches, p, out, lefts);
-    }
     let names = 8 + tb[0] as usize;
     let ns = &tb[8..names];
-    if tag == 6 {
-        return assign_statement(s, ns, ln, lt, n, mark, p, end, out);
+    match s[p.at] {
+        2 => either_return(s, l, mark, switches, p, end, out, lefts),
+        3 => expr_statement(s, tb, p, end, out, warns),
+        4 | 5 => variable_statement(s, ns, l, p, end, out),
+        6 => assign_statement(s, ns, l, mark, p, end, out),
+        9.. => jump_statement(s, l, mark, base, switches, p, out, lefts),
+        _ => plain_statement(s, p, end, out),
     }
-    if is_variable(tag) {
-        return variable_statement(s, ns, ln, lt, n, p, end, out);
-    }
-    plain_statement(s, p, end, out)
 }

@@ -42,22 +42,25 @@ use Rattle.rules.proofs.Shapes.{shape-mark}
 use Rattle.statements_acts.specs.declared.Change.{Change}
 use Rattle.statements_acts.specs.declared.Change.TheVariants as change
 use Rattle.statements_acts.specs.declared.Named.{Named}
-use Rattle.statements_acts.specs.declared.Named.TheVariants.{Nobody, Called}
+use Rattle.std.specs.Prelude.{Option as Maybe, None, Some}
 use mathlib.Core.Bool.{cond}
 use mathlib.Core.Option.{some}
 use lib.Dec.{ltb}
 use Rattle.image_fields.proofs.Tests.{false-true}
+use Rattle.std.specs.declared.ops.ControlFlow.{ControlFlow}
+use Rattle.std.specs.declared.ops.ControlFlow.TheVariants.{Continue, Break}
+use Rattle.expressions_steps.specs.declared.Open.{Open}
 use Rattle.statements_changes.specs.declared.Came.{Came}
 use Rattle.statements_changes.specs.declared.Turn.TheVariants.{Blocks}
-use Rattle.statements_changes.specs.Turns.{retold, between_of, turn_of, came_of, Midst, Stood, Faulty, After}
+use Rattle.statements_changes.specs.Turns.{retold, between_of, turn_of, came_of, Midst, Stood, Faulty, AfterFlow}
 
 -- marks keep how many locals there are
 length_marked : (n : ℕ) (f : Status → Status) (σ : Scope Status) → length (mark n f σ) ≡ length σ
 length_marked n f σ = sym (length-shape (mark n f σ)) ∙ ap length (shape-mark n f σ) ∙ length-shape σ
 
-length_taken : (n : Named) (σ : Scope Status) → length (taken_in n σ) ≡ length σ
-length_taken Nobody σ = refl
-length_taken (Called n p) σ = length_marked n ((states off).killed deleted p) σ
+length_taken : (n : Maybe Named) (σ : Scope Status) → length (taken_in n σ) ≡ length σ
+length_taken None σ = refl
+length_taken (Some n) σ = length_marked n.name ((states off).killed deleted n.span) σ
 
 same-many : (σ τ : Scope Status) → length σ ≡ length τ → too_many version1 σ ≡ too_many version1 τ
 same-many σ τ e = ap (λ (k : ℕ). cond (ltb version1.locals k) (some 12) none) e
@@ -80,7 +83,7 @@ acts-retold sw T c loop σ p out warns left a out' warns' left' k h = record {
   settles = h.settles;
 }
 
-module _ (sw : Switches) (T : Tables) (s : List ℕ) (small : Bytes s) (left : ℕ) (loop : Option ℕ) (all : ℕ) (σ₀ : Scope Status) (p₀ : Place) (m₀ : Memory) (ns : List ℕ) (c : Cursor) (σ : Scope Status)
+module _ (sw : Switches) (T : Tables) (s : List ℕ) (small : Bytes s) (left : ℕ) (loop : Option ℕ) (all : ℕ) (σ₀ : Scope Status) (p₀ : Place) (m₀ : Memory) (ns : List Open) (c : Cursor) (σ : Scope Status)
     (out errs warns lefts out₁ warns₁ lefts₁ : List ℕ) (mi : Midst sw T s left (12 - left) loop all σ₀ p₀ m₀ ns c σ (memory out errs warns lefts)) (over : c.nodes ≤ 0)
     (a : Act) (acts : ActsThere sw T s loop σ (retold c.place 0) out warns lefts a out₁ warns₁ lefts₁) (few : length σ ≤ 64) where
   abbrev d : ℕ
@@ -187,9 +190,9 @@ module _ (sw : Switches) (T : Tables) (s : List ℕ) (small : Bytes s) (left : �
   taken-few τ e = few-locals (taken_in a.taken τ) (let k = length_taken a.taken τ in omega arith)
 
   -- what is to be done behind it
-  by-change : (b : Bool) (ch : Change) → blocked (get_or s c.place.at 0) ≡ b → a.change ≡ ch → (r : Came)
-      → r ≡ cond b (record { cursor = between_of (c.left - 1) behind Nobody; turn = Blocks (get_or s c.place.at 0) }) (record { cursor = between_of (c.left - 1) behind a.taken; turn = turn_of ch })
-      → After sw T s left (12 - left) loop all σ₀ p₀ m₀ ns r.cursor σ (memory out₁ errs warns₁ lefts₁) r.turn
+  by-change : (b : Bool) (ch : Change) → blocked (get_or s c.place.at 0) ≡ b → a.change ≡ ch → (r : ControlFlow Came Cursor)
+      → r ≡ cond b (Break (record { cursor = between_of (c.left - 1) behind None; turn = Blocks (get_or s c.place.at 0) })) (turn_of (between_of (c.left - 1) behind a.taken) ch)
+      → AfterFlow sw T s left (12 - left) loop all σ₀ p₀ m₀ ns r σ (memory out₁ errs warns₁ lefts₁)
   by-change true ch eb ec r er = rw er (acted-blocks eb)
   by-change false change.Nothing eb ec r er =
       rw er (stands σ (acted-leads eb (taken_in a.taken σ) (ap (λ (x : Change). taken_in a.taken (change_in (12 - left) x σ)) (sym ec)) (taken-few σ refl)))
@@ -208,6 +211,6 @@ module _ (sw : Switches) (T : Tables) (s : List ℕ) (small : Bytes s) (left : �
       rw er (stands (mark n (λ a. alive) σ) (acted-leads eb (taken_in a.taken (mark n (λ a. alive) σ))
       (ap (λ (x : Change). taken_in a.taken (change_in (12 - left) x σ)) (sym ec)) (taken-few (mark n (λ a. alive) σ) (length_marked n (λ a. alive) σ))))
 
-  pub acted-after : (r : Came) → r ≡ came_of (get_or s c.place.at 0) (c.left - 1) behind a.change a.taken
-      → After sw T s left (12 - left) loop all σ₀ p₀ m₀ ns r.cursor σ (memory out₁ errs warns₁ lefts₁) r.turn
+  pub acted-after : (r : ControlFlow Came Cursor) → r ≡ came_of (get_or s c.place.at 0) (c.left - 1) behind a.change a.taken
+      → AfterFlow sw T s left (12 - left) loop all σ₀ p₀ m₀ ns r σ (memory out₁ errs warns₁ lefts₁)
   acted-after r er = by-change (blocked (get_or s c.place.at 0)) a.change refl refl r er

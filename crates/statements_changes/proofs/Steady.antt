@@ -25,7 +25,7 @@ use Rattle.statements_steps.specs.Statement.{front_size}
 use Rattle.statements_steps.proofs.Before.{stmt-end}
 use Rattle.statements_steps.proofs.Plain.{blockless-size}
 use Rattle.statements_acts.specs.declared.Named.{Named}
-use Rattle.statements_acts.specs.declared.Named.TheVariants.{Nobody}
+use Rattle.std.specs.Prelude.{Option as Maybe, None, Some}
 use Rattle.statements_acts.specs.declared.Change.{Change}
 use Rattle.statements_acts.specs.declared.Change.TheVariants as change
 use Rattle.statements_acts.specs.declared.Place.{Place}
@@ -35,12 +35,14 @@ use Rattle.blocks_laws.specs.Walks.{StmtsThere, blocked}
 use Rattle.blocks_laws.proofs.Wrotes.{within_on}
 use Rattle.blocks_laws.proofs.Values.{ValuesAt, values-in, front-end}
 use Rattle.blocks_laws.proofs.Tags.{tag-there, no_blocks}
-use Rattle.expressions_scan.specs.Resumed.{opens}
+use Rattle.expressions_steps.specs.declared.Open.{Open}
+use Rattle.std.specs.declared.ops.ControlFlow.{ControlFlow}
+use Rattle.std.specs.declared.ops.ControlFlow.TheVariants.{Continue, Break}
 use Rattle.statements_acts.specs.Marks.{EndsThere}
 use Rattle.statements_changes.specs.declared.Turn.TheVariants.{Blocks}
 use Rattle.statements_changes.specs.declared.Cursor.{Cursor}
 use Rattle.statements_changes.specs.declared.Came.{Came}
-use Rattle.statements_changes.specs.Turns.{retold, between_of, turn_of, came_of, Begun, Steady, SomeSteady, Fit}
+use Rattle.statements_changes.specs.Turns.{retold, between_of, turn_of, came_of, cursor_of, Begun, Steady, SomeSteady, FitFlow}
 
 -- the next statement
 pub next-there : (s : List ℕ) (left n at : ℕ) → StmtsThere s left n at → 0 < n → StmtThere s left at
@@ -75,7 +77,7 @@ module _ (s : List ℕ) (left : ℕ) (c : Cursor) (st : SomeSteady s left c) (on
   ended : c.at ≡ vals.end
   ended =
       let z = go_on.ends here.x.front.values vals.end (record { stand = vals.standing.stand; many = vals.standing.many; shallow = vals.standing.shallow }) in
-      (finished (tables_of s []) s (opens st.ns) c.nodes c.at vals.end z.0 (omega arith) z.1).1
+      (finished (tables_of s []) s st.ns c.nodes c.at vals.end z.0 (omega arith) z.1).1
 
   pub front-there : FrontThere s c.place.at c.at
   front-there = record {
@@ -135,7 +137,7 @@ module _ (s : List ℕ) (left : ℕ) (c : Cursor) (st : SomeSteady s left c) (on
         let w = within-there in
         record { small = w.small; inside = w.inside; written = w.written; errors = le; warnings = w.warnings; lefts = w.lefts; inserted = w.inserted }
 
-    steady-plain : blocked (get_or s c.place.at 0) ≡ false → (taken : Named) (ns : List ℕ) → Steady s left ns (between_of (c.left - 1) behind taken)
+    steady-plain : blocked (get_or s c.place.at 0) ≡ false → (taken : Maybe Named) (ns : List Open) → Steady s left ns (between_of (c.left - 1) behind taken)
     steady-plain has taken ns =
         let plain = no_blocks s small read-there.t read-there.deep left c.place.at here.x here.next here.read behind walked has (done tt) in
         let e : here.next ≡ behind.at =
@@ -147,10 +149,10 @@ module _ (s : List ℕ) (left : ℕ) (c : Cursor) (st : SomeSteady s left c) (on
           within = λ h. false-true h;
         }
 
-    fit-by : (b : Bool) (ch : Change) → blocked (get_or s c.place.at 0) ≡ b → (r : Came)
-        → r ≡ cond b (record { cursor = between_of (c.left - 1) behind Nobody; turn = Blocks (get_or s c.place.at 0) }) (record { cursor = between_of (c.left - 1) behind a.taken; turn = turn_of ch })
-        → ((ns : List ℕ) → Fit s left ns r.cursor r.turn) × (r.cursor.left + 1 ≡ c.left) × (r.cursor.begun ≡ false)
-        × Grows s (retold c.place 0) (retold r.cursor.place 0)
+    fit-by : (b : Bool) (ch : Change) → blocked (get_or s c.place.at 0) ≡ b → (r : ControlFlow Came Cursor)
+        → r ≡ cond b (Break (record { cursor = between_of (c.left - 1) behind None; turn = Blocks (get_or s c.place.at 0) })) (turn_of (between_of (c.left - 1) behind a.taken) ch)
+        → ((ns : List Open) → FitFlow s left ns r) × ((cursor_of r).left + 1 ≡ c.left) × ((cursor_of r).begun ≡ false)
+        × Grows s (retold c.place 0) (retold (cursor_of r).place 0)
     fit-by true ch eb r er =
         let l = go_on.some in
         rw er (λ ns. (tag-there s small read-there.t read-there.deep left c.place.at here.x here.next here.read behind walked eb, as-within c.place.errors few-errors, eb, refl), omega arith, refl, grows-behind)
@@ -159,22 +161,12 @@ module _ (s : List ℕ) (left : ℕ) (c : Cursor) (st : SomeSteady s left c) (on
     fit-by false (change.Register n t p) eb r er = let l = go_on.some in rw er (λ ns. steady-plain eb a.taken ns, omega arith, refl, grows-behind)
     fit-by false (change.Revive n) eb r er = let l = go_on.some in rw er (λ ns. (steady-plain eb a.taken ns, omega arith), omega arith, refl, grows-behind)
 
-    pub fit-came : (r : Came) → r ≡ came_of (get_or s c.place.at 0) (c.left - 1) behind a.change a.taken
-        → ((ns : List ℕ) → Fit s left ns r.cursor r.turn) × (r.cursor.left + 1 ≡ c.left) × (r.cursor.begun ≡ false)
-        × Grows s (retold c.place 0) (retold r.cursor.place 0)
+    pub fit-came : (r : ControlFlow Came Cursor) → r ≡ came_of (get_or s c.place.at 0) (c.left - 1) behind a.change a.taken
+        → ((ns : List Open) → FitFlow s left ns r) × ((cursor_of r).left + 1 ≡ c.left) × ((cursor_of r).begun ≡ false)
+        × Grows s (retold c.place 0) (retold (cursor_of r).place 0)
     fit-came r er = fit-by (blocked (get_or s c.place.at 0)) a.change refl r er
 
--- the place that the code made
-pub within-told : {s : List ℕ} {p q : Place} → q ≡ p → Within s p → Within s q
-within-told {s} e w = subst (Within s) (sym e) w
-
-pub front-told : (s : List ℕ) (p q : Place) (end : ℕ) → q ≡ p → FrontThere s p.at end → FrontThere s q.at end
-front-told s p q end e f = subst (λ (x : Place). FrontThere s x.at end) (sym e) f
-
-pub acts-told : {sw : Switches} {T : Tables} {s : List ℕ} {loop : Option ℕ} {σ : Scope Status} {p q : Place} {out warns lefts out₁ warns₁ lefts₁ : List ℕ} {a : Act} → q ≡ p
-    → ActsThere sw T s loop σ q out warns lefts a out₁ warns₁ lefts₁ → ActsThere sw T s loop σ p out warns lefts a out₁ warns₁ lefts₁
-acts-told {sw} {T} {s} {loop} {σ} {p} {q} {out} {warns} {lefts} {out₁} {warns₁} {lefts₁} {a} e h = subst (λ (x : Place). ActsThere sw T s loop σ x out warns lefts a out₁ warns₁ lefts₁) e h
-
+-- the stack that the locals are
 pub acts-of : {sw : Switches} {T : Tables} {s : List ℕ} {loop : Option ℕ} {σ τ : Scope Status} {p : Place} {out warns lefts out₁ warns₁ lefts₁ : List ℕ} {a : Act} → σ ≡ τ
     → ActsThere sw T s loop τ p out warns lefts a out₁ warns₁ lefts₁ → ActsThere sw T s loop σ p out warns lefts a out₁ warns₁ lefts₁
 acts-of {sw} {T} {s} {loop} {σ} {τ} {p} {out} {warns} {lefts} {out₁} {warns₁} {lefts₁} {a} e h = subst (λ (x : Scope Status). ActsThere sw T s loop x p out warns lefts a out₁ warns₁ lefts₁) (sym e) h
@@ -184,9 +176,3 @@ grows-told {s} {p} {q} {z} e h = subst (λ (x : Place). Grows s x z) e h
 
 pub grows-as : {s : List ℕ} {p q z : Place} → Grows s p q → z ≡ q → Grows s p z
 grows-as {s} {p} {q} {z} h e = subst (Grows s p) (sym e) h
-
-pub came-told : (tag left : ℕ) {z y : Place} (ch : Change) (taken : Named) {r : Came} → r ≡ came_of tag left z ch taken → z ≡ y → r ≡ came_of tag left y ch taken
-came-told tag left ch taken e f = e ∙ ap (λ (x : Place). came_of tag left x ch taken) f
-
-pub ends-told : (s : List ℕ) (p q : Place) (to : ℕ) → q ≡ p → EndsThere s q.at to → EndsThere s p.at to
-ends-told s p q to e h = subst (λ (x : Place). EndsThere s x.at to) e h

@@ -18,7 +18,7 @@ use Rattle.expressions_steps.proofs.Start.{root, starts, ready-start}
 use Rattle.statements_returns.specs.declared.Front.{Front}
 use Rattle.statements_returns.specs.Front.{front_at}
 use Rattle.statements_acts.specs.declared.Named.{Named}
-use Rattle.statements_acts.specs.declared.Named.TheVariants.{Nobody, Called}
+use Rattle.std.specs.Prelude.{Option as Maybe, None, Some}
 use Rattle.statements_acts.specs.declared.Place.{Place}
 use Rattle.statements_acts.specs.Act.{taken_in, Grows}
 use Rattle.image_writing.specs.Memory.{Memory, memory}
@@ -26,13 +26,12 @@ use Rattle.blocks_laws.specs.Walks.{LeadsAll}
 use Rattle.blocks_laws.proofs.Values.{front-walkable, front-inside}
 use Rattle.blocks_laws.proofs.Wrotes.{grows_none}
 use Rattle.expressions_scan.specs.declared.Scanned.{Scanned}
-use Rattle.expressions_scan.specs.declared.Change.{Change}
-use Rattle.expressions_scan.specs.declared.Change.TheVariants as change
+use Rattle.expressions_scan.specs.declared.Mark.{Mark as MarkOf}
 use Rattle.expressions_scan.specs.Changes.{applied, Marks}
-use Rattle.expressions_scan.specs.Resumed.{opens, Came as CameTo, Going}
-use Rattle.expressions_scan.proofs.Nodes.{length-opens}
-use Rattle.statements_changes.specs.declared.Turn.{Turn}
-use Rattle.statements_changes.specs.declared.Turn.TheVariants.{Nothing, Over, Mark}
+use Rattle.expressions_scan.specs.Resumed.{Came as CameTo, Going}
+use Rattle.std.specs.declared.ops.ControlFlow.{ControlFlow}
+use Rattle.std.specs.declared.ops.ControlFlow.TheVariants.{Continue, Break}
+use Rattle.statements_changes.specs.declared.Turn.TheVariants.{Over, Mark}
 use Rattle.statements_changes.specs.declared.Cursor.{Cursor}
 use Rattle.statements_changes.specs.declared.Came.{Came}
 use Rattle.tables_lookup.specs.Lent.{Says}
@@ -41,15 +40,15 @@ use Rattle.statements_changes.proofs.Midst.{stood-begin}
 use Rattle.statements_changes.proofs.Steady.{next-there}
 
 -- what the start of a scan leaves
-abbrev pub Began : List ℕ → ℕ → List ℕ → Cursor → List ℕ → Cursor → Type 0
+abbrev pub Began : List ℕ → ℕ → List Open → Cursor → List Open → Cursor → Type 0
 Began s left ns c ns' r =
     ((sw : Switches) (T : Tables) (loop : Option ℕ) (all : ℕ) (σ₀ : Scope Status) (p₀ : Place) (m₀ : Memory) (σ : Scope Status) (out errs warns lefts : List ℕ)
     → Stood sw T s left (12 - left) loop all σ₀ p₀ m₀ ns c σ (memory out errs warns lefts) → Stood sw T s left (12 - left) loop all σ₀ p₀ m₀ ns' r σ (memory out errs warns lefts))
     × Steady s left ns' r × (r.begun ≡ true) × (r.left ≡ c.left) × (length ns' ≡ 26) × (ahead s r ≤ ahead s c) × (r.place ≡ c.place)
 
-module _ (s : List ℕ) (left : ℕ) (ns : List ℕ) (c : Cursor) (st : Steady s left ns c) where
-  module _ (free : c.taken ≡ Nobody) (some : 0 < c.left) (off : c.begun ≡ false) (ns' : List ℕ) where
-    start-at : top_of (opens ns') 1 ≡ root_of (front_at s c.place.at).values → length (opens ns') ≡ 26
+module _ (s : List ℕ) (left : ℕ) (ns : List Open) (c : Cursor) (st : Steady s left ns c) where
+  module _ (free : c.taken ≡ None) (some : 0 < c.left) (off : c.begun ≡ false) (ns' : List Open) where
+    start-at : top_of ns' 1 ≡ root_of (front_at s c.place.at).values → length ns' ≡ 26
         → Began s left ns c ns' (within_of c.left 1 (front_at s c.place.at).first c.place)
     start-at eo room =
         let there = next-there s left c.left c.place.at st.there some in
@@ -62,24 +61,24 @@ module _ (s : List ℕ) (left : ℕ) (ns : List ℕ) (c : Cursor) (st : Steady s
             between = λ h. false-true (sym h);
             within = λ h. record {
               some = some;
-              ready = ready-start s (opens ns') f.values f.first eo room le (front-walkable s left c.place.at there f refl) st.inside.small;
-              ends = λ es next z. (root es ∷ [], starts s (opens ns') f.values f.first es next eo le z.stand z.many z.shallow);
+              ready = ready-start s ns' f.values f.first eo room le (front-walkable s left c.place.at there f refl) st.inside.small;
+              ends = λ es next z. (root es ∷ [], starts s ns' f.values f.first es next eo le z.stand z.many z.shallow);
               most = let m = st.between off in omega arith;
               free = refl;
             };
           },
           refl,
           refl,
-          sym (length-opens ns') ∙ room,
+          room,
           let l = st.inside.small in rw (off, free) (omega arith),
           refl,
         )
 
-    pub began : (f : Front) → f ≡ front_at s c.place.at → (top_of (opens ns') 1 ≡ root_of f.values) × (length (opens ns') ≡ 26) → (r : Cursor) → r ≡ within_of c.left 1 f.first c.place
+    pub began : (f : Front) → f ≡ front_at s c.place.at → (top_of ns' 1 ≡ root_of f.values) × (length ns' ≡ 26) → (r : Cursor) → r ≡ within_of c.left 1 f.first c.place
         → Began s left ns c ns' r
     began f ef eo r er =
         subst (Began s left ns c ns') (sym er)
-        (subst (λ (g : Front). (top_of (opens ns') 1 ≡ root_of g.values) → Began s left ns c ns' (within_of c.left 1 g.first c.place)) (sym ef) (λ h. start-at h eo.1) eo.0)
+        (subst (λ (g : Front). (top_of ns' 1 ≡ root_of g.values) → Began s left ns c ns' (within_of c.left 1 g.first c.place)) (sym ef) (λ h. start-at h eo.1) eo.0)
 
   -- a statement was read at the place
   pub begun-room : c.begun ≡ true → c.place.errors + 219 * fuel s c.nodes c.at < 4294900000
@@ -91,7 +90,7 @@ module _ (s : List ℕ) (left : ℕ) (ns : List ℕ) (c : Cursor) (st : Steady s
       omega arith
 
   -- the scan goes on
-  pub steady-on : c.begun ≡ true → (ns' : List ℕ) (v : Scanned) → Going s (opens ns) c.nodes c.at c.place.errors (opens ns') v
+  pub steady-on : c.begun ≡ true → (ns' : List Open) (v : Scanned) → Going s ns c.nodes c.at c.place.errors ns' v
       → Steady s left ns' (within_of c.left v.nodes v.at (retold c.place v.told))
   steady-on on ns' v g =
       let b = st.within on in
@@ -109,23 +108,23 @@ module _ (s : List ℕ) (left : ℕ) (ns : List ℕ) (c : Cursor) (st : Steady s
       }
 
   -- what is taken over is owed between statements only
-  called-between : {n p : ℕ} → c.taken ≡ Called n p → c.begun ≡ false
-  called-between {n} {p} e = go c.begun refl
+  called-between : {n : Named} → c.taken ≡ Some n → c.begun ≡ false
+  called-between {n} e = go c.begun refl
     where
       go : (b : Bool) → c.begun ≡ b → c.begun ≡ false
       go true h = let q = (st.within h).free in let z : ◌≡◌ {A = ℕ} 0 1 = cc in absurd (omega arith)
       go false h = h
 
-  pub owed-after : (n p : ℕ) → c.taken ≡ Called n p → (sw : Switches) (T : Tables) (loop : Option ℕ) (all : ℕ) (σ₀ : Scope Status) (p₀ : Place) (m₀ : Memory) (σ : Scope Status) (m : Memory)
-      → Stood sw T s left (12 - left) loop all σ₀ p₀ m₀ ns c σ m → (r : Came) → r ≡ record { cursor = between_of c.left c.place Nobody; turn = Mark n 1 p false }
+  pub owed-after : (n : Named) → c.taken ≡ Some n → (sw : Switches) (T : Tables) (loop : Option ℕ) (all : ℕ) (σ₀ : Scope Status) (p₀ : Place) (m₀ : Memory) (σ : Scope Status) (m : Memory)
+      → Stood sw T s left (12 - left) loop all σ₀ p₀ m₀ ns c σ m → (r : Came) → r ≡ record { cursor = between_of c.left c.place None; turn = Mark (record { name = n.name; kind = 1; place = n.span; only_alive = false }) }
       → After sw T s left (12 - left) loop all σ₀ p₀ m₀ ns r.cursor σ m r.turn
-  owed-after n p e sw T loop all σ₀ p₀ m₀ σ m g r er =
+  owed-after n e sw T loop all σ₀ p₀ m₀ σ m g r er =
       let l = g.between (called-between e) in
-      let k = subst (λ (x : Named). LeadsAll sw T s left (12 - left) loop all σ₀ p₀ m₀ c.left (taken_in x σ) c.place m) e l in
+      let k = subst (λ (x : Maybe Named). LeadsAll sw T s left (12 - left) loop all σ₀ p₀ m₀ c.left (taken_in x σ) c.place m) e l in
       rw er (record { between = λ h. k; within = λ h. false-true h })
 
-  pub owed-fit : (n p : ℕ) → c.taken ≡ Called n p → (r : Came) → r ≡ record { cursor = between_of c.left c.place Nobody; turn = Mark n 1 p false } → Fit s left ns r.cursor r.turn
-  owed-fit n p e r er =
+  pub owed-fit : (n : Named) → c.taken ≡ Some n → (r : Came) → r ≡ record { cursor = between_of c.left c.place None; turn = Mark (record { name = n.name; kind = 1; place = n.span; only_alive = false }) } → Fit s left ns r.cursor r.turn
+  owed-fit n e r er =
       let off = called-between e in
       rw er (record { inside = st.inside; there = st.there; between = λ h. st.between off; within = λ h. false-true h }, omega arith)
 
@@ -137,11 +136,11 @@ module _ (s : List ℕ) (left : ℕ) (ns : List ℕ) (c : Cursor) (st : Steady s
       go true h = let q = (st.within h).some in absurd (omega arith)
       go false h = h
 
-  pub over-after : c.taken ≡ Nobody → c.left ≡ 0 → (sw : Switches) (T : Tables) (loop : Option ℕ) (all : ℕ) (σ₀ : Scope Status) (p₀ : Place) (m₀ : Memory) (σ : Scope Status) (m : Memory)
+  pub over-after : c.taken ≡ None → c.left ≡ 0 → (sw : Switches) (T : Tables) (loop : Option ℕ) (all : ℕ) (σ₀ : Scope Status) (p₀ : Place) (m₀ : Memory) (σ : Scope Status) (m : Memory)
       → Stood sw T s left (12 - left) loop all σ₀ p₀ m₀ ns c σ m → LeadsAll sw T s left (12 - left) loop all σ₀ p₀ m₀ 0 σ c.place m
   over-after free e sw T loop all σ₀ p₀ m₀ σ m g =
       subst (λ (k : ℕ). LeadsAll sw T s left (12 - left) loop all σ₀ p₀ m₀ k σ c.place m) e
-      (subst (λ (x : Named). LeadsAll sw T s left (12 - left) loop all σ₀ p₀ m₀ c.left (taken_in x σ) c.place m) free (g.between (none_between e)))
+      (subst (λ (x : Maybe Named). LeadsAll sw T s left (12 - left) loop all σ₀ p₀ m₀ c.left (taken_in x σ) c.place m) free (g.between (none_between e)))
 
   -- its errors are within bounds there
   pub over-fit : c.left ≡ 0 → Fit s left ns c Over
@@ -150,37 +149,26 @@ module _ (s : List ℕ) (left : ℕ) (ns : List ℕ) (c : Cursor) (st : Steady s
       (e, record { small = w.small; inside = w.inside; written = w.written; errors = st.between (none_between e); warnings = w.warnings; lefts = w.lefts; inserted = w.inserted })
 
 -- a mark is handed on
-pub mark-fit : (s : List ℕ) (left : ℕ) (ns : List ℕ) (w y : Cursor) → w ≡ y → Steady s left ns y → (ch : Change) → Marks ch → (n k p : ℕ) (o : Bool) → ch ≡ change.Mark n k p o
-    → Fit s left ns w (Mark n k p o)
-mark-fit s left ns w y e st ch m n k p o ec = (subst (Steady s left ns) (sym e) st, (subst Marks ec m).1)
+pub mark-fit : (s : List ℕ) (left : ℕ) (ns : List Open) (w y : Cursor) → w ≡ y → Steady s left ns y → (ch : Maybe MarkOf) → Marks ch → (k : MarkOf) → ch ≡ Some k → Fit s left ns w (Mark k)
+mark-fit s left ns w y e st ch m k ec = (subst (Steady s left ns) (sym e) st, (subst Marks ec m).1)
 
-pub still-nodes : {s : List ℕ} {old : List Open} {n p m : ℕ} {os : List Open} (v : Scanned) → Going s old n p m os v → v.change ≡ change.Nothing → v.nodes ≡ 0
-still-nodes {s} {old} {n} {p} v g e = subst (λ (x : Change). CameTo x v.nodes (fuel s n p) (fuel s v.nodes v.at)) e g.came
+pub still-nodes : {s : List ℕ} {old : List Open} {n p m : ℕ} {os : List Open} (v : Scanned) → Going s old n p m os v → v.change ≡ None → v.nodes ≡ 0
+still-nodes {s} {old} {n} {p} v g e = subst (λ (x : Maybe MarkOf). CameTo x v.nodes (fuel s n p) (fuel s v.nodes v.at)) e g.came
 
 pub within-as : {w : Cursor} (l n a : ℕ) {q p : Place} → w ≡ within_of l n a q → q ≡ p → w ≡ within_of l n a p
 within-as l n a e f = e ∙ ap (within_of l n a) f
 
-pub steady-as : {s : List ℕ} {left : ℕ} {ns : List ℕ} {w y : Cursor} → w ≡ y → Steady s left ns y → Steady s left ns w
+pub steady-as : {s : List ℕ} {left : ℕ} {ns : List Open} {w y : Cursor} → w ≡ y → Steady s left ns y → Steady s left ns w
 steady-as {s} {left} {ns} e st = subst (Steady s left ns) (sym e) st
 
-pub stood-as : {sw : Switches} {T : Tables} {s : List ℕ} {left d : ℕ} {loop : Option ℕ} {all : ℕ} {σ₀ : Scope Status} {p₀ : Place} {m₀ : Memory} {ns : List ℕ} {w y : Cursor} (σ : Scope Status) {m : Memory} (ch ch' : Change)
+pub stood-as : {sw : Switches} {T : Tables} {s : List ℕ} {left d : ℕ} {loop : Option ℕ} {all : ℕ} {σ₀ : Scope Status} {p₀ : Place} {m₀ : Memory} {ns : List Open} {w y : Cursor} (σ : Scope Status) {m : Memory} (ch ch' : Maybe MarkOf)
     → Stood sw T s left d loop all σ₀ p₀ m₀ ns y (applied ch σ) m → w ≡ y → ch ≡ ch' → Stood sw T s left d loop all σ₀ p₀ m₀ ns w (applied ch' σ) m
 stood-as {sw} {T} {s} {left} {d} {loop} {all} {σ₀} {p₀} {m₀} {ns} {w} {y} σ {m} ch ch' g e f =
-    subst (λ (x : Change). Stood sw T s left d loop all σ₀ p₀ m₀ ns w (applied x σ) m) f (subst (λ (x : Cursor). Stood sw T s left d loop all σ₀ p₀ m₀ ns x (applied ch σ) m) (sym e) g)
-
--- turns that are something
-pub no-mark : (n k p : ℕ) (o : Bool) → Mark n k p o ≡ Nothing → ⊥
-no-mark n k p o e = let z : ◌≡◌ {A = ℕ} 0 1 = cc in omega arith
-
-pub no_end : Over ≡ Nothing → ⊥
-no_end e = let z : ◌≡◌ {A = ℕ} 0 1 = cc in omega arith
-
-pub marks-something : (c : Cursor) (n k p : ℕ) (o : Bool) (r : Came) → r ≡ record { cursor = c; turn = Mark n k p o } → r.turn ≡ Nothing → ⊥
-marks-something c n k p o r er e = no-mark n k p o (sym (ap (λ (x : Came). x.turn) er) ∙ e)
+    subst (λ (x : Maybe MarkOf). Stood sw T s left d loop all σ₀ p₀ m₀ ns w (applied x σ) m) f (subst (λ (x : Cursor). Stood sw T s left d loop all σ₀ p₀ m₀ ns x (applied ch σ) m) (sym e) g)
 
 -- what the loop over statements keeps
-module _ (sw : Switches) (s tb : List ℕ) (left : ℕ) (ln lt lb : List ℕ) (at : ℕ → Status) (n mark base : ℕ) (ns₀ : List ℕ) (c₀ : Cursor) (out₀ errs₀ warns₀ lefts₀ : List ℕ) where
-  pub record Turning (ns : List ℕ) (c : Cursor) (out errs warns lefts : List ℕ) : Type 0 where
+module _ (sw : Switches) (s tb : List ℕ) (left : ℕ) (ln lt lb : List ℕ) (at : ℕ → Status) (n mark base : ℕ) (ns₀ : List Open) (c₀ : Cursor) (out₀ errs₀ warns₀ lefts₀ : List ℕ) where
+  pub record Turning (ns : List Open) (c : Cursor) (out errs warns lefts : List ℕ) : Type 0 where
     pub steady : Steady s left ns c
     pub room : length ns ≡ 26
     pub less : ahead s c ≤ ahead s c₀
@@ -192,35 +180,34 @@ module _ (sw : Switches) (s tb : List ℕ) (left : ℕ) (ln lt lb : List ℕ) (a
   pub turning-start : Steady s left ns₀ c₀ → length ns₀ ≡ 26 → Turning ns₀ c₀ out₀ errs₀ warns₀ lefts₀
   turning-start st room = record { steady = st; room = room; less = omega arith; grown = grows_none st.inside.inside; lent = (refl, refl, refl, refl); stood = λ T sy ld σ loop h all σ₀ p₀ m₀ g. g }
 
--- nothing was to be done
-pub nothing-stood : (sw : Switches) (T : Tables) (s : List ℕ) (left d : ℕ) (loop : Option ℕ) (all : ℕ) (σ₀ : Scope Status) (p₀ : Place) (m₀ : Memory) (ns : List ℕ) (c : Cursor) (σ : Scope Status) (m : Memory) (t : Turn) → t ≡ Nothing
-    → After sw T s left d loop all σ₀ p₀ m₀ ns c σ m t → Stood sw T s left d loop all σ₀ p₀ m₀ ns c σ m
-nothing-stood sw T s left d loop all σ₀ p₀ m₀ ns c σ m t e a = subst (After sw T s left d loop all σ₀ p₀ m₀ ns c σ m) e a
+-- a step that goes on, and one that comes back
+pub went-on : {B C : Type 0} {x y : C} → ◌≡◌ {A = ControlFlow B C} (Continue x) (Continue y) → y ≡ x
+went-on e = cc
 
-pub nothing-steady : (s : List ℕ) (left : ℕ) (ns : List ℕ) (c : Cursor) (t : Turn) → t ≡ Nothing → Fit s left ns c t → Steady s left ns c
-nothing-steady s left ns c t e f = subst (Fit s left ns c) e f
+pub came-back : {B C : Type 0} {x y : B} → ◌≡◌ {A = ControlFlow B C} (Break x) (Break y) → y ≡ x
+came-back e = cc
 
-pub is-nothing-yes : (t : Turn) → t ≡ Nothing → (true ≡ true → t ≡ Nothing) × (true ≡ false → t ≡ Nothing → ⊥)
-is-nothing-yes t e = (λ h. e, λ h z. false-true (sym h))
+pub not-back : {B C : Type 0} {x : C} {y : B} → ◌≡◌ {A = ControlFlow B C} (Continue x) (Break y) → ⊥
+not-back e = let z : ◌≡◌ {A = ℕ} 0 1 = cc in omega arith
 
-pub is-nothing-no : (t u : Turn) → t ≡ u → (u ≡ Nothing → ⊥) → (false ≡ true → t ≡ Nothing) × (false ≡ false → t ≡ Nothing → ⊥)
-is-nothing-no t u e n = (λ h. false-true h, λ h z. n (sym e ∙ z))
+pub not-on : {B C : Type 0} {x : B} {y : C} → ◌≡◌ {A = ControlFlow B C} (Break x) (Continue y) → ⊥
+not-on e = let z : ◌≡◌ {A = ℕ} 0 1 = cc in omega arith
 
 -- every turn comes forward
-owes-most : (t : Named) → owes t ≤ 1
-owes-most Nobody = omega arith
-owes-most (Called n p) = omega arith
+owes-most : (t : Maybe Named) → owes t ≤ 1
+owes-most None = omega arith
+owes-most (Some n) = omega arith
 
-pub owed-ahead : (s : List ℕ) (left : ℕ) (ns : List ℕ) (c : Cursor) → Steady s left ns c → (n p : ℕ) → c.taken ≡ Called n p → (r : Came)
-    → r ≡ record { cursor = between_of c.left c.place Nobody; turn = Mark n 1 p false } → ahead s r.cursor < ahead s c
-owed-ahead s left ns c st n p e r er =
+pub owed-ahead : (s : List ℕ) (left : ℕ) (ns : List Open) (c : Cursor) → Steady s left ns c → (n : Named) → c.taken ≡ Some n → (r : Came)
+    → r ≡ record { cursor = between_of c.left c.place None; turn = Mark (record { name = n.name; kind = 1; place = n.span; only_alive = false }) } → ahead s r.cursor < ahead s c
+owed-ahead s left ns c st n e r er =
     let off = called-between s left ns c st e in
     rw er (rw (off, e) (omega arith))
 
 pub scanned-ahead : (s : List ℕ) (b w : Cursor) (old os : List Open) (v : Scanned) (q : Place) → b.begun ≡ true → w ≡ within_of b.left v.nodes v.at q
-    → Going s old b.nodes b.at b.place.errors os v → (n k p : ℕ) (o : Bool) → v.change ≡ change.Mark n k p o → ahead s w < ahead s b
-scanned-ahead s b w old os v q on ew g n k p o e =
-    let f : fuel s v.nodes v.at < fuel s b.nodes b.at = subst (λ (x : Change). CameTo x v.nodes (fuel s b.nodes b.at) (fuel s v.nodes v.at)) e g.came in
+    → Going s old b.nodes b.at b.place.errors os v → (k : MarkOf) → v.change ≡ Some k → ahead s w < ahead s b
+scanned-ahead s b w old os v q on ew g k e =
+    let f : fuel s v.nodes v.at < fuel s b.nodes b.at = subst (λ (x : Maybe MarkOf). CameTo x v.nodes (fuel s b.nodes b.at) (fuel s v.nodes v.at)) e g.came in
     rw ew (rw on (omega arith))
 
 pub acted-ahead : (s : List ℕ) (r b : Cursor) → r.begun ≡ false → r.left + 1 ≡ b.left → ahead s r < ahead s b

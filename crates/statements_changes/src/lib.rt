@@ -1,5 +1,6 @@
 // The statements of a block over lent arrays, up to the next change of the stack.
-// Throughout, tb has the tables of the image s, and ln, lt, lk and lf the names, types, kinds and first places of the locals, rows the places of joined states, all lent; env has the numbers of the walk.
+// Throughout, tb has the tables of the image s, l the locals and t their states, rows the places of joined states, all lent; env has the numbers of the walk. A step of the walk goes on
+// (`Continue`) with the cursor behind it, or comes back (`Break`) to whoever owns the stack.
 #![tactic(auto)]
 
 ghost use Rattle.std.specs.Prelude.{◌≡◌, true, false, List, ℕ, ◌+◌, ◌-◌, ◌≤◌, ◌<◌, length};
@@ -14,21 +15,23 @@ ghost use Rattle.image_writing.specs.Memory.{Memory, memory};
 ghost use Rattle.blocks_laws.specs.Walks.{blocked};
 ghost use Rattle.scope_state.specs.Locals.{state_in, lent};
 ghost use Rattle.expressions_scan.specs.States.{AllKept};
-ghost use Rattle.statements_acts.specs.declared.Named.TheVariants.{Nobody};
-ghost use Rattle.statements_changes.specs.declared.Turn.TheVariants.{Nothing, Over, Mark};
-ghost use Rattle.statements_changes.specs.Turns.{Lends, retold, between_of, within_of, came_of, Stood, After, Steady, SomeSteady, Fit, ahead};
+ghost use Rattle.statements_changes.specs.declared.Turn.TheVariants as turns;
+ghost use Rattle.expressions_steps.specs.declared.Open.{Open};
+ghost use Rattle.std.specs.declared.option.Option.TheVariants.{None};
+ghost use Rattle.std.specs.ControlFlow.{ForBreak, ForContinue};
+ghost use Rattle.statements_changes.specs.Turns.{Lends, retold, between_of, within_of, came_of, cursor_of, Stood, After, AfterFlow, Steady, SomeSteady, Fit, FitFlow, ahead};
 
-use expressions_scan::Env;
-use scope_state::{Births, Firsts, Kinds, Names, Types};
-use statements_acts::{Act, Change, Named, Place};
+use expressions_scan::{Env, Mark};
+use expressions_steps::Nodes;
+use scope_stack::{Locals, States};
+use statements_acts::{Change, Named, Place};
+use std::ops::ControlFlow;
 
-// What the stack must do: nothing, the statements are over, a mark (name, kind, place, whether only what is Alive), a registration
-// (name, type, birth), the blocks of a statement of a tag.
+// What the stack must do: the statements are over, a mark, a registration (name, type, birth), the blocks of a statement of a tag.
 #[derive(Clone, Copy)]
 pub enum Turn {
-    Nothing,
     Over,
-    Mark(u16, u8, u32, bool),
+    Mark(Mark),
     Register(u16, u16, u32),
     Blocks(u8),
 }
@@ -42,7 +45,7 @@ pub struct Cursor {
     pub nodes: usize,
     pub at: usize,
     pub place: Place,
-    pub taken: Named,
+    pub taken: Option<Named>,
 }
 
 #[derive(Clone, Copy)]
@@ -51,17 +54,16 @@ pub struct Came {
     pub turn: Turn,
 }
 
-pub fn between(left: usize, place: Place, taken: Named) -> Cursor
+pub fn between(left: usize, place: Place, taken: Option<Named>) -> Cursor
     ensures { result ≡ between_of left place taken }
 {
-    let at = place.at;
     Cursor {
-        left: left,
+        left,
         begun: false,
         nodes: 0,
-        at: at,
-        place: place,
-        taken: taken,
+        at: place.at,
+        place,
+        taken,
     }
 }
 
@@ -69,155 +71,149 @@ fn within(left: usize, nodes: usize, at: usize, place: Place) -> Cursor
     ensures { result ≡ within_of left nodes at place }
 {
     Cursor {
-        left: left,
+        left,
         begun: true,
-        nodes: nodes,
-        at: at,
-        place: place,
-        taken: Named::Nobody,
-    }
-}
-
-// The place after so many numbers of errors.
-fn told(p: Place, errors: usize) -> Place
-    ensures { result ≡ retold p errors }
-{
-    Place {
-        at: p.at,
-        last: p.last,
-        written: p.written,
-        errors: errors,
-        warnings: p.warnings,
-        lefts: p.lefts,
-        inserted: p.inserted,
-        fits: p.fits,
-        paged: p.paged,
+        nodes,
+        at,
+        place,
+        taken: None,
     }
 }
 
 fn has_blocks(tag: u8) -> bool
     ensures { result ≡ blocked tag }
 {
-    if tag == 1 {
-        return true;
+    matches!(tag, 1 | 7 | 8)
+}
+
+// A name is deleted at a place.
+fn deleted(name: u16, place: u32) -> Mark
+    ensures { result ≡ record { name = name; kind = 1; place = place; only_alive = false } }
+{
+    Mark {
+        name,
+        kind: 1,
+        place,
+        only_alive: false,
     }
-    if tag == 7 {
-        return true;
+}
+
+// A name is Alive again.
+fn revived(name: u16) -> Mark
+    ensures { result ≡ record { name = name; kind = 0; place = 0; only_alive = false } }
+{
+    Mark {
+        name,
+        kind: 0,
+        place: 0,
+        only_alive: false,
     }
-    tag == 8
 }
 
 // What is to be done behind a statement.
-fn turn_of(tag: u8, left: usize, place: Place, change: Change, taken: Named) -> Came
+fn turn_of(
+    tag: u8,
+    left: usize,
+    place: Place,
+    change: Change,
+    taken: Option<Named>,
+) -> ControlFlow<Came, Cursor>
     ensures { result ≡ came_of tag left place change taken }
 {
     if has_blocks(tag) {
-        let here = between(left, place, Named::Nobody);
-        return Came {
-            cursor: here,
+        return ControlFlow::Break(Came {
+            cursor: between(left, place, None),
             turn: Turn::Blocks(tag),
-        };
+        });
     }
-    let c = between(left, place, taken);
-    match change {
-        Change::Nothing => Came {
-            cursor: c,
-            turn: Turn::Nothing,
-        },
-        Change::Delete(name, span) => Came {
-            cursor: c,
-            turn: Turn::Mark(name, 1, span, false),
-        },
-        Change::Register(name, ty, born) => Came {
-            cursor: c,
-            turn: Turn::Register(name, ty, born),
-        },
-        Change::Revive(name) => Came {
-            cursor: c,
-            turn: Turn::Mark(name, 0, 0, false),
-        },
-    }
+    let cursor = between(left, place, taken);
+    let turn = match change {
+        Change::Nothing => return ControlFlow::Continue(cursor),
+        Change::Delete(name, span) => Turn::Mark(deleted(name, span)),
+        Change::Register(name, ty, born) => Turn::Register(name, ty, born),
+        Change::Revive(name) => Turn::Mark(revived(name)),
+    };
+    ControlFlow::Break(Came { cursor, turn })
 }
 
 // The statement at the cursor's place, whose values are through.
-fn acted<'a>(
+fn acted(
     s: &[u8],
     tb: &[u32],
     env: Env,
-    ln: &'a Names,
-    lt: &'a Types,
-    lb: &'a Births,
+    l: &Locals,
     c: Cursor,
     out: &mut [u8],
     warns: &mut [u32],
     lefts: &mut [u32],
-) -> Came
-    requires { Lent s.now tb.now × (env.locals ≤ 64) × (env.base ≤ 64) × (env.left ≤ 12)
+) -> ControlFlow<Came, Cursor>
+    requires { Lent s.now tb.now × (l.now.count ≤ 64) × (env.base ≤ 64) × (env.left ≤ 12)
         × SomeSteady s.now env.left c × (c.begun ≡ true) × (c.nodes ≡ 0) }
     ensures after { (T : Tables) → Says s.now tb.now T
-        → (ld : List ℕ) (at : ℕ → Status) (σ : Scope Status) (loop : Option ℕ) → Lends T env.mark loop env.base ln.now lt.now ld lb.now at env.locals σ
-        → (all : ℕ) (σ₀ : Scope Status) (p₀ : Place) (m₀ : Memory) (nodes errs : List ℕ)
+        → (ld : List ℕ) (at : ℕ → Status) (σ : Scope Status) (loop : Option ℕ) → Lends T env.mark loop env.base l.now.names l.now.types ld l.now.births at l.now.count σ
+        → (all : ℕ) (σ₀ : Scope Status) (p₀ : Place) (m₀ : Memory) (nodes : List Open) (errs : List ℕ)
         → Stood (switches_of env.switches) T s.now env.left (12 - env.left) loop all σ₀ p₀ m₀ nodes c σ (memory out.old errs warns.old lefts.old)
-        → After (switches_of env.switches) T s.now env.left (12 - env.left) loop all σ₀ p₀ m₀ nodes result.cursor σ (memory out.new errs warns.new lefts.new) result.turn }
-    ensures by_index { ((nodes : List ℕ) → Fit s.now env.left nodes result.cursor result.turn) × (result.cursor.left + 1 ≡ c.left) × (result.cursor.begun ≡ false)
-        × Grows s.now (retold c.place 0) (retold result.cursor.place 0) }
+        → AfterFlow (switches_of env.switches) T s.now env.left (12 - env.left) loop all σ₀ p₀ m₀ nodes result σ (memory out.new errs warns.new lefts.new) }
+    ensures by_index { ((nodes : List Open) → FitFlow s.now env.left nodes result) × ((cursor_of result).left + 1 ≡ c.left) × ((cursor_of result).begun ≡ false)
+        × Grows s.now (retold c.place 0) (retold (cursor_of result).place 0) }
 {
     let p = c.place;
     let at = p.at;
     let tag = s[at];
-    let end = c.at;
-    let n = env.locals;
-    let m = env.mark;
-    let base = env.base;
-    let w = env.switches;
-    let q = told(p, 0);
-    let a = statements_acts::statement(s, tb, ln, lt, lb, n, m, base, w, q, end, out, warns, lefts);
-    let y = a.place;
-    let z = told(y, p.errors);
-    let change = a.change;
-    let taken = a.taken;
-    turn_of(tag, c.left - 1, z, change, taken)
+    let a = statements_acts::statement(
+        s,
+        tb,
+        l,
+        env.mark,
+        env.base,
+        env.switches,
+        Place { errors: 0, ..p },
+        c.at,
+        out,
+        warns,
+        lefts,
+    );
+    let behind = Place {
+        errors: p.errors,
+        ..a.place
+    };
+    turn_of(tag, c.left - 1, behind, a.change, a.taken)
 }
 
 // What is still to be taken over is marked deleted first.
-fn owed(c: Cursor, name: u16, span: u32) -> Came
-    ensures { result ≡ record { cursor = between_of c.left c.place Nobody; turn = Mark name 1 span false } }
+fn owed(c: Cursor, taken: Named) -> Came
+    ensures { result ≡ record { cursor = between_of c.left c.place None; turn = turns.Mark (record { name = taken.name; kind = 1; place = taken.span; only_alive = false }) } }
 {
-    let p = c.place;
-    let b = between(c.left, p, Named::Nobody);
     Came {
-        cursor: b,
-        turn: Turn::Mark(name, 1, span, false),
+        cursor: between(c.left, c.place, None),
+        turn: Turn::Mark(deleted(taken.name, taken.span)),
     }
 }
 
 // What comes before the next statement: a temporary still to be taken over, or the end; nothing where there is neither.
-fn due(c: Cursor) -> Came
-    ensures by_index { (s : List ℕ) (left : ℕ) (nodes : List ℕ) → Steady s left nodes c → Fit s left nodes result.cursor result.turn
-        × (result.turn ≡ Nothing → (c.taken ≡ Nobody) × (0 < c.left)) × ((result.turn ≡ Nothing → ⊥) → (result.turn ≡ Over → ⊥) → ahead s result.cursor < ahead s c)
+fn due(c: Cursor) -> ControlFlow<Came>
+    ensures goes_on { ForContinue result (λ x. (c.taken ≡ None) × (0 < c.left)) }
+    ensures by_index { ForBreak result (λ came. (s : List ℕ) (left : ℕ) (nodes : List Open) → Steady s left nodes c → Fit s left nodes came.cursor came.turn
+        × ((came.turn ≡ turns.Over → ⊥) → ahead s came.cursor < ahead s c)
         × ((sw : Switches) (T : Tables) (loop : Option ℕ) (all : ℕ) (σ₀ : Scope Status) (p₀ : Place) (m₀ : Memory) (σ : Scope Status) (m : Memory)
-        → Stood sw T s left (12 - left) loop all σ₀ p₀ m₀ nodes c σ m → After sw T s left (12 - left) loop all σ₀ p₀ m₀ nodes result.cursor σ m result.turn) }
-    ensures place_value { result.cursor.place ≡ c.place }
+        → Stood sw T s left (12 - left) loop all σ₀ p₀ m₀ nodes c σ m → After sw T s left (12 - left) loop all σ₀ p₀ m₀ nodes came.cursor σ m came.turn)) }
+    ensures place_value { ForBreak result (λ came. came.cursor.place ≡ c.place) }
 {
-    let taken = c.taken;
-    if let Named::Called(name, span) = taken {
-        return owed(c, name, span);
+    if let Some(taken) = c.taken {
+        return ControlFlow::Break(owed(c, taken));
     }
     if c.left == 0 {
-        return Came {
+        return ControlFlow::Break(Came {
             cursor: c,
             turn: Turn::Over,
-        };
+        });
     }
-    Came {
-        cursor: c,
-        turn: Turn::Nothing,
-    }
+    ControlFlow::Continue(())
 }
 
 // The scan of the values of the next statement begins, if it has not.
-fn begun(s: &[u8], left: usize, nodes: &mut [u64; 26], c: Cursor) -> Cursor
-    requires { Steady s.now left nodes.old c × (c.taken ≡ Nobody) × (0 < c.left) × (length nodes.old ≡ 26) }
+fn begun(s: &[u8], left: usize, nodes: &mut Nodes, c: Cursor) -> Cursor
+    requires { Steady s.now left nodes.old c × (c.taken ≡ None) × (0 < c.left) × (length nodes.old ≡ 26) }
     ensures { ((sw : Switches) (T : Tables) (loop : Option ℕ) (all : ℕ) (σ₀ : Scope Status) (p₀ : Place) (m₀ : Memory) (σ : Scope Status) (out errs warns lefts : List ℕ)
         → Stood sw T s.now left (12 - left) loop all σ₀ p₀ m₀ nodes.old c σ (memory out errs warns lefts)
         → Stood sw T s.now left (12 - left) loop all σ₀ p₀ m₀ nodes.new result σ (memory out errs warns lefts))
@@ -233,113 +229,116 @@ fn begun(s: &[u8], left: usize, nodes: &mut [u64; 26], c: Cursor) -> Cursor
     within(c.left, 1, f.first, p)
 }
 
-// The values of the statement that is begun, scanned on up to a change of the stack; nothing where they are through.
-fn scanned<'a>(
+// The values of the statement that is begun, scanned on up to a change of the stack, or through.
+fn scanned(
     s: &[u8],
     tb: &[u32],
     env: Env,
-    ln: &'a Names,
-    lk: &'a Kinds,
-    lf: &'a Firsts,
+    l: &Locals,
+    t: &States,
     rows: &[u32],
-    nodes: &mut [u64; 26],
+    nodes: &mut Nodes,
     c: Cursor,
     out: &mut [u8],
     errs: &mut [u32],
-) -> Came
-    requires { Lent s.now tb.now × AllKept lk.now lf.now rows.now env.cur env.width env.locals
+) -> ControlFlow<Came, Cursor>
+    requires { Lent s.now tb.now × AllKept t.now.kinds t.now.firsts rows.now env.cur env.width l.now.count
         × Steady s.now env.left nodes.old c × (c.begun ≡ true) }
     ensures after { (sw : Switches) (T : Tables) → Says s.now tb.now T
         → (types depths births : List ℕ) (σ : Scope Status)
-        → σ ≡ lent ln.now types depths births (state_in lk.now lf.now rows.now env.cur env.width) env.locals
+        → σ ≡ lent l.now.names types depths births (state_in t.now.kinds t.now.firsts rows.now env.cur env.width) l.now.count
         → (loop : Option ℕ) (all : ℕ) (σ₀ : Scope Status) (p₀ : Place) (m₀ : Memory) (warns lefts : List ℕ)
         → Stood sw T s.now env.left (12 - env.left) loop all σ₀ p₀ m₀ nodes.old c σ (memory out.old errs.old warns lefts)
-        → After sw T s.now env.left (12 - env.left) loop all σ₀ p₀ m₀ nodes.new result.cursor σ (memory out.new errs.new warns lefts) result.turn }
-    ensures fit { Fit s.now env.left nodes.new result.cursor result.turn × (length nodes.new ≡ 26)
-        × (result.turn ≡ Nothing → (result.cursor.begun ≡ true) × (result.cursor.nodes ≡ 0) × (result.cursor.left ≡ c.left))
-        × ((result.turn ≡ Nothing → ⊥) → ahead s.now result.cursor < ahead s.now c)
-        × (retold result.cursor.place 0 ≡ retold c.place 0) }
+        → AfterFlow sw T s.now env.left (12 - env.left) loop all σ₀ p₀ m₀ nodes.new result σ (memory out.new errs.new warns lefts) }
+    ensures fit { FitFlow s.now env.left nodes.new result × (length nodes.new ≡ 26)
+        × ForContinue result (λ w. (w.begun ≡ true) × (w.nodes ≡ 0) × (w.left ≡ c.left))
+        × ForBreak result (λ came. ahead s.now came.cursor < ahead s.now c)
+        × (retold (cursor_of result).place 0 ≡ retold c.place 0) }
 {
     let p = c.place;
-    let k = c.nodes;
-    let at = c.at;
-    let n = p.errors;
-    let g = p.paged;
-    let v = expressions_scan::scan_on(s, tb, env, ln, lk, lf, rows, nodes, k, at, g, out, errs, n);
-    let q = told(p, v.told);
-    let w = within(c.left, v.nodes, v.at, q);
-    let change = v.change;
-    match change {
-        expressions_scan::Change::Nothing => Came {
-            cursor: w,
-            turn: Turn::Nothing,
-        },
-        expressions_scan::Change::Mark(name, kind, span, alive) => Came {
-            cursor: w,
-            turn: Turn::Mark(name, kind, span, alive),
-        },
+    let v = expressions_scan::scan_on(
+        s, tb, env, l, t, rows, nodes, c.nodes, c.at, p.paged, out, errs, p.errors,
+    );
+    let told = Place {
+        errors: v.told,
+        ..p
+    };
+    let cursor = within(c.left, v.nodes, v.at, told);
+    match v.change {
+        None => ControlFlow::Continue(cursor),
+        Some(mark) => ControlFlow::Break(Came {
+            cursor,
+            turn: Turn::Mark(mark),
+        }),
     }
 }
 
-// Whether nothing is to be done.
-fn is_nothing(came: Came) -> bool
-    ensures { (result ≡ true → came.turn ≡ Nothing) × (result ≡ false → came.turn ≡ Nothing → ⊥) }
-{
-    let turn = came.turn;
-    match turn {
-        Turn::Nothing => true,
-        Turn::Over => false,
-        Turn::Mark(_, _, _, _) => false,
-        Turn::Register(_, _, _) => false,
-        Turn::Blocks(_) => false,
-    }
-}
-
-// The statements up to the next change of the stack.
-pub fn next_change<'a>(
+// The next statement, up to its end or a change of the stack.
+fn passed(
     s: &[u8],
     tb: &[u32],
     env: Env,
-    ln: &'a Names,
-    lt: &'a Types,
-    lb: &'a Births,
-    lk: &'a Kinds,
-    lf: &'a Firsts,
+    l: &Locals,
+    t: &States,
     rows: &[u32],
-    nodes: &mut [u64; 26],
+    nodes: &mut Nodes,
+    c: Cursor,
+    out: &mut [u8],
+    errs: &mut [u32],
+    warns: &mut [u32],
+    lefts: &mut [u32],
+) -> ControlFlow<Came, Cursor>
+    requires { Lent s.now tb.now × AllKept t.now.kinds t.now.firsts rows.now env.cur env.width l.now.count
+        × (env.left ≤ 12) × (env.base ≤ 64) × Steady s.now env.left nodes.old c × (length nodes.old ≡ 26) }
+    ensures after { (T : Tables) → Says s.now tb.now T
+        → (ld : List ℕ) (σ : Scope Status) (loop : Option ℕ)
+        → Lends T env.mark loop env.base l.now.names l.now.types ld l.now.births (state_in t.now.kinds t.now.firsts rows.now env.cur env.width) l.now.count σ
+        → (all : ℕ) (σ₀ : Scope Status) (p₀ : Place) (m₀ : Memory)
+        → Stood (switches_of env.switches) T s.now env.left (12 - env.left) loop all σ₀ p₀ m₀ nodes.old c σ (memory out.old errs.old warns.old lefts.old)
+        → AfterFlow (switches_of env.switches) T s.now env.left (12 - env.left) loop all σ₀ p₀ m₀ nodes.new result σ (memory out.new errs.new warns.new lefts.new) }
+    ensures fit { FitFlow s.now env.left nodes.new result × (length nodes.new ≡ 26)
+        × ForContinue result (λ w. (w.left + 1 ≡ c.left) × (ahead s.now w < ahead s.now c))
+        × ForBreak result (λ came. (came.turn ≡ turns.Over → ⊥) → ahead s.now came.cursor < ahead s.now c)
+        × Grows s.now (retold c.place 0) (retold (cursor_of result).place 0) }
+{
+    due(c)?;
+    let b = begun(s, env.left, nodes, c);
+    let w = scanned(s, tb, env, l, t, rows, nodes, b, out, errs)?;
+    acted(s, tb, env, l, w, out, warns, lefts)
+}
+
+// The statements up to the next change of the stack.
+pub fn next_change(
+    s: &[u8],
+    tb: &[u32],
+    env: Env,
+    l: &Locals,
+    t: &States,
+    rows: &[u32],
+    nodes: &mut Nodes,
     cursor: Cursor,
     out: &mut [u8],
     errs: &mut [u32],
     warns: &mut [u32],
     lefts: &mut [u32],
 ) -> Came
-    requires { Lent s.now tb.now × AllKept lk.now lf.now rows.now env.cur env.width env.locals
+    requires { Lent s.now tb.now × AllKept t.now.kinds t.now.firsts rows.now env.cur env.width l.now.count
         × (env.left ≤ 12) × (env.base ≤ 64) × Steady s.now env.left nodes.old cursor × (length nodes.old ≡ 26) }
     ensures after { (T : Tables) → Says s.now tb.now T
         → (ld : List ℕ) (σ : Scope Status) (loop : Option ℕ)
-        → Lends T env.mark loop env.base ln.now lt.now ld lb.now (state_in lk.now lf.now rows.now env.cur env.width) env.locals σ
+        → Lends T env.mark loop env.base l.now.names l.now.types ld l.now.births (state_in t.now.kinds t.now.firsts rows.now env.cur env.width) l.now.count σ
         → (all : ℕ) (σ₀ : Scope Status) (p₀ : Place) (m₀ : Memory)
         → Stood (switches_of env.switches) T s.now env.left (12 - env.left) loop all σ₀ p₀ m₀ nodes.old cursor σ (memory out.old errs.old warns.old lefts.old)
         → After (switches_of env.switches) T s.now env.left (12 - env.left) loop all σ₀ p₀ m₀ nodes.new result.cursor σ (memory out.new errs.new warns.new lefts.new) result.turn }
-    ensures fit { Fit s.now env.left nodes.new result.cursor result.turn × (length nodes.new ≡ 26) × (result.turn ≡ Nothing → ⊥)
-        × ((result.turn ≡ Over → ⊥) → ahead s.now result.cursor < ahead s.now cursor)
+    ensures fit { Fit s.now env.left nodes.new result.cursor result.turn × (length nodes.new ≡ 26)
+        × ((result.turn ≡ turns.Over → ⊥) → ahead s.now result.cursor < ahead s.now cursor)
         × Grows s.now (retold cursor.place 0) (retold result.cursor.place 0) }
 {
     let mut c = cursor;
     loop {
-        let o = due(c);
-        if !is_nothing(o) {
-            return o;
+        match passed(s, tb, env, l, t, rows, nodes, c, out, errs, warns, lefts) {
+            ControlFlow::Continue(behind) => c = behind,
+            ControlFlow::Break(came) => return came,
         }
-        let b = begun(s, env.left, nodes, c);
-        let w = scanned(s, tb, env, ln, lk, lf, rows, nodes, b, out, errs);
-        if !is_nothing(w) {
-            return w;
-        }
-        let r = acted(s, tb, env, ln, lt, lb, w.cursor, out, warns, lefts);
-        if !is_nothing(r) {
-            return r;
-        }
-        c = r.cursor;
     }
 }

@@ -6,6 +6,7 @@ use mathlib.Core.Bool.{Bool, true, false, cond, ◌&&◌, ◌||◌}
 use mathlib.Core.Logic.{⊎_elim}
 use Prim.Native.Nat.{ℕ, ◌+◌, ◌-◌, ◌≤◌, ◌<◌}
 use native.Mathlib.Omega.{arith}
+use native.Mathlib.Nat.{sub-zero}
 use borrow.Author.Tests.{ne_eqb}
 use lib.ListN.{length, get_or}
 use lib.Dec.{eqb, T, eqb→eq}
@@ -170,11 +171,11 @@ pub record Rest (s : List ℕ) (left at n p : ℕ) (returns : Bool) : Type 0 whe
       → (c : Tree) × (stmts_at t s (left - 1) n p ≡ ok c next) × (sure_from b.code false ≡ sure_from c returns)
 
 module _ (s : List ℕ) (left at : ℕ) where
-  pub rest-start : (n : ℕ) → n ≡ two s (at + 4) → Rest s left at n (at + 6) false
-  rest-start n e = record {
+  pub rest-start : {n : ℕ} → n ≡ two s (at + 4) → Rest s left at (n - 0) (at + 6) false
+  rest-start {n} e = record {
     going = λ t deep b next read.
         let g = block-parts t s left at b next read in
-        (b.code, subst (λ y. stmts_at t s (left - 1) y (at + 6) ≡ ok b.code next) (sym e) g.stmts, refl);
+        (b.code, subst (λ y. stmts_at t s (left - 1) y (at + 6) ≡ ok b.code next) (sym (sub-zero n ∙ e)) g.stmts, refl);
   }
 
   module _ (n p : ℕ) (returns : Bool) (h : Rest s left at n p returns) where
@@ -185,14 +186,14 @@ module _ (s : List ℕ) (left at : ℕ) where
         let m = stmts-more (block_at b.t s (left - 1)) b.t s n p lt g.1 in
         record { t = b.t; deep = b.deep; x = m.0; next = m.1; read = m.3 }
 
-    pub rest-next : 0 < n → (r : Sure) → StmtSure s (left - 1) p r → Rest s left at (n - 1) r.at r.returns
-    rest-next lt r sure = record {
+    pub rest-next : 0 < n → {k : ℕ} → k ≡ n - 1 → (r : Sure) → StmtSure s (left - 1) p r → Rest s left at k r.at r.returns
+    rest-next lt {k} ek r sure = record {
       going = λ t deep b next read.
           let g = h.going t deep b next read in
           let m = stmts-more (block_at t s (left - 1)) t s n p lt g.1 in
           let a = sure.is t deep m.0 m.1 m.3 in (
             m.2,
-            subst (λ y. stmts_at t s (left - 1) (n - 1) y ≡ ok m.2 next) (sym a.1) m.4,
+            subst (λ y. stmts_at t s (left - 1) k y ≡ ok m.2 next) (sym a.1) (subst (λ j. stmts_at t s (left - 1) j m.1 ≡ ok m.2 next) (sym ek) m.4),
             g.2 ∙ ap (λ c. sure_from c returns) m.5 ∙ sure-before m.2 returns m.0 ∙ ap (sure_from m.2) (sym a.0),
           );
     }
@@ -295,22 +296,7 @@ some_byte {m} {k} e n = ⊎_elim (λ lt. lt) (λ le. let z : m ≡ 0 = omega ari
 
 -- the blocks of an IfElse: the first, and the other where the byte after it says so
 module _ (s : List ℕ) (left at : ℕ) where
-  pub then-there : BranchesThere s left at → BlockThere s left at
-  then-there x = record { t = x.t; deep = x.deep; b = x.b; next = x.flag; read = x.body }
-
   module _ (a : Sure) (sure : BlockSure s left at a) where
-    pub flag-place : (x : BranchesThere s left at) → a.at ≡ x.flag
-    flag-place x = (sure.is x.t x.deep x.b x.flag x.body).1
-
-    pub flag-in : BranchesThere s left at → a.at + 1 ≤ length s
-    flag-in x = let l : x.flag + 1 ≤ length s = x.end in let e : a.at ≡ x.flag = flag-place x in omega arith
-
-    pub other-there : BranchesThere s left at → 0 < get_or s a.at 0 → BlockThere s left (a.at + 1)
-    other-there x lt =
-        let e : a.at ≡ x.flag = flag-place x in
-        let o = x.other (subst (λ y. 0 < get_or s y 0) e lt) in
-        record { t = x.t; deep = x.deep; b = o.0; next = o.1; read = subst (λ y. block_at x.t s left (y + 1) ≡ ok o.0 o.1) (sym e) o.2 }
-
     pub then-only : get_or s a.at 0 ≡ 0 → BranchesSure s left at (record { returns = false; at = a.at + 1 })
     then-only z = record {
       without = λ t deep b flag body y. (refl, ap (λ p. p + 1) (sure.is t deep b flag body).1);

@@ -26,6 +26,7 @@ pub struct Sure {
 }
 
 // The flag of a Return, or 0.
+// As items_at in image_body with other widths and bounds: no plainer as one.
 fn flag_at(s: &[u8], width: usize, at: usize) -> usize
     ensures { (result ≡ cond (eqb width 1) (get_or s.now at 0) 0) × (result < 256) }
 {
@@ -43,21 +44,11 @@ pub fn front_at(s: &[u8], at: usize) -> Front
     let head = at + layout::head_bytes(k);
     let more = flag_at(s, flag, head);
     Front {
-        tag: tag,
+        tag,
         values: (layout::value_count(k) + more) as u16,
         first: head + flag,
         last: layout::type_width(k),
     }
-}
-
-// Whether both are true.
-fn both(a: bool, b: bool) -> bool
-    ensures { result ≡ (a && b) }
-{
-    if a {
-        return b;
-    }
-    false
 }
 
 // The blocks of an IfElse.
@@ -76,7 +67,7 @@ fn branches_guaranteed_return(s: &[u8], left: usize, at: usize) -> Sure
     }
     let other = statements_guaranteed_return(s, left, flag + 1);
     Sure {
-        returns: both(then.returns, other.returns),
+        returns: then.returns && other.returns,
         at: other.at,
     }
 }
@@ -89,21 +80,17 @@ pub fn statement_guaranteed_return(s: &[u8], left: usize, at: usize) -> Sure
 {
     let f = front_at(s, at);
     let p = image_body::skip_many(s, 24, wide16(f.values), f.first) + f.last;
-    let tag = f.tag;
-    if tag == 1 {
-        return statements_guaranteed_return(s, left, p);
-    }
-    if tag == 7 {
-        return branches_guaranteed_return(s, left, p);
-    }
-    if tag == 8 {
-        let mut turn = statements_guaranteed_return(s, left, p);
-        turn.returns = false;
-        return turn;
-    }
-    Sure {
-        returns: tag == 2,
-        at: p,
+    match f.tag {
+        1 => statements_guaranteed_return(s, left, p),
+        7 => branches_guaranteed_return(s, left, p),
+        8 => Sure {
+            returns: false,
+            ..statements_guaranteed_return(s, left, p)
+        },
+        tag => Sure {
+            returns: tag == 2,
+            at: p,
+        },
     }
 }
 
@@ -113,17 +100,13 @@ pub fn statements_guaranteed_return(s: &[u8], left: usize, at: usize) -> Sure
     requires { BlockThere s.now left at × (length s.now ≤ 65536) }
     ensures { BlockSure s.now left at result }
 {
-    let mut n = image_fields::two_at(s, at + 4);
-    let mut p = at + 6;
-    let mut returns = false;
-    while 0 < n {
-        let r = statement_guaranteed_return(s, left - 1, p);
-        returns = r.returns;
-        p = r.at;
-        n -= 1;
+    let n = image_fields::two_at(s, at + 4);
+    let mut last = Sure {
+        returns: false,
+        at: at + 6,
+    };
+    for _ in 0..n {
+        last = statement_guaranteed_return(s, left - 1, last.at);
     }
-    Sure {
-        returns: returns,
-        at: p,
-    }
+    last
 }

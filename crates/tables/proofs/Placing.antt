@@ -5,8 +5,7 @@ use Rattle.image_fields.specs.Parsed.{Parsed, ok, fault}
 use Rattle.image_fields.specs.Table.{table_from, table_at}
 use Rattle.image_fields.specs.Number.{field_at}
 use Rattle.image_fields.specs.Answer.{table_of}
-use Rattle.image_fields.specs.declared.Number.{Number}
-use Rattle.image_fields.specs.declared.Number.TheVariants.{Is, Wrong}
+use Rattle.std.specs.Prelude.{Result, Ok, Err}
 use Rattle.image_fields.proofs.Inverse.{impossible}
 use Rattle.image_fields.proofs.Answers.{is-table, wrong-table}
 use Rattle.image_fields.proofs.Tables.{Filling, filling-start, filling-stop, filling-done, filling-next, placed-next, count-stop, count-few, count-good}
@@ -28,15 +27,15 @@ module _ {A : Type 0} (f : List A → ℕ → Parsed A) (view : ℕ → A) (s : 
   placing-start n at starts le = record { fill = filling-start f n at; high = le; placed = refl; within = λ k lt. absurd (omega arith) }
 
   -- a table that is refused has no entries
-  pub lists-nothing : {x : Parsed (List A)} {k : ℕ} (starts : List ℕ) → x ≡ fault k → (Wrong k ≡ table_of x) × Lists x starts
+  pub lists-nothing : {x : Parsed (List A)} {k : ℕ} (starts : List ℕ) → x ≡ fault k → (Err k ≡ table_of x) × Lists x starts
   lists-nothing starts z = (wrong-table z, λ xs next y. impossible (sym z ∙ y))
 
   module _ {n at : ℕ} {starts : List ℕ} {i p : ℕ} {xs : List A} (inv : Placing n at starts i p xs) where
     pub placing-stop : {k : ℕ} → i < n → f (xs) p ≡ fault k
-        → (Wrong k ≡ table_of (table_from f [] n at)) × Lists (table_from f [] n at) starts
+        → (Err k ≡ table_of (table_from f [] n at)) × Lists (table_from f [] n at) starts
     placing-stop lt e = lists-nothing starts (filling-stop f inv.fill lt e)
 
-    pub placing-done : n ≤ i → (Is n p ≡ table_of (table_from f [] n at)) × Lists (table_from f [] n at) starts
+    pub placing-done : n ≤ i → (Ok (n, p) ≡ table_of (table_from f [] n at)) × Lists (table_from f [] n at) starts
     placing-done le =
         let g = filling-done f inv.fill le in
         let m = inv.fill.many in (
@@ -61,13 +60,13 @@ module _ {A : Type 0} (f : List A → ℕ → Parsed A) (view : ℕ → A) (s : 
   -- the table's head
   module _ (k least limit : ℕ) (at : ℕ) (starts : List ℕ) where
     pub listed-none : {m : ℕ} → field_at k limit 2 s at ≡ fault m
-        → (Wrong m ≡ table_of (table_at k least limit f s at)) × Lists (table_at k least limit f s at) starts
+        → (Err m ≡ table_of (table_at k least limit f s at)) × Lists (table_at k least limit f s at) starts
     listed-none e = lists-nothing starts (count-stop f k least limit s at e)
 
     module _ {n p : ℕ} (e : field_at k limit 2 s at ≡ ok n p) where
-      pub listed-few : n < least → (Wrong k ≡ table_of (table_at k least limit f s at)) × Lists (table_at k least limit f s at) starts
+      pub listed-few : n < least → (Err k ≡ table_of (table_at k least limit f s at)) × Lists (table_at k least limit f s at) starts
       listed-few lt = lists-nothing starts (count-few f k least limit s at e lt)
 
-      pub listed-all : {r : Number} → least ≤ n → (r ≡ table_of (table_from f [] n p)) × Lists (table_from f [] n p) starts
+      pub listed-all : {r : Result (ℕ × ℕ) ℕ} → least ≤ n → (r ≡ table_of (table_from f [] n p)) × Lists (table_from f [] n p) starts
           → (r ≡ table_of (table_at k least limit f s at)) × Lists (table_at k least limit f s at) starts
       listed-all {r} le g = subst (λ x. (r ≡ table_of x) × Lists x starts) (sym (count-good f k least limit s at e le)) g

@@ -1,62 +1,78 @@
 -- The loop over the table of types: the types read so far, their positions and their flags.
 -- Assumes nothing.
-use Rattle.std.proofs.Common.{◌≡◌, ℕ, ◌+◌, ◌<◌, ◌≤◌, Bool, true, false, cond, ◌||◌, eqb, ltb, List, [], ◌∷◌, ◌++◌, length, get_or, take, set, sym, refl, ap, ◌∙◌, subst, subst₂, ⊎_elim, pos_of_ne-zero, add-one, arith, length-set, get_or-take, take-suc-set, le-ltb, ne_eqb, eqb-true}
+use Rattle.std.proofs.Common.{◌≡◌, ℕ, ◌+◌, ◌<◌, ◌≤◌, Bool, true, false, cond, ◌||◌, eqb, ltb, List, [], ◌∷◌, ◌++◌, length, get_or, take, set, sym, refl, ap, ◌∙◌, subst, subst₂, ⊎_elim, pos_of_ne-zero, add-one, arith, length-set, get_or-take, take-suc-set, le-ltb, ne_eqb, eqb-true, lit≤, lit<}
 use Rattle.image_fields.specs.Parsed.{Parsed, ok, fault, bind, ensure}
 use Rattle.image_fields.specs.Number.{number_in, field_at}
 use Rattle.image_fields.specs.Table.{table_from}
 use Rattle.image_fields.specs.Answer.{table_of}
-use Rattle.image_fields.specs.declared.Number.{Number}
-use Rattle.image_fields.specs.declared.Number.TheVariants.{Is, Wrong}
+use Rattle.std.specs.Prelude.{Result, Ok, Err}
 use Rattle.image_fields.proofs.Inverse.{ensure-ok, bound, impossible}
-use Rattle.image_fields.proofs.Numbers.{field-ok}
+use Rattle.image_fields.proofs.Numbers.{field-ok, narrow-stop, narrow-large, narrow-good}
 use Rattle.image_fields.proofs.Tests.{split}
 use Rattle.image_fields.proofs.Tables.{filling-stop, filling-done, count-stop, count-few, count-good}
 use Rattle.tables.specs.Limits.{version1}
 use Rattle.tables.specs.Ty.{Ty, of_width, shape_width, of_limit, parts_at, type_at, types_at, type_in, generic_flag, generic_flags}
-use Rattle.tables.specs.Answer.{type_of, Listed}
-use Rattle.tables.specs.declared.ty.TypeRead.{TypeRead}
-use Rattle.tables.specs.declared.ty.TypeRead.TheVariants.{OneType, NoType}
+use Rattle.tables.specs.declared.ty.Kind.{Kind}
+use Rattle.tables.specs.declared.ty.Kind.TheVariants.{Plain, Named, Generic, Array, Pointer}
+use Rattle.tables.specs.Answer.{kind_number, type_of, Listed}
 use Rattle.tables.proofs.Placing.{Placing, placing-start, placing-done, placing-next}
 
-pub type-read : {x : Parsed Ty} {k o p : ℕ} {r : TypeRead} → r ≡ type_of x → r ≡ OneType k o p → (t : Ty) × (x ≡ ok t p) × (t.kind ≡ k) × (t.of ≡ o)
-unfolding type_of
-type-read {x = ok t q} e f = (t, cc, cc, cc)
-type-read {x = fault n} {k} {o} {p} {r} e f = let z : ◌≡◌ {A = ℕ} 0 1 = cc in absurd (omega arith)
+pub kind_small : (k : Kind) → kind_number k < 5
+kind_small Plain = lit< tt
+kind_small Named = lit< tt
+kind_small Generic = lit< tt
+kind_small Array = lit< tt
+kind_small Pointer = lit< tt
 
-pub type-fault : {x : Parsed Ty} {n : ℕ} {r : TypeRead} → r ≡ type_of x → r ≡ NoType n → x ≡ fault n
+pub type-read : {x : Parsed Ty} {k o p : ℕ} → Ok (k, o, p) ≡ type_of x → (t : Ty) × (x ≡ ok t p) × (t.kind ≡ k) × (t.of ≡ o)
 unfolding type_of
-type-fault {x = ok t q} e f = cc
-type-fault {x = fault n} e f = cc
+type-read {x = ok t q} {k} {o} {p} e =
+    let z : ◌≡◌ {A = ℕ × ℕ × ℕ} (t.kind, t.of, q) (k, o, p) = cc in
+    (t, ap (λ w. ok t w.2) z, ap (λ w. w.0) z, ap (λ w. w.1) z)
+type-read {x = fault n} {k} {o} {p} e = let z : ◌≡◌ {A = ℕ} 0 1 = cc in absurd (omega arith)
+
+pub type-fault : {x : Parsed Ty} {n : ℕ} → Err n ≡ type_of x → x ≡ fault n
+unfolding type_of
+type-fault {x = ok t q} e = cc
+type-fault {x = fault n} e = cc
 
 -- the steps of reading a type
 module _ (names : ℕ) (s : List ℕ) (ts : List Ty) {i : ℕ} (l : length ts ≡ i) where
   module _ (kind p : ℕ) {limit w : ℕ} (el : limit ≡ of_limit names i kind) (ew : w ≡ get_or of_width kind 0) where
-    pub of-stop : {n : ℕ} → field_at 4 limit w s p ≡ fault n → NoType n ≡ type_of (parts_at names s ts kind p)
+    pub of-stop : {n : ℕ} → field_at 4 limit w s p ≡ fault n → Err n ≡ type_of (parts_at names s ts kind p)
     unfolding parts_at bind type_of
     of-stop e = simp (l, ← el, ← ew, e)
 
     module _ {of q : ℕ} (e1 : field_at 4 limit w s p ≡ ok of q) {v : ℕ} (ev : v ≡ get_or shape_width kind 0) where
-      pub shape-stop : {n : ℕ} → field_at 4 65536 v s q ≡ fault n → NoType n ≡ type_of (parts_at names s ts kind p)
+      pub shape-stop : {n : ℕ} → field_at 4 65536 v s q ≡ fault n → Err n ≡ type_of (parts_at names s ts kind p)
       unfolding parts_at bind type_of
       shape-stop e = simp (l, ← el, ← ew, e1, ← ev, e)
 
-      pub shape-read : {shape r : ℕ} → field_at 4 65536 v s q ≡ ok shape r → OneType kind of r ≡ type_of (parts_at names s ts kind p)
+      pub shape-read : {shape r : ℕ} → field_at 4 65536 v s q ≡ ok shape r → Ok (kind, of, r) ≡ type_of (parts_at names s ts kind p)
       unfolding parts_at bind type_of
       shape-read e = simp (l, ← el, ← ew, e1, ← ev, e)
 
   module _ (at : ℕ) where
-    pub kind-stop : {n : ℕ} → field_at 4 5 1 s at ≡ fault n → NoType n ≡ type_of (type_at names s ts at)
+    pub kind-stop : {n : ℕ} → field_at 4 256 1 s at ≡ fault n → Err n ≡ type_of (type_at names s ts at)
     unfolding type_at bind type_of
-    kind-stop e = simp e
+    kind-stop e = simp (narrow-stop 4 256 5 1 s at (lit≤ tt) e)
 
-    module _ {kind p : ℕ} (e : field_at 4 5 1 s at ≡ ok kind p) {b : Bool} (eb : b ≡ (ltb 0 i || eqb kind 0)) where
-      pub kind-bad : b ≡ false → NoType 4 ≡ type_of (type_at names s ts at)
-      unfolding type_at bind ensure type_of
-      kind-bad f = simp (e, l, ← eb, f)
+    module _ {n p : ℕ} (e : field_at 4 256 1 s at ≡ ok n p) where
+      pub kind-none : 5 ≤ n → Err 4 ≡ type_of (type_at names s ts at)
+      unfolding type_at bind type_of
+      kind-none le = simp (narrow-large 4 256 5 1 s at e le)
 
-      pub kind-good : b ≡ true → type_at names s ts at ≡ parts_at names s ts kind p
-      unfolding type_at bind ensure
-      kind-good f = simp (e, l, ← eb, f)
+      module _ {kind : ℕ} (ek : kind ≡ n) (lt : kind < 5) {b : Bool} (eb : b ≡ (ltb 0 i || eqb kind 0)) where
+        small : field_at 4 5 1 s at ≡ ok kind p
+        small = narrow-good 4 256 5 1 s at (rw ek e) lt
+
+        pub kind-bad : b ≡ false → Err 4 ≡ type_of (type_at names s ts at)
+        unfolding type_at bind ensure type_of
+        kind-bad f = simp (small, l, ← eb, f)
+
+        pub kind-good : b ≡ true → type_at names s ts at ≡ parts_at names s ts kind p
+        unfolding type_at bind ensure
+        kind-good f = simp (small, l, ← eb, f)
 
 type-made : (s : List ℕ) (k o h p : ℕ) → k ≡ get_or s p 0 → o ≡ number_in s (get_or of_width k 0) (p + 1)
     → h ≡ number_in s (get_or shape_width k 0) (p + 1 + get_or of_width k 0) → ◌≡◌ {A = Ty} (record { kind = k; of = o; shape = h }) (type_in s p)
@@ -127,16 +143,16 @@ abbrev pub Flags : ℕ → List ℕ → Parsed (List Ty) → List ℕ → List �
 Flags names s x starts flags = (ts : List Ty) (next : ℕ) → x ≡ ok ts next → Listed (type_in s) s starts ts × (take (length ts) flags ≡ generic_flags [] ts)
 
 module _ (names : ℕ) (s : List ℕ) where
-  pub flags-nothing : {x : Parsed (List Ty)} {k : ℕ} (starts flags : List ℕ) → x ≡ fault k → (Wrong k ≡ table_of x) × Flags names s x starts flags
+  pub flags-nothing : {x : Parsed (List Ty)} {k : ℕ} (starts flags : List ℕ) → x ≡ fault k → (Err k ≡ table_of x) × Flags names s x starts flags
   unfolding table_of
   flags-nothing starts flags z = (rw z refl, λ ts next y. impossible (sym z ∙ y))
 
   module _ {n at : ℕ} {starts flags : List ℕ} {i p : ℕ} (inv : Flagging names s n at starts flags i p) where
     pub flagging-stop : {k : ℕ} → i < n → type_at names s inv.ts p ≡ fault k
-        → (Wrong k ≡ table_of (table_from (type_at names s) [] n at)) × Flags names s (table_from (type_at names s) [] n at) starts flags
+        → (Err k ≡ table_of (table_from (type_at names s) [] n at)) × Flags names s (table_from (type_at names s) [] n at) starts flags
     flagging-stop lt e = flags-nothing starts flags (filling-stop (type_at names s) inv.place.fill lt e)
 
-    pub flagging-done : n ≤ i → (Is n p ≡ table_of (table_from (type_at names s) [] n at)) × Flags names s (table_from (type_at names s) [] n at) starts flags
+    pub flagging-done : n ≤ i → (Ok (n, p) ≡ table_of (table_from (type_at names s) [] n at)) × Flags names s (table_from (type_at names s) [] n at) starts flags
     flagging-done le =
         let g = placing-done (type_at names s) (type_in s) s inv.place le in
         let z = (filling-done (type_at names s) inv.place.fill le).0 in (
@@ -172,16 +188,16 @@ module _ (names : ℕ) (s : List ℕ) where
   -- the table's head
   module _ (at : ℕ) (starts flags : List ℕ) where
     pub types-none : {m : ℕ} → field_at 4 257 2 s at ≡ fault m
-        → (Wrong m ≡ table_of (types_at version1 names s at)) × Flags names s (types_at version1 names s at) starts flags
+        → (Err m ≡ table_of (types_at version1 names s at)) × Flags names s (types_at version1 names s at) starts flags
     unfolding types_at
     types-none e = flags-nothing starts flags (count-stop (type_at names s) 4 1 257 s at e)
 
     module _ {n p : ℕ} (e : field_at 4 257 2 s at ≡ ok n p) where
-      pub types-few : n ≡ 0 → (Wrong 4 ≡ table_of (types_at version1 names s at)) × Flags names s (types_at version1 names s at) starts flags
+      pub types-few : n ≡ 0 → (Err 4 ≡ table_of (types_at version1 names s at)) × Flags names s (types_at version1 names s at) starts flags
       unfolding types_at
       types-few z = flags-nothing starts flags (count-few (type_at names s) 4 1 257 s at e (omega arith))
 
-      pub types-all : {r : Number} → (n ≡ 0 → ⊥) → r ≡ table_of (table_from (type_at names s) [] n p) → Flags names s (table_from (type_at names s) [] n p) starts flags
+      pub types-all : {r : Result (ℕ × ℕ) ℕ} → (n ≡ 0 → ⊥) → r ≡ table_of (table_from (type_at names s) [] n p) → Flags names s (table_from (type_at names s) [] n p) starts flags
           → (r ≡ table_of (types_at version1 names s at)) × Flags names s (types_at version1 names s at) starts flags
       unfolding types_at
       types-all {r} nz g h =

@@ -2,33 +2,39 @@
 -- Assumes nothing.
 use Rattle.std.proofs.Common.{◌≡◌, ℕ, zero, suc, ◌+◌, ◌-◌, ◌*◌, ◌<◌, ◌≤◌, Bool, true, false, List, [], ◌∷◌, map, length, get_or, drop, refl, ap, ◌∙◌, ⊎_elim, add-one, arith, drop-cons}
 use mathlib.Core.Option.{Option, none, some}
+use Rattle.std.specs.Prelude as std
 use lib.Seq.{drop-length}
+use Rattle.std.specs.List.{position, position_from}
+use Rattle.std.proofs.lemmas.Iterator.Adapters.{position_from-zero}
 use Rattle.image_fields.specs.Table.{entries}
 use Rattle.image_fields.proofs.Tests.{split, less}
 use Rattle.image_fields.proofs.Numbers.{past_end}
-use Rattle.tables_lookup.specs.First.{first_from, and_then, AllWithin}
+use Rattle.tables_lookup.specs.First.{first_from, and_then, or_else, AllWithin}
 use Rattle.tables_lookup.specs.Answer.{found_of}
-use Rattle.tables_lookup.specs.declared.Found.{Found}
-use Rattle.tables_lookup.specs.declared.Found.TheVariants.{At, Nothing}
 
 -- the code's answers
-pub found : {o : Option ℕ} {i : ℕ} → o ≡ some i → At i ≡ found_of o
+pub found : {o : Option ℕ} {i : ℕ} → o ≡ some i → std.Some i ≡ found_of o
 unfolding found_of
 found e = rw e
 
-pub missing : {o : Option ℕ} → o ≡ none → Nothing ≡ found_of o
+pub missing : {o : Option ℕ} → o ≡ none → std.None ≡ found_of o
 unfolding found_of
 missing e = rw e
 
-pub was-found : {o : Option ℕ} {i : ℕ} {r : Found} → r ≡ found_of o → r ≡ At i → o ≡ some i
+pub was-found : {o : Option ℕ} {i : ℕ} {r : std.Option ℕ} → r ≡ found_of o → r ≡ std.Some i → o ≡ some i
 unfolding found_of
 was-found {o = none} e f = cc
 was-found {o = some j} e f = cc
 
-pub was-missing : {o : Option ℕ} {r : Found} → r ≡ found_of o → r ≡ Nothing → o ≡ none
+pub was-missing : {o : Option ℕ} {r : std.Option ℕ} → r ≡ found_of o → r ≡ std.None → o ≡ none
 unfolding found_of
 was-missing {o = none} e f = cc
 was-missing {o = some j} e f = cc
+
+pub or_found : (o p : Option ℕ) {r q : std.Option ℕ} {P : Type 0} → r ≡ found_of o → std.MatchOption r P (λ x. q ≡ std.Some x) → (P → q ≡ found_of p) → q ≡ found_of (or_else o p)
+unfolding found_of or_else
+or_found none p e h k = k (rw e at h)
+or_found (some i) p e h k = rw e at h
 
 pub goes_on : {A B : Type 0} {o : Option A} {a : A} (k : A → Option B) → o ≡ some a → and_then o k ≡ k a
 unfolding and_then
@@ -37,6 +43,15 @@ goes_on k e = rw e
 pub stops : {A B : Type 0} {o : Option A} (k : A → Option B) → o ≡ none → and_then o k ≡ none
 unfolding and_then
 stops k e = rw e
+
+-- the library's search for a place
+from_found : {A : Type 0} (q : A → Bool) (i : ℕ) (xs : List A) → position_from q i xs ≡ found_of (first_from q i xs)
+unfolding found_of first_from
+from_found q i [] = refl
+from_found q i (x ∷ xs) = ⊎_elim (λ t. rw t) (λ t. rw t (from_found q (i + 1) xs)) (split (q x))
+
+pub first_found : {A : Type 0} (q : A → Bool) (xs : List A) → position q xs ≡ found_of (first_from q 0 xs)
+first_found q xs = position_from-zero q xs ∙ from_found q 0 xs
 
 -- the steps of a loop
 module _ {A : Type 0} (q : A → Bool) where
@@ -51,19 +66,6 @@ module _ {A : Type 0} (q : A → Bool) where
   pub first_next : (i : ℕ) {xs ys : List A} {y : A} → xs ≡ y ∷ ys → q y ≡ false → first_from q i xs ≡ first_from q (i + 1) ys
   unfolding first_from
   first_next i e t = rw (e, t)
-
-  -- what is found is in the table
-  pub first_below : (i : ℕ) (xs : List A) {k : ℕ} → first_from q i xs ≡ some k → k < i + length xs
-  unfolding first_from
-  first_below i [] {k} e = let z : ◌≡◌ {A = ℕ} 0 1 = cc in absurd (omega arith)
-  first_below i (x ∷ xs) {k} e =
-      ⊎_elim
-      (λ t. let z : i ≡ k = here t in omega arith)
-      (λ t. let g : k < i + 1 + length xs = first_below (i + 1) xs (rw t at e) in omega arith)
-      (split (q x))
-    where
-      here : q x ≡ true → i ≡ k
-      here t = let f = rw t at e in cc
 
 -- a test of what a view makes of the entries
 pub first-map : {A B : Type 0} (q : B → Bool) (p : A → Bool) (view : A → B) → ((a : A) → q (view a) ≡ p a)

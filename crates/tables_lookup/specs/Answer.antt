@@ -1,9 +1,7 @@
--- The code's answer for what the definitions say.
-use Rattle.std.specs.Prelude.{ℕ}
-use Rattle.std.proofs.Math.Option.{Option, none, some}
-use Rattle.tables_lookup.specs.declared.Found.{Found}
-use Rattle.tables_lookup.specs.declared.Found.TheVariants.{At, Nothing}
+-- The code's option for the definitions' one.
+use Rattle.std.specs.Prelude.{ℕ, Option, Some, None}
+use Rattle.std.proofs.Math.Option as maybe
 
-unfoldable pub found_of : Option ℕ → Found
-found_of none = Nothing
-found_of (some n) = At n
+unfoldable pub found_of : maybe.Option ℕ → Option ℕ
+found_of maybe.none = None
+found_of (maybe.some n) = Some n

@@ -2,7 +2,7 @@
 // the bytes.
 #![tactic(auto)]
 
-ghost use Rattle.std.specs.Prelude.{◌≡◌, ℕ, ◌+◌, ◌*◌, ◌<◌, ◌≤◌, List, map, length, take};
+ghost use Rattle.std.specs.Prelude.{◌≡◌, ℕ, ◌+◌, ◌*◌, ◌<◌, ◌≤◌, List, map, length, take, IfSome};
 ghost use Rattle.tables.specs.Tables.{Tables};
 ghost use Rattle.tables.specs.Ty.{type_in};
 ghost use Rattle.tables.specs.Signature.{struct_in};
@@ -10,13 +10,6 @@ ghost use Rattle.tables_lookup.specs.First.{first_from, is_number, positions, Al
 ghost use Rattle.tables_lookup.specs.Ty.{Lower, struct_named, struct_shaped, struct_of_generic, struct_of, should_auto_delete};
 ghost use Rattle.tables_lookup.specs.Lent.{Filled, Lent, Says, Sized, structs_in, types_in};
 ghost use Rattle.tables_lookup.specs.Answer.{found_of};
-
-// What was found, a number, or nothing.
-#[derive(Clone, Copy)]
-pub enum Found {
-    Nothing,
-    At(usize),
-}
 
 // Whether two bytes are the number x. A byte past the end is 0.
 fn is_number(s: &[u8], at: usize, x: usize) -> bool
@@ -27,89 +20,77 @@ fn is_number(s: &[u8], at: usize, x: usize) -> bool
 }
 
 // The first of some positions with the number x so many bytes after it.
-fn first_at(s: &[u8], starts: &[u32], offset: usize, x: usize) -> Found
+fn first_at(s: &[u8], starts: &[u32], offset: usize, x: usize) -> Option<usize>
     requires { AllWithin s.now starts.now × (offset < 16) }
-    ensures { result ≡ found_of (first_from (λ at. is_number s.now x (at + offset)) 0 starts.now) }
+    ensures first { result ≡ found_of (first_from (λ at. is_number s.now x (at + offset)) 0 starts.now) }
+    ensures below { IfSome result (λ i. i < length starts.now) }
 {
-    let mut i = 0;
-    while i < starts.len() {
-        if is_number(s, starts[i] as usize + offset, x) {
-            return Found::At(i);
-        }
-        i += 1;
-    }
-    Found::Nothing
+    starts
+        .iter()
+        .position(|at| is_number(s, *at as usize + offset, x))
 }
 
 // The first of n positions, each `stride` bytes after the one before, where the number x stands.
-pub fn first_spaced(s: &[u8], stride: usize, n: usize, first: usize, x: usize) -> Found
+pub fn first_spaced(s: &[u8], stride: usize, n: usize, first: usize, x: usize) -> Option<usize>
     requires { first + stride * n < 18446744073709551615 }
-    ensures { result ≡ found_of (first_from (is_number s.now x) 0 (positions stride n first)) }
+    ensures first { result ≡ found_of (first_from (is_number s.now x) 0 (positions stride n first)) }
+    ensures below { IfSome result (λ i. i < n) }
 {
-    let mut i = 0;
     let mut p = first;
-    while i < n {
+    for i in 0..n {
         if is_number(s, p, x) {
-            return Found::At(i);
+            return Some(i);
         }
         p += stride;
-        i += 1;
     }
-    Found::Nothing
+    None
 }
 
 // The struct of a name.
-pub fn struct_named(s: &[u8], structs: &[u32], name: usize) -> Found
+pub fn struct_named(s: &[u8], structs: &[u32], name: usize) -> Option<usize>
     requires { AllWithin s.now structs.now }
-    ensures { result ≡ found_of (struct_named name (map (struct_in s.now) structs.now)) }
+    ensures named { result ≡ found_of (struct_named name (map (struct_in s.now) structs.now)) }
+    ensures below { IfSome result (λ i. i < length structs.now) }
 {
     first_at(s, structs, 0, name)
 }
 
 // The first struct of a shape.
-fn struct_shaped(s: &[u8], structs: &[u32], shape: usize) -> Found
+fn struct_shaped(s: &[u8], structs: &[u32], shape: usize) -> Option<usize>
     requires { AllWithin s.now structs.now }
-    ensures { result ≡ found_of (struct_shaped shape (map (struct_in s.now) structs.now)) }
+    ensures shaped { result ≡ found_of (struct_shaped shape (map (struct_in s.now) structs.now)) }
+    ensures below { IfSome result (λ i. i < length structs.now) }
 {
     if shape == 0 {
-        Found::Nothing
+        None
     } else {
         first_at(s, structs, 3, shape)
     }
 }
 
 // The struct of a generic type: that of its plain name, destructor or not, else the first of its shape.
-fn struct_of_generic(s: &[u8], structs: &[u32], name: usize, shape: usize) -> Found
+fn struct_of_generic(s: &[u8], structs: &[u32], name: usize, shape: usize) -> Option<usize>
     requires { AllWithin s.now structs.now }
-    ensures { result ≡ found_of (struct_of_generic name shape (map (struct_in s.now) structs.now)) }
+    ensures generic { result ≡ found_of (struct_of_generic name shape (map (struct_in s.now) structs.now)) }
+    ensures below { IfSome result (λ i. i < length structs.now) }
 {
-    match struct_named(s, structs, name) {
-        Found::At(i) => Found::At(i),
-        Found::Nothing => struct_shaped(s, structs, shape),
-    }
+    struct_named(s, structs, name).or_else(|| struct_shaped(s, structs, shape))
 }
 
 // The struct that the destructor question asks. An inline array asks that of its inner type, a lower number.
-fn struct_of_type(s: &[u8], types: &[u32], structs: &[u32], ty: usize) -> Found
+fn struct_of_type(s: &[u8], types: &[u32], structs: &[u32], ty: usize) -> Option<usize>
     requires { AllWithin s.now types.now × AllWithin s.now structs.now × Lower (map (type_in s.now) types.now) }
-    ensures { result ≡ found_of (struct_of (map (type_in s.now) types.now) (map (struct_in s.now) structs.now) ty) }
+    ensures asked { result ≡ found_of (struct_of (map (type_in s.now) types.now) (map (struct_in s.now) structs.now) ty) }
+    ensures below { IfSome result (λ i. i < length structs.now) }
 {
-    if types.len() <= ty {
-        return Found::Nothing;
-    }
-    let at = types[ty] as usize;
-    let kind = image_fields::peek(s, at);
+    let at = *types.get(ty)? as usize;
     let of = image_fields::peek_two(s, at + 1);
-    if kind == 3 {
-        return struct_of_type(s, types, structs, of);
+    match image_fields::peek(s, at) {
+        3 => struct_of_type(s, types, structs, of),
+        1 => struct_named(s, structs, of),
+        2 => struct_of_generic(s, structs, of, image_fields::peek_two(s, at + 3)),
+        _ => None,
     }
-    if kind == 1 {
-        return struct_named(s, structs, of);
-    }
-    if kind == 2 {
-        return struct_of_generic(s, structs, of, image_fields::peek_two(s, at + 3));
-    }
-    Found::Nothing
 }
 
 // Whether a local of the type is deleted at the end of its scope.
@@ -118,8 +99,8 @@ pub fn should_auto_delete(s: &[u8], types: &[u32], structs: &[u32], ty: usize) -
     ensures { result ≡ should_auto_delete (map (type_in s.now) types.now) (map (struct_in s.now) structs.now) ty }
 {
     match struct_of_type(s, types, structs, ty) {
-        Found::At(i) => image_fields::peek(s, structs[i] as usize + 2) == 1,
-        Found::Nothing => false,
+        Some(i) => image_fields::peek(s, structs[i] as usize + 2) == 1,
+        None => false,
     }
 }
 
@@ -138,12 +119,9 @@ pub fn fill_drops(s: &[u8], tb: &mut [u32])
     requires { Filled s.now tb.old }
     ensures { Lent s.now tb.new × (take 840 tb.new ≡ take 840 tb.old) }
 {
-    let count = tb[1] as usize;
-    let mut t = 0;
-    while t < count {
+    for t in 0..tb[1] as usize {
         let deleted = deleted_in(s, &tb[..], t);
         tb[840 + t] = if deleted { 1 } else { 0 };
-        t += 1;
     }
 }
 
@@ -152,9 +130,5 @@ pub fn auto_deleted(tb: &[u32], ty: usize) -> bool
     requires { Sized tb.now }
     ensures { (s : List ℕ) (T : Tables) → Lent s tb.now → Says s tb.now T → result ≡ should_auto_delete T.types T.structs ty }
 {
-    let count = tb[1] as usize;
-    if ty < count {
-        return tb[840 + ty] == 1;
-    }
-    false
+    ty < tb[1] as usize && tb[840 + ty] == 1
 }

@@ -13,65 +13,58 @@ ghost use Rattle.tables_lookup.specs.Signature.{modifier_in, modifier_of, global
 ghost use Rattle.tables_lookup.specs.Name.{is_temp, is_move};
 ghost use Rattle.tables_lookup.specs.Answer.{found_of};
 
-use tables_lookup::{Found, first_spaced, struct_named};
+use tables_lookup::{first_spaced, struct_named};
 
 // The name of a receiver's class: that of a named type, behind pointers.
-fn class_name_from_receiver_ty(s: &[u8], types: &[u32], ty: usize) -> Found
+fn class_name_from_receiver_ty(s: &[u8], types: &[u32], ty: usize) -> Option<usize>
     requires { AllWithin s.now types.now × Lower (map (type_in s.now) types.now) }
     ensures { result ≡ found_of (class_of (map (type_in s.now) types.now) ty) }
 {
-    if types.len() <= ty {
-        return Found::Nothing;
-    }
-    let at = types[ty] as usize;
-    let kind = image_fields::peek(s, at);
+    let at = *types.get(ty)? as usize;
     let of = image_fields::peek_two(s, at + 1);
-    if kind == 4 {
-        return class_name_from_receiver_ty(s, types, of);
+    match image_fields::peek(s, at) {
+        4 => class_name_from_receiver_ty(s, types, of),
+        1 => Some(of),
+        _ => None,
     }
-    if kind == 1 {
-        return Found::At(of);
-    }
-    Found::Nothing
 }
 
 // The modifier of a method of the struct at a position.
-fn modifier_in(s: &[u8], at: usize, name: usize) -> Found
+fn modifier_in(s: &[u8], at: usize, name: usize) -> Option<usize>
     requires { at < length s.now }
     ensures { result ≡ found_of (modifier_in (struct_in s.now at).methods name) }
 {
-    match first_spaced(s, 3, image_fields::peek_two(s, at + 5), at + 7, name) {
-        Found::At(i) => Found::At(image_fields::peek(s, at + 7 + 3 * i + 2)),
-        Found::Nothing => Found::Nothing,
-    }
+    let count = image_fields::peek_two(s, at + 5);
+    let i = first_spaced(s, 3, count, at + 7, name)?;
+    Some(image_fields::peek(s, at + 7 + 3 * i + 2))
 }
 
 // The modifier of a method that is called on a receiver of the type.
-pub fn method_modifier(s: &[u8], types: &[u32], structs: &[u32], ty: usize, name: usize) -> Found
+pub fn method_modifier(
+    s: &[u8],
+    types: &[u32],
+    structs: &[u32],
+    ty: usize,
+    name: usize,
+) -> Option<usize>
     requires { AllWithin s.now types.now × AllWithin s.now structs.now × Lower (map (type_in s.now) types.now) }
     ensures { result ≡ found_of (modifier_of (map (type_in s.now) types.now) (map (struct_in s.now) structs.now) ty name) }
 {
-    let Found::At(class) = class_name_from_receiver_ty(s, types, ty) else {
-        return Found::Nothing;
-    };
-    let Found::At(i) = struct_named(s, structs, class) else {
-        return Found::Nothing;
-    };
+    let class = class_name_from_receiver_ty(s, types, ty)?;
+    let i = struct_named(s, structs, class)?;
     modifier_in(s, structs[i] as usize, name)
 }
 
 // The span of the global of a name; the globals stand one after the other, 6 bytes each.
-pub fn global_span(s: &[u8], count: usize, first: usize, name: usize) -> Found
+pub fn global_span(s: &[u8], count: usize, first: usize, name: usize) -> Option<usize>
     requires { first + 6 * count ≤ length s.now }
     ensures { result ≡ found_of (global_of (entries (global_in s.now) 6 count first) name) }
 {
-    match first_spaced(s, 6, count, first, name) {
-        Found::At(i) => Found::At(image_fields::four_at(s, first + 6 * i + 2)),
-        Found::Nothing => Found::Nothing,
-    }
+    let i = first_spaced(s, 6, count, first, name)?;
+    Some(image_fields::four_at(s, first + 6 * i + 2))
 }
 
-// Whether the name at a position begins with a word.
+// Whether the name at a position begins with a word. A byte past the end is 0, in the name too.
 fn begins_with(s: &[u8], at: usize, word: &[u8]) -> bool
     requires { at ≤ length s.now }
     ensures { result ≡ starts_with word.now (name_of s.now at) }
@@ -79,12 +72,10 @@ fn begins_with(s: &[u8], at: usize, word: &[u8]) -> bool
     if image_fields::peek(s, at) < word.len() {
         return false;
     }
-    let mut i = 0;
-    while i < word.len() {
-        if image_fields::peek(s, at + 1 + i) != image_fields::wide(word[i]) {
+    for (i, b) in word.iter().enumerate() {
+        if image_fields::peek(s, at + 1 + i) != usize::from(*b) {
             return false;
         }
-        i += 1;
     }
     true
 }
@@ -114,9 +105,5 @@ pub fn is_move(s: &[u8], names: &[u32], n: usize) -> bool
     ensures { result ≡ is_move (name_of s.now (slice_index names.now n)) }
 {
     let at = start_of(names, n);
-    if image_fields::peek(s, at) == 9 {
-        begins_with(s, at, b"std::move")
-    } else {
-        false
-    }
+    image_fields::peek(s, at) == 9 && begins_with(s, at, b"std::move")
 }

@@ -2,35 +2,32 @@
 -- Assumes nothing.
 use mathlib.Core.Path.{◌≡◌, refl, sym, ap, ◌∙◌, subst, subst₂}
 use mathlib.Core.List.{List, [], ◌∷◌, ◌++◌, map, map-map}
-use mathlib.Core.Bool.{Bool, true, false, cond, not, ◌&&◌}
+use mathlib.Core.Bool.{Bool, true, false, not, ◌&&◌}
 use Prim.Native.Nat.{ℕ, zero, suc, ◌+◌, ◌*◌, ◌≤◌, ◌<◌}
 use native.Mathlib.Omega.{arith}
-use borrow.Author.Tests.{ne_eqb}
 use lib.ListN.{length, get_or, length-map}
 use lib.Dec.{eqb}
 use Rattle.image_fields.specs.Parsed.{Parsed, ok, fault, bind, ensure}
 use Rattle.image_fields.specs.Number.{two, number_in, field_at}
 use Rattle.image_fields.specs.Table.{table_at, member, entries}
 use Rattle.image_fields.specs.Answer.{read_of, table_of}
-use Rattle.image_fields.specs.declared.Read.TheVariants.{Next, Fault}
-use Rattle.image_fields.specs.declared.Number.{Number}
-use Rattle.image_fields.specs.declared.Number.TheVariants.{Is, Wrong}
+use Rattle.std.specs.Prelude.{Ok, Err, Option, Some, None}
 use Rattle.image_fields.proofs.Inverse.{ensure-ok, bound}
 use Rattle.image_fields.proofs.Numbers.{field-ok}
 use Rattle.image_fields.proofs.Tables.{Filling, filling-start, filling-next, entries-more, entries-map, table-entries, table-parts, table-alike, remade}
 use Rattle.tables.specs.Limits.{version1}
 use Rattle.tables.specs.Name.{name_of, below_bytes}
 use Rattle.tables.specs.Signature.{Method, Struct, Global, Param, Named, method_names, global_names, method_at, rises, struct_rest_at, struct_at, global_at, globals_at, param_at, this_width, entry_at, named_at, named_in, method_in, struct_in}
-use Rattle.tables_signatures.specs.Answer.{struct_name_of, Ends}
+use Rattle.tables_signatures.specs.Answer.{struct_name_of, above_last, Ends}
 
 -- the steps of reading a name with its number
 module _ (k names limit w : ℕ) (d : Bool) (s : List ℕ) (xs : List Named) (at : ℕ) where
-  pub name-stop : {n : ℕ} → field_at k names 2 s at ≡ fault n → Fault n ≡ read_of (named_at k names limit w d s xs at)
+  pub name-stop : {n : ℕ} → field_at k names 2 s at ≡ fault n → Err n ≡ read_of (named_at k names limit w d s xs at)
   unfolding named_at bind read_of
   name-stop e = simp e
 
   module _ {name p : ℕ} (e1 : field_at k names 2 s at ≡ ok name p) where
-    pub value-stop : {n : ℕ} → field_at k limit w s p ≡ fault n → Fault n ≡ read_of (named_at k names limit w d s xs at)
+    pub value-stop : {n : ℕ} → field_at k limit w s p ≡ fault n → Err n ≡ read_of (named_at k names limit w d s xs at)
     unfolding named_at bind read_of
     value-stop e = simp (e1, e)
 
@@ -39,11 +36,11 @@ module _ (k names limit w : ℕ) (d : Bool) (s : List ℕ) (xs : List Named) (at
       same_names : map (λ x. x.name) xs ≡ entries (two s) (2 + w) i first
       same_names = ap (map (λ x. x.name)) ex ∙ entries-map (λ x. x.name) (named_in w s) (2 + w) i first
 
-      pub named-taken : b ≡ true → Fault k ≡ read_of (named_at k names limit w d s xs at)
+      pub named-taken : b ≡ true → Err k ≡ read_of (named_at k names limit w d s xs at)
       unfolding named_at bind read_of ensure
       named-taken t = simp (e1, e2, same_names, ← eb, t)
 
-      pub named-free : b ≡ false → Next q ≡ read_of (named_at k names limit w d s xs at)
+      pub named-free : b ≡ false → Ok q ≡ read_of (named_at k names limit w d s xs at)
       unfolding named_at bind read_of ensure
       named-free f = simp (e1, e2, same_names, ← eb, f)
 
@@ -197,14 +194,12 @@ rises-last ns [] x name = refl
 rises-last ns (y ∷ []) x name = refl
 rises-last ns (y ∷ z ∷ ss) x name = rises-last ns (z ∷ ss) x name
 
-pub ends-none : (ns : List (List ℕ)) (last : ℕ) → Ends ns [] 0 last
+pub ends-none : (ns : List (List ℕ)) → Ends ns [] None
 unfolding rises
-ends-none ns last = record { is = λ name. refl }
+ends-none ns = record { is = λ name. refl }
 
-pub ends_next : (ns : List (List ℕ)) (ss : List Struct) (x : Struct) (i last : ℕ) → x.name ≡ last → Ends ns (ss ++ (x ∷ [])) (i + 1) last
-ends_next ns ss x i last e =
-    let nz : i + 1 ≡ 0 → ⊥ = λ z. omega arith in
-    record { is = λ name. rises-last ns ss x name ∙ rw (e, ne_eqb (i + 1) 0 nz) refl }
+pub ends_next : (ns : List (List ℕ)) (ss : List Struct) (x : Struct) (last : ℕ) → x.name ≡ last → Ends ns (ss ++ (x ∷ [])) (Some last)
+ends_next ns ss x last e = record { is = λ name. rises-last ns ss x name ∙ rw e refl }
 
 -- an entry of a mapped list
 pub get_d-mapped : {A : Type 0} (f : ℕ → A) (l : List ℕ) (k : ℕ) (d : A) → k < length l → get_or (map f l) k d ≡ f (get_or l k 0)
@@ -213,73 +208,67 @@ get_d-mapped f (x ∷ l) zero d lt = refl
 get_d-mapped f (x ∷ l) (suc k) d lt = get_d-mapped f l k d (omega arith)
 
 -- the steps of reading a struct
-pub struct-read : {x : Parsed Struct} {a p : ℕ} {r : Number} → r ≡ struct_name_of x → r ≡ Is a p → (y : Struct) × (x ≡ ok y p) × (y.name ≡ a)
+pub struct-read : {x : Parsed Struct} {a p : ℕ} → Ok (a, p) ≡ struct_name_of x → (y : Struct) × (x ≡ ok y p) × (y.name ≡ a)
 unfolding struct_name_of
-struct-read {x = ok y q} e f = (y, cc, cc)
-struct-read {x = fault n} {a} {p} {r} e f = let z : ◌≡◌ {A = ℕ} 0 1 = cc in absurd (omega arith)
+struct-read {x = ok y q} {a} {p} e =
+    let z : ◌≡◌ {A = ℕ × ℕ} (y.name, q) (a, p) = cc in (y, ap (λ w. ok y w.1) z, ap (λ w. w.0) z)
+struct-read {x = fault n} {a} {p} e = let z : ◌≡◌ {A = ℕ} 0 1 = cc in absurd (omega arith)
 
-pub struct-fault : {x : Parsed Struct} {n : ℕ} {r : Number} → r ≡ struct_name_of x → r ≡ Wrong n → x ≡ fault n
+pub struct-fault : {x : Parsed Struct} {n : ℕ} → Err n ≡ struct_name_of x → x ≡ fault n
 unfolding struct_name_of
-struct-fault {x = ok y q} e f = cc
-struct-fault {x = fault n} e f = cc
+struct-fault {x = ok y q} e = cc
+struct-fault {x = fault n} e = cc
 
 module _ (names : ℕ) (s : List ℕ) (name p : ℕ) where
-  pub flag-stop : {n : ℕ} → field_at 5 2 1 s p ≡ fault n → Wrong n ≡ struct_name_of (struct_rest_at version1 names s name p)
+  pub flag-stop : {n : ℕ} → field_at 5 2 1 s p ≡ fault n → Err n ≡ struct_name_of (struct_rest_at version1 names s name p)
   unfolding struct_rest_at bind struct_name_of
   flag-stop e = simp e
 
   module _ {d q : ℕ} (e1 : field_at 5 2 1 s p ≡ ok d q) where
-    pub shape-stop : {n : ℕ} → field_at 5 65536 2 s q ≡ fault n → Wrong n ≡ struct_name_of (struct_rest_at version1 names s name p)
+    pub shape-stop : {n : ℕ} → field_at 5 65536 2 s q ≡ fault n → Err n ≡ struct_name_of (struct_rest_at version1 names s name p)
     unfolding struct_rest_at bind struct_name_of
     shape-stop e = simp (e1, e)
 
     module _ {h r : ℕ} (e2 : field_at 5 65536 2 s q ≡ ok h r) where
-      pub methods-stop : {n : ℕ} → table_at 5 0 33 (method_at names s) s r ≡ fault n → Wrong n ≡ struct_name_of (struct_rest_at version1 names s name p)
+      pub methods-stop : {n : ℕ} → table_at 5 0 33 (method_at names s) s r ≡ fault n → Err n ≡ struct_name_of (struct_rest_at version1 names s name p)
       unfolding struct_rest_at bind struct_name_of
       methods-stop e = simp (e1, e2, e)
 
-      pub methods-read : {ms : List Method} {u : ℕ} → table_at 5 0 33 (method_at names s) s r ≡ ok ms u → Is name u ≡ struct_name_of (struct_rest_at version1 names s name p)
+      pub methods-read : {ms : List Method} {u : ℕ} → table_at 5 0 33 (method_at names s) s r ≡ ok ms u → Ok (name, u) ≡ struct_name_of (struct_rest_at version1 names s name p)
       unfolding struct_rest_at bind struct_name_of
       methods-read e = simp (e1, e2, e)
 
 module _ (s names : List ℕ) (ss : List Struct) (at : ℕ) where
-  pub struct-name-stop : {k n : ℕ} → k ≡ length names → field_at 5 k 2 s at ≡ fault n → Wrong n ≡ struct_name_of (struct_at version1 (map (name_of s) names) s ss at)
+  pub struct-name-stop : {k n : ℕ} → k ≡ length names → field_at 5 k 2 s at ≡ fault n → Err n ≡ struct_name_of (struct_at version1 (map (name_of s) names) s ss at)
   unfolding struct_at bind struct_name_of
   struct-name-stop ek e = simp (length-map, ← ek, e)
 
-  module _ {k name p : ℕ} (ek : k ≡ length names) (e : field_at 5 k 2 s at ≡ ok name p) (i last : ℕ) (ends : Ends (map (name_of s) names) ss i last) (low : last < length names)
-      {b : Bool} (eb : b ≡ cond (eqb i 0) true (below_bytes (name_of s (get_or names last 0)) (name_of s (get_or names name 0)))) where
-    pub name-known : name < length names
-    name-known = subst (λ x. name < x) ek (field-ok e).small
-
-    rising : rises (map (name_of s) names) ss name ≡ b
-    rising = ends.is name ∙ sym (eb ∙ ap (λ x. cond (eqb i 0) true (below_bytes x (name_of s (get_or names name 0)))) (sym (get_d-mapped (name_of s) names last [] low))
-        ∙ ap (λ x. cond (eqb i 0) true (below_bytes (get_or (map (name_of s) names) last []) x)) (sym (get_d-mapped (name_of s) names name [] name-known)))
-
-    pub not-rising : b ≡ false → Wrong 5 ≡ struct_name_of (struct_at version1 (map (name_of s) names) s ss at)
+  module _ {k name p : ℕ} (ek : k ≡ length names) (e : field_at 5 k 2 s at ≡ ok name p) (last : Option ℕ) (ends : Ends (map (name_of s) names) ss last)
+      {b : Bool} (eb : b ≡ above_last (map (name_of s) names) last name) where
+    pub not-rising : b ≡ false → Err 5 ≡ struct_name_of (struct_at version1 (map (name_of s) names) s ss at)
     unfolding struct_at bind ensure struct_name_of
-    not-rising f = simp (length-map, ← ek, e, rising, f)
+    not-rising f = let r : rises (map (name_of s) names) ss name ≡ b = ends.is name ∙ sym eb in simp (length-map, ← ek, e, r, f)
 
     pub struct-rest : b ≡ true → struct_at version1 (map (name_of s) names) s ss at ≡ struct_rest_at version1 k s name p
     unfolding struct_at bind ensure
-    struct-rest t = simp (length-map, ← ek, e, rising, t)
+    struct-rest t = let r : rises (map (name_of s) names) ss name ≡ b = ends.is name ∙ sym eb in simp (length-map, ← ek, e, r, t)
 
 -- the steps of reading an entry
 module _ (names types : ℕ) (s : List ℕ) (at : ℕ) where
-  pub receiver-stop : {n : ℕ} → field_at 7 5 1 s at ≡ fault n → Fault n ≡ read_of (entry_at version1 names types s at)
+  pub receiver-stop : {n : ℕ} → field_at 7 5 1 s at ≡ fault n → Err n ≡ read_of (entry_at version1 names types s at)
   unfolding entry_at bind read_of
   receiver-stop e = simp e
 
   module _ {k p : ℕ} (e1 : field_at 7 5 1 s at ≡ ok k p) {w : ℕ} (ew : w ≡ this_width k) where
-    pub this-stop : {n : ℕ} → field_at 7 types w s p ≡ fault n → Fault n ≡ read_of (entry_at version1 names types s at)
+    pub this-stop : {n : ℕ} → field_at 7 types w s p ≡ fault n → Err n ≡ read_of (entry_at version1 names types s at)
     unfolding entry_at bind read_of
     this-stop e = simp (e1, ← ew, e)
 
     module _ {t q : ℕ} (e2 : field_at 7 types w s p ≡ ok t q) where
-      pub params-stop : {n : ℕ} → table_at 7 0 17 (param_at names types s) s q ≡ fault n → Fault n ≡ read_of (entry_at version1 names types s at)
+      pub params-stop : {n : ℕ} → table_at 7 0 17 (param_at names types s) s q ≡ fault n → Err n ≡ read_of (entry_at version1 names types s at)
       unfolding entry_at bind read_of
       params-stop e = simp (e1, ← ew, e2, e)
 
-      pub params-read : {ps : List Param} {r : ℕ} → table_at 7 0 17 (param_at names types s) s q ≡ ok ps r → Next r ≡ read_of (entry_at version1 names types s at)
+      pub params-read : {ps : List Param} {r : ℕ} → table_at 7 0 17 (param_at names types s) s q ≡ ok ps r → Ok r ≡ read_of (entry_at version1 names types s at)
       unfolding entry_at bind read_of
       params-read e = simp (e1, ← ew, e2, e)

@@ -1,4 +1,4 @@
-use mathlib.Core.Path.{sym, subst}
+use mathlib.Core.Path.{refl, sym, subst}
 use Prim.Native.Nat.{ℕ}
 use Rattle.rules.specs.Rules.{switches_of}
 use Rattle.blocks_ends.specs.Ends.{Due}
@@ -6,7 +6,7 @@ use Rattle.blocks_ends.proofs.Due.{due-frame, first-few}
 use native.Mathlib.Omega.{arith}
 use Prim.Native.Nat.{suc, ◌+◌, ◌-◌}
 use Rattle.statements_acts.specs.Marks.{lent}
-use Rattle.blocks_ends.proofs.Ends.{ends-told, told-ended}
+use Rattle.blocks_laws.proofs.Ends.{block-ends}
 use Rattle.blocks_ends.proofs.end_block.Goals as goal
 
 pub ends_in_return-sure-requires : goal.ends_in_return-sure-requires
@@ -38,19 +38,28 @@ overflow_add-start-2 c = omega (arith, c.requires.0.gap)
 pub put_two-requires : goal.put_two-requires
 put_two-requires c = omega (arith, c.requires.0.gap)
 
-pub put_place-requires : goal.put_place-requires
-put_place-requires c = c.requires.2
-
-pub returns : goal.returns
-returns c =
+pub returns-then-p : goal.returns-then-p
+returns-then-p c =
     let a = c.args in
     let h = c.requires.0 in
-    let put = c.put_tail-put.ensures in
-    let told = c.put_place.ensures in (
-      λ T ld births g n m f σ e. ends-told a.start a.p (switches_of a.switches) T a.s.now a.left (suc (12 - a.left)) (a.start.written + 4) (lent a.ln.now a.lt.now ld births g n) a.out.now
+    let put = c.put_tail-put.ensures in (
+      λ T ld births g n m f σ e. block-ends (switches_of a.switches) T a.s.now a.left (suc (12 - a.left)) (lent a.l.now.names a.l.now.types ld births g n) a.start (a.start.written + 4) a.p a.out.now
           c.two_at-total.ensures.0 c.span_at-span.ensures c.ends_in_return-sure.ensures
           (put.2 (switches_of a.switches) T ld births g n (suc (12 - a.left)) m
           (subst (λ (k : ℕ). Due (switches_of a.switches) ld k (suc (12 - a.left)) n) (sym c.first_of-first.ensures) (due-frame a.switches a.left ld a.base n h.high f)))
-          c.put_two.ensures c.fitting-fits.ensures told c.ended.ensures e,
-      told-ended a.start a.p told c.ended.ensures put.0,
+          c.put_two.ensures (rw c.if-p.true refl) e,
+      record { fault = refl; at = refl; errors = refl; warnings = refl; lefts = refl; inserted = refl; most = put.0 },
+    )
+
+pub returns-else-p : goal.returns-else-p
+returns-else-p c =
+    let a = c.args in
+    let h = c.requires.0 in
+    let put = c.put_tail-put.ensures in (
+      λ T ld births g n m f σ e. block-ends (switches_of a.switches) T a.s.now a.left (suc (12 - a.left)) (lent a.l.now.names a.l.now.types ld births g n) a.start (a.start.written + 4) a.p a.out.now
+          c.two_at-total.ensures.0 c.span_at-span.ensures c.ends_in_return-sure.ensures
+          (put.2 (switches_of a.switches) T ld births g n (suc (12 - a.left)) m
+          (subst (λ (k : ℕ). Due (switches_of a.switches) ld k (suc (12 - a.left)) n) (sym c.first_of-first.ensures) (due-frame a.switches a.left ld a.base n h.high f)))
+          c.put_two.ensures (rw c.if-p.false refl) e,
+      record { fault = refl; at = refl; errors = refl; warnings = refl; lefts = refl; inserted = refl; most = put.0 },
     )

@@ -1,6 +1,6 @@
 use native.Mathlib.Omega.{arith}
 use Rattle.blocks_laws.proofs.Heads.{span-length}
-use Rattle.blocks_ends.proofs.Numbers.{head-is}
+use Rattle.blocks_ends.proofs.Walks.{head-is}
 use Rattle.blocks_ends.proofs.head.Goals as goal
 
 pub inside-q-requires : goal.inside-q-requires

@@ -8,7 +8,7 @@ use Rattle.blocks_ends.proofs.put_tail.Goals as goal
 pub returns-then-sure : goal.returns-then-sure
 returns-then-sure c =
     let a = c.args in
-    (omega arith, omega arith, λ w T ld births g n depth h f. tail_none w T a.sure depth a.span (lent a.ln.now a.lt.now ld births g n) c.if-sure.true _ _)
+    (omega arith, omega arith, λ w T ld births g n depth h f. tail_none w T a.sure depth a.span (lent a.l.now.names a.l.now.types ld births g n) c.if-sure.true _ _)
 
 pub returns : goal.returns
 returns c =
@@ -17,7 +17,7 @@ returns c =
     let own = c.since-own in (
       put.0,
       put.1,
-      λ w T ld births g n depth h f. tail-frame w T a.sure depth a.span (lent a.ln.now a.lt.now ld births g n) c.if-sure.false
-          (since-drops T a.lt.now g a.base a.ln.now ld births (λ x. concerns w (at_end depth) x) (delete_at a.span) n (f.own a.ln.now a.lt.now births))
-          (put.2 T ld births (state_since a.base g) n (since-marked T a.lt.now g a.base n _ (own.ensures 0 n (drop_in T a.lt.now g) f.few h))),
+      λ w T ld births g n depth h f. tail-frame w T a.sure depth a.span (lent a.l.now.names a.l.now.types ld births g n) c.if-sure.false
+          (since-drops T a.l.now.types g a.base a.l.now.names ld births (λ x. concerns w (at_end depth) x) (delete_at a.span) n (f.own a.l.now.names a.l.now.types births))
+          (put.2 T ld births (state_since a.base g) n (since-marked T a.l.now.types g a.base n _ (own.ensures 0 n (drop_in T a.l.now.types g) f.few h))),
     )

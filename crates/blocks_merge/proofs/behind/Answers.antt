@@ -1,5 +1,5 @@
 use native.Mathlib.Omega.{arith}
-use Rattle.blocks_ends.proofs.Numbers.{rows_few}
+use Rattle.blocks_ends.proofs.Walks.{rows_few}
 use Rattle.blocks_merge.proofs.behind.Goals as goal
 
 pub overflow_mul-result : goal.overflow_mul-result

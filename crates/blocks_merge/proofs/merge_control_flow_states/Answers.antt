@@ -1,7 +1,7 @@
 use Rattle.rules.specs.Rules.{switches_of}
 use mathlib.Core.Path.{ap}
 use Rattle.blocks_ends.specs.declared.Env.{Env}
-use Rattle.blocks_merge.proofs.Merging.{copies-other, copies-first, first-rowed, apart, merges-base, merges-other, merges-first, merges-joined, merges-fault, joins-as}
+use Rattle.blocks_merge.proofs.Merging.{copies-other, copies-first, first-rowed, apart, merges-base, merges-other, merges-first, merges-joined, merges-stopped}
 use Rattle.blocks_merge.proofs.merge_control_flow_states.Goals as goal
 
 pub returns-then-else_returns : goal.returns-then-else_returns
@@ -40,26 +40,24 @@ returns-then-else_returns-2 c =
     merges-first a.n a.base a.first a.other a.rows.now a.env.cur a.env.width a.b a.pl.now h (switches_of a.env.switches) a.then_returns a.else_returns
     c.if-then_returns.false c.if-else_returns-2.true _ _ e g
 
-pub join-r-requires : goal.join-r-requires
-join-r-requires c =
+pub join-requires : goal.join-requires
+join-requires c =
     let a = c.args in
     apart a.n a.base a.first a.other a.rows.now a.env.cur a.env.width a.b a.pl.now c.requires _ (ap (λ (x : Env). x.cur) c.behind-a.ensures)
 
-pub copy_back-requires-then-told-eq0 : goal.copy_back-requires-then-told-eq0
-copy_back-requires-then-told-eq0 c =
+pub copy_back-requires-in-Ok : goal.copy_back-requires-in-Ok
+copy_back-requires-in-Ok c =
     let a = c.args in
-    copies-first a.n a.base a.first a.other a.rows.now a.env.cur a.env.width a.b a.pl.now c.requires _ _ _ (ap (λ (x : Env). x.cur) c.behind-a.ensures) (c.join-r.ensures.rowed c.if-told-eq0.true)
+    copies-first a.n a.base a.first a.other a.rows.now a.env.cur a.env.width a.b a.pl.now c.requires _ _ _ (ap (λ (x : Env). x.cur) c.behind-a.ensures) (c.join.ensures.rowed _ c.in-Ok.is)
 
-pub returns-then-told-eq0 : goal.returns-then-told-eq0
-returns-then-told-eq0 c =
+pub returns-in-Ok : goal.returns-in-Ok
+returns-in-Ok c =
     let a = c.args in
-    let j = joins-as c.has_switch-keeps.ensures c.join-r.ensures in
-    merges-joined a.n a.base a.first a.other a.rows.now a.env.cur a.env.width a.b a.pl.now c.requires (switches_of a.env.switches) _ _ _ _ _ (ap (λ (x : Env). x.cur) c.behind-a.ensures) j c.join_fault.ensures a.then_returns a.else_returns
-    c.if-then_returns.false c.if-else_returns-2.false c.if-told-eq0.true _ c.copy_back-then-told-eq0.ensures
+    merges-joined a.n a.base a.first a.other a.rows.now a.env.cur a.env.width a.b a.pl.now c.requires (switches_of a.env.switches) c.has_switch-keeps.ensures _ _ _ (ap (λ (x : Env). x.cur) c.behind-a.ensures) c.join.ensures
+    a.then_returns a.else_returns c.if-then_returns.false c.if-else_returns-2.false _ c.in-Ok.is _ c.copy_back-in-Ok.ensures
 
-pub returns-else-told-eq0 : goal.returns-else-told-eq0
-returns-else-told-eq0 c =
+pub returns-in-Err : goal.returns-in-Err
+returns-in-Err c =
     let a = c.args in
-    let j = joins-as c.has_switch-keeps.ensures c.join-r.ensures in
-    merges-fault a.n a.base a.first a.other a.rows.now a.env.cur a.env.width a.b a.pl.now c.requires (switches_of a.env.switches) _ _ _ _ _ (ap (λ (x : Env). x.cur) c.behind-a.ensures) j c.join_fault.ensures a.then_returns a.else_returns
-    c.if-then_returns.false c.if-else_returns-2.false c.if-told-eq0.false
+    merges-stopped a.n a.base a.first a.other a.rows.now a.env.cur a.env.width a.b a.pl.now c.requires (switches_of a.env.switches) c.has_switch-keeps.ensures _ _ _ (ap (λ (x : Env). x.cur) c.behind-a.ensures) c.join.ensures
+    a.then_returns a.else_returns c.if-then_returns.false c.if-else_returns-2.false _ c.in-Err.is a.base

@@ -1,8 +1,9 @@
 use Prim.Native.Nat.{◌-◌, ◌*◌, ◌≤◌}
 use mathlib.Core.Path.{refl}
 use native.Mathlib.Omega.{arith}
+use Rattle.std.specs.Prelude.{Some, None}
 use Rattle.image_fields.specs.Bytes.{Bytes}
-use Rattle.entries_image.proofs.Whole.{entry-there, head-inside, enters, there, low-fault, seen_as, body-walked}
+use Rattle.entries_image.proofs.Whole.{entry-there, head-inside, enters, there, body-walked}
 use Rattle.entries_image.proofs.walk_body.Goals as goal
 
 pub enter-l-requires : goal.enter-l-requires
@@ -26,14 +27,13 @@ transform_block-requires c =
     let j = c.args.read.body in
     let l = c.enter-l in
     let n = c.new-states in
-    let told = c.put_place.ensures in
-    let a = enters s tb small e i j c.requires.0 l.result l.ensures n.result n.ensures.0 n.ensures.1 c.args.rows.now c.args.start _ c.requires.1 told.place in
-    let b = there s tb small e i j c.requires.0 l.result l.ensures n.result n.ensures.0 n.ensures.1 c.args.rows.now c.args.start _ c.requires.1 told.place in
+    let a = enters s tb small e i j c.requires.0 l.result l.ensures n.result n.ensures.0 n.ensures.1 c.args.rows.now c.args.start _ c.requires.1 refl in
+    let b = there s tb small e i j c.requires.0 l.result l.ensures n.result n.ensures.0 n.ensures.1 c.args.rows.now c.args.start _ c.requires.1 refl in
     let d : e.cur ≤ 1152 * (12 - e.left) = omega (arith, c.requires.0.cur) in
-    (a, b, d, refl, told.room)
+    (a, b, d, refl)
 
-pub overflow_cast-pl : goal.overflow_cast-pl
-overflow_cast-pl c =
+pub returns-in-None : goal.returns-in-None
+returns-in-None c =
     let s = c.args.s.now in
     let tb = c.args.tb.now in
     let small : Bytes s = λ k. omega (arith, c.type_inv.s k) in
@@ -42,11 +42,10 @@ overflow_cast-pl c =
     let j = c.args.read.body in
     let l = c.enter-l in
     let n = c.new-states in
-    let told = c.put_place.ensures in
-    omega (arith, low-fault s tb small e i j c.requires.0 l.result l.ensures n.result n.ensures.0 n.ensures.1 c.args.rows.now c.args.start _ c.requires.1 told.place _ _ c.transform_block.result _ _ c.transform_block.ensures.comes.0 c.transform_block.ensures.block_walks)
+    body-walked s tb small e i j c.requires.0 l.result l.ensures n.result n.ensures.0 n.ensures.1 c.args.rows.now c.args.start _ c.requires.1 refl _ _ c.transform_block.result _ _ c.transform_block.ensures.comes.0 c.transform_block.ensures.block_walks None c.in-None.is
 
-pub returns : goal.returns
-returns c =
+pub returns-in-Some : goal.returns-in-Some
+returns-in-Some c =
     let s = c.args.s.now in
     let tb = c.args.tb.now in
     let small : Bytes s = λ k. omega (arith, c.type_inv.s k) in
@@ -55,5 +54,4 @@ returns c =
     let j = c.args.read.body in
     let l = c.enter-l in
     let n = c.new-states in
-    let told = c.put_place.ensures in
-    body-walked s tb small e i j c.requires.0 l.result l.ensures n.result n.ensures.0 n.ensures.1 c.args.rows.now c.args.start _ c.requires.1 told.place _ _ c.transform_block.result _ _ c.transform_block.ensures.comes.0 c.transform_block.ensures.block_walks c.seen_at.result (seen_as c.seen_at.ensures c.place_in.ensures)
+    body-walked s tb small e i j c.requires.0 l.result l.ensures n.result n.ensures.0 n.ensures.1 c.args.rows.now c.args.start _ c.requires.1 refl _ _ c.transform_block.result _ _ c.transform_block.ensures.comes.0 c.transform_block.ensures.block_walks (Some c.in-Some.stop) c.in-Some.is

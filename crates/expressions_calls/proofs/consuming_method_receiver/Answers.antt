@@ -36,5 +36,5 @@ span_at-requires c = let f = within c.args.s.now c.args.at _ c.strip_noop_unary-
 pub returns-then-consumes : goal.returns-then-consumes
 returns-then-consumes c = λ T et ex e next st. consumed-by c.args.s.now c.args.at _ c.strip_noop_unary-p.ensures c.node_at.ensures c.in-FieldAccess.is _ c.strip_noop_unary-q.ensures c.node_at-2.ensures c.in-Ident.is T _ _ c.peek_two-ty.ensures.0 c.peek_two-method.ensures.0 (c.consumes.ensures T et ex) e next st c.if-consumes.true c.name_at.ensures c.span_at.ensures
 
-pub returns : goal.returns
-returns c = λ T et ex e next st. kept_by c.args.s.now c.args.at _ c.strip_noop_unary-p.ensures c.node_at.ensures c.in-FieldAccess.is _ c.strip_noop_unary-q.ensures c.node_at-2.ensures c.in-Ident.is T _ _ c.peek_two-ty.ensures.0 c.peek_two-method.ensures.0 (c.consumes.ensures T et ex) e next st c.if-consumes.false
+pub returns-else-consumes : goal.returns-else-consumes
+returns-else-consumes c = λ T et ex e next st. kept_by c.args.s.now c.args.at _ c.strip_noop_unary-p.ensures c.node_at.ensures c.in-FieldAccess.is _ c.strip_noop_unary-q.ensures c.node_at-2.ensures c.in-Ident.is T _ _ c.peek_two-ty.ensures.0 c.peek_two-method.ensures.0 (c.consumes.ensures T et ex) e next st c.if-consumes.false

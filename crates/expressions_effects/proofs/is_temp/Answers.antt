@@ -1,8 +1,12 @@
+use Rattle.std.proofs.Common.{◌≡◌, ◌∙◌, false, ltb, length, arith}
 use Rattle.expressions_effects.proofs.Asked.{temp-in, temp-out}
 use Rattle.expressions_effects.proofs.is_temp.Goals as goal
 
 pub returns-then-k-names : goal.returns-then-k-names
-returns-then-k-names c = λ T e. temp-in c.args.s.now c.args.names.now T e c.wide16-k.ensures c.if-k-names.true c.is_compiler_temp_name.ensures
+returns-then-k-names c = λ T e. temp-in c.args.s.now c.args.names.now T e c.from-k.ensures c.if-k-names.true c.is_compiler_temp_name.ensures
 
-pub returns : goal.returns
-returns c = λ T e. temp-out c.args.s.now c.args.names.now T e c.wide16-k.ensures c.if-k-names.false
+pub returns-else-k-names : goal.returns-else-k-names
+returns-else-k-names c = λ T e.
+    let past = c.if-k-names.false in
+    let f : ltb c.from-k.result (length c.args.names.now) ≡ false = grind arith in
+    f ∙ temp-out c.args.s.now c.args.names.now T e c.from-k.ensures past

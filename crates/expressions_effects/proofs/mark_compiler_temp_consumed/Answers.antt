@@ -5,5 +5,5 @@ use Rattle.expressions_effects.proofs.mark_compiler_temp_consumed.Goals as goal
 pub returns-then-is_temp : goal.returns-then-is_temp
 returns-then-is_temp c = λ T e. leaf-gives T _ _ (sym (c.is_temp.ensures T e) ∙ c.if-is_temp.true)
 
-pub returns : goal.returns
-returns c = λ T e. leaf-keeps T _ _ (sym (c.is_temp.ensures T e) ∙ c.if-is_temp.false)
+pub returns-else-is_temp : goal.returns-else-is_temp
+returns-else-is_temp c = λ T e. leaf-keeps T _ _ (sym (c.is_temp.ensures T e) ∙ c.if-is_temp.false)

@@ -1,11 +1,14 @@
-use borrow.Author.Tests.{eq-eqb, ne_eqb}
+use Rattle.std.proofs.Common.{◌≡◌, arith, ne_eqb}
 use Rattle.expressions_effects.proofs.own.Goals as goal
 
-pub returns-then-tag-eq1 : goal.returns-then-tag-eq1
-returns-then-tag-eq1 c = λ T e. simp (← c.peek-tag.ensures.0, eq-eqb _ _ c.if-tag-eq1.true, ← c.name_at.ensures, ← c.span_at.ensures) (c.identifier_effect.ensures T e)
+pub returns-in-1 : goal.returns-in-1
+returns-in-1 c = λ T e. simp (← c.peek.ensures.0, c.in-1.is, ← c.name_at.ensures, ← c.span_at.ensures) (c.identifier_effect.ensures T e)
 
-pub returns-then-tag-eq2 : goal.returns-then-tag-eq2
-returns-then-tag-eq2 c = λ T e. simp (← c.peek-tag.ensures.0, ne_eqb _ _ c.if-tag-eq1.false, eq-eqb _ _ c.if-tag-eq2.true, ← c.span_at-then-tag-eq2.ensures) (c.identifier_effect-then-tag-eq2.ensures T e)
+pub returns-in-2 : goal.returns-in-2
+returns-in-2 c = λ T e. simp (← c.peek.ensures.0, c.in-2.is, ← c.span_at-in-2.ensures) (c.identifier_effect-in-2.ensures T e)
 
-pub returns : goal.returns
-returns c = λ T e. simp (← c.peek-tag.ensures.0, ne_eqb _ _ c.if-tag-eq1.false, ne_eqb _ _ c.if-tag-eq2.false)
+pub returns-in_default : goal.returns-in_default
+returns-in_default c = λ T e.
+    let a : c.peek.result ≡ 1 → ⊥ = λ z. omega arith in
+    let b : c.peek.result ≡ 2 → ⊥ = λ z. omega arith in
+    simp (← c.peek.ensures.0, ne_eqb _ _ a, ne_eqb _ _ b)

@@ -6,6 +6,6 @@ pub returns-then-counted-eq0 : goal.returns-then-counted-eq0
 unfolding handed
 returns-then-counted-eq0 c = simp (eq-eqb _ _ c.if-counted-eq0.true, ← c.takes_over.ensures)
 
-pub returns : goal.returns
+pub returns-else-counted-eq0 : goal.returns-else-counted-eq0
 unfolding handed
-returns c = simp (ne_eqb _ _ c.if-counted-eq0.false)
+returns-else-counted-eq0 c = simp (ne_eqb _ _ c.if-counted-eq0.false)

@@ -21,7 +21,7 @@ pub overflow_add-next-2 : goal.overflow_add-next-2
 overflow_add-next-2 c = let z = (seen-child c.args.s.now c.requires.1.os c.requires.1.n c.args.at c.requires.1.ready c.requires.1.some c.args.top c.requires.1.is c.strip_noop_unary-p.result c.strip_noop_unary-p.ensures c.requires.2).inside in let w = c.arg_width.ensures.1 in omega arith
 
 pub returns-then-is_leaf : goal.returns-then-is_leaf
-returns-then-is_leaf c = λ T en os n rd lt eo. goes-leaf c.args.s.now os n c.args.at rd lt c.args.top eo T c.strip_noop_unary-p.result c.strip_noop_unary-p.ensures c.requires.2 c.own-effect.result c.is_handed.result _ c.arg_width.result _ refl
+returns-then-is_leaf c = λ T en os n rd lt eo. goes-leaf c.args.s.now os n c.args.at rd lt c.args.top eo T c.strip_noop_unary-p.result c.strip_noop_unary-p.ensures c.requires.2 c.own-effect.result c.is_handed.result _ c.arg_width.result refl
     (c.arg_width.ensures.0 ∙ ap (λ x. get_or arg_width x 0) c.wide-k.ensures.0) (ap leaf (sym c.wide-k.ensures.0) ∙ sym c.is_leaf.ensures ∙ c.if-is_leaf.true) c.is_handed.ensures (c.own-effect.ensures T en)
 
 pub overflow_cast-inner : goal.overflow_cast-inner

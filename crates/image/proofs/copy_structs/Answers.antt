@@ -1,25 +1,14 @@
-use mathlib.Core.Path.{◌≡◌, refl, ap, ◌∙◌}
+use mathlib.Core.Path.{sym, ap, ◌∙◌}
+use mathlib.Core.List.{◌++◌}
+use Prim.Native.Nat.{◌+◌}
 use native.Mathlib.Omega.{arith}
-use native.Mathlib.Numerals.{add-one}
-use lib.ListN.{length-set}
-use lib.Seq.{paste, paste-zero, paste-suc}
+use native.Mathlib.Nat.{le_refl}
+use lib.ListN.{take, drop}
+use lib.Seq.{length-take-le, take-take}
+use Rattle.std.proofs.lemmas.Slice.{put_mid-paste}
 use Rattle.image.proofs.copy_structs.Goals as goal
 
-pub loop-i-init : goal.loop-i-init
-loop-i-init c = (omega arith, refl, paste-zero c.args.tb.now 776 c.args.structs.now)
-
-pub bounds-tb-i : goal.bounds-tb-i
-bounds-tb-i c = let h = c.loop-i.invariant.1 in omega arith
-
-pub loop-i-preserved : goal.loop-i-preserved
-loop-i-preserved c = (
-  omega arith,
-  simp length-set c.loop-i.invariant.1,
-  rw (add-one, c.loop-i.invariant.2) (paste-suc c.args.tb.now 776 c.args.structs.now c.loop-i.i 0 (omega arith) (omega arith)),
-)
-
-pub shape_of-tb : goal.shape_of-tb
-shape_of-tb c = c.loop-i.invariant.1
-
 pub returns : goal.returns
-returns c = let e : c.loop-i.i ≡ c.args.n = omega arith in c.loop-i.invariant.2 ∙ ap (paste c.args.tb.now 776 c.args.structs.now) e
+returns c = let a = c.args in
+    put_mid-paste 776 _ a.tb.now _ (take a.n a.structs.now) a.n c.copy_from_slice.ensures.after (omega arith) (sym (length-take-le a.n a.structs.now (omega arith)))
+    ∙ ap (λ z. (take 776 a.tb.now ++ z) ++ drop (776 + a.n) a.tb.now) (take-take a.n a.n a.structs.now (le_refl a.n))

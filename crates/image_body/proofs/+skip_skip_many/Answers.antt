@@ -39,14 +39,14 @@ skip-returns t c = λ e next st.
     let eu = list-end _ _ _ _ g eq c.count_width-width.ensures.0 c.items_at.ensures c.skip_many-q.ensures in
     let ee = g.end in let a = c.last_width.ensures.0 in omega arith
 
-pub skip_many-loop-i-init : goal.skip_many-loop-i-init
-skip_many-loop-i-init t c = going_start _ _ _ _ c.requires
+pub skip_many-loop-init : goal.skip_many-loop-init
+skip_many-loop-init t c = going_start _ _ _ _ c.requires
 
 pub skip_many-skip-p-requires : goal.skip_many-skip-p-requires
-skip_many-skip-p-requires t c = (omega arith, first_walk c.loop-i-test.true c.loop-i.invariant.here)
+skip_many-skip-p-requires t c = (omega arith, first_walk (omega arith) c.loop.invariant.here)
 
-pub skip_many-loop-i-preserved : goal.skip_many-loop-i-preserved
-skip_many-loop-i-preserved t c = going_next c.loop-i-test.true c.loop-i.invariant c.skip-p.ensures
+pub skip_many-loop-preserved : goal.skip_many-loop-preserved
+skip_many-loop-preserved t c = going_next _ (omega arith) c.loop.invariant c.skip-p.ensures
 
 pub skip_many-returns : goal.skip_many-returns
-skip_many-returns t c = going_done c.loop-i-test.false c.loop-i.invariant
+skip_many-returns t c = going_done (omega arith) c.loop.invariant

@@ -1,4 +1,4 @@
-use Prim.Native.Nat.{◌+◌, ◌*◌}
+use Prim.Native.Nat.{◌+◌, ◌-◌, ◌*◌}
 use Rattle.image_body.proofs.Skipping.{Going}
 use Rattle.image_body.proofs.+skip_skip_many.Given as goal
 
@@ -8,8 +8,5 @@ decreases-skip l = 2 * l.left
 abbrev pub decreases-skip_many : goal.decreases-skip_many
 decreases-skip_many l = 2 * l.left + 1
 
-abbrev pub invariant-skip_many-loop-i : goal.invariant-skip_many-loop-i
-invariant-skip_many-loop-i l = Going l.s l.left l.n l.at l.i l.p
-
-abbrev pub decreases-skip_many-loop-i : goal.decreases-skip_many-loop-i
-decreases-skip_many-loop-i l = l.i
+abbrev pub invariant-skip_many-loop : goal.invariant-skip_many-loop
+invariant-skip_many-loop l = Going l.s l.left l.n l.at (l.n - l.counter) l.p

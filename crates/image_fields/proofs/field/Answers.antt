@@ -1,12 +1,6 @@
-use Rattle.image_fields.proofs.Numbers.{field-short, field-large, field-good}
-use Rattle.image_fields.proofs.Answers.{is-number, wrong-number}
+use Rattle.image_fields.specs.Fault.{fault_number}
+use Rattle.image_fields.proofs.Numbers.{coded-field}
 use Rattle.image_fields.proofs.field.Goals as goal
 
-pub returns-then-room-k : goal.returns-then-room-k
-returns-then-room-k c = wrong-number (field-short _ _ _ _ _ c.room.ensures c.if-room-k.true)
-
-pub returns-then-n-limit : goal.returns-then-n-limit
-returns-then-n-limit c = is-number (field-good _ _ _ _ _ c.room.ensures c.if-room-k.false c.number_in-n.ensures c.if-n-limit.true)
-
-pub returns-else-n-limit : goal.returns-else-n-limit
-returns-else-n-limit c = wrong-number (field-large _ _ _ _ _ c.room.ensures c.if-room-k.false c.number_in-n.ensures c.if-n-limit.false)
+pub returns : goal.returns
+returns c = let a = c.args in coded-field a.fault a.limit a.k a.s.now a.at _ (c.field_or.ensures (fault_number a.fault))

@@ -2,4 +2,4 @@ use Rattle.image_writing.proofs.Stores.{both_stored}
 use Rattle.image_writing.proofs.put_pair.Goals as goal
 
 pub returns : goal.returns
-returns c = both_stored c.put_number-next.ensures c.put_number.ensures
+returns c = both_stored c.put-next.ensures c.put.ensures

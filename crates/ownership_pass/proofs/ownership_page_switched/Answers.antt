@@ -1,8 +1,8 @@
 use Rattle.ownership_pass.proofs.Readings.{page-leaves-refused, page-leaves-written}
 use Rattle.ownership_pass.proofs.ownership_page_switched.Goals as goal
 
-pub returns-in-Refused : goal.returns-in-Refused
-returns-in-Refused c = page-leaves-refused c.args.switches c.args.image.now _ _ c.page_switched.result c.page_switched.ensures _ _ c.in-Refused.is
+pub returns-in-Err : goal.returns-in-Err
+returns-in-Err c = page-leaves-refused c.args.switches c.args.image.now _ _ c.page_switched.ensures c.args.written.now c.in-Err.fault c.in-Err.is c.from.ensures
 
-pub returns-in-Written : goal.returns-in-Written
-returns-in-Written c = page-leaves-written c.args.switches c.args.image.now _ _ c.page_switched.result c.page_switched.ensures _ _ c.in-Written.is
+pub returns-in-Ok : goal.returns-in-Ok
+returns-in-Ok c = page-leaves-written c.args.switches c.args.image.now _ _ c.page_switched.ensures c.args.written.now c.in-Ok.bytes c.in-Ok.is

@@ -1,16 +1,9 @@
-use native.Mathlib.Omega.{arith}
-use Rattle.entries_verdict.proofs.Rooms.{refused-value, refused-read}
-use Rattle.ownership_pass.proofs.Readings.{image-there, passes-given}
+use Rattle.std.proofs.lemmas.Result.{err_from_is_err_and}
+use Rattle.image_writing.specs.Memory.{memory}
+use Rattle.ownership_pass.proofs.Readings.{pass-unread}
 use Rattle.ownership_pass.proofs.pass_switched.Goals as goal
 
-pub returns-then-switches-gt15 : goal.returns-then-switches-gt15
-returns-then-switches-gt15 c = refused-value c.args.switches c.if-switches-gt15.true c.args.s.now _
-
-pub returns-then-fault-gt0 : goal.returns-then-fault-gt0
-returns-then-fault-gt0 c = refused-read c.args.switches (omega (arith, c.if-switches-gt15.false)) c.args.s.now _ c.read_image-read.result.fault c.read_image-read.ensures.fault c.if-fault-gt0.true
-
-pub verdict-requires : goal.verdict-requires
-verdict-requires c = image-there c.args.s.now _ c.read_image-read.result c.read_image-read.ensures (λ z. omega (arith, z, c.if-fault-gt0.false)) c.args.switches (omega (arith, c.if-switches-gt15.false)) c.first_env.result c.first_env.ensures
-
-pub returns : goal.returns
-returns c = passes-given c.first_env.ensures c.verdict.ensures
+pub returns-in_err-env : goal.returns-in_err-env
+returns-in_err-env c =
+    let r = err_from_is_err_and c.from_residual.result c.from_residual.ensures.1 in
+    rw (r.1, r.2) (pass-unread c.args.switches c.args.s.now _ c.in_err-env.field-0.0 c.read_switched.ensures c.in_err-env.was (memory c.args.out.now c.args.errs.now c.args.warns.now c.args.lefts.now))

@@ -1,18 +1,17 @@
 use native.Mathlib.Omega.{arith}
-use Rattle.ownership_pass.proofs.Readings.{image-there, measures-given, room-value, room-denied, room-needed, room-unread}
+use Rattle.std.proofs.lemmas.Result.{err_from_is_err_and}
+use Rattle.ownership_pass.proofs.Readings.{room-unread, room-denied, room-needed}
 use Rattle.ownership_pass.proofs.room_switched.Goals as goal
 
-pub returns-then-switches-gt15 : goal.returns-then-switches-gt15
-returns-then-switches-gt15 c = room-value c.args.switches c.if-switches-gt15.true c.args.s.now
+pub returns-in_err-env : goal.returns-in_err-env
+returns-in_err-env c =
+    let r = err_from_is_err_and c.from_residual.result c.from_residual.ensures.1 in
+    rw (r.1, r.2) (room-unread c.args.switches c.args.s.now _ c.in_err-env.field-0.0 c.read_switched.ensures c.in_err-env.was)
 
-pub returns-then-fault-gt0 : goal.returns-then-fault-gt0
-returns-then-fault-gt0 c = room-unread c.args.switches (omega (arith, c.if-switches-gt15.false)) c.args.s.now c.read_image-read.result.fault c.read_image-read.ensures.fault c.if-fault-gt0.true
-
-pub measure-w-requires : goal.measure-w-requires
-measure-w-requires c = image-there c.args.s.now _ c.read_image-read.result c.read_image-read.ensures (λ z. omega (arith, z, c.if-fault-gt0.false)) c.args.switches (omega (arith, c.if-switches-gt15.false)) c.first_env.result c.first_env.ensures
-
-pub returns-then-found-gt0 : goal.returns-then-found-gt0
-returns-then-found-gt0 c = room-denied c.args.s.now _ c.read_image-read.result c.read_image-read.ensures (λ z. omega (arith, z, c.if-fault-gt0.false)) c.args.switches (omega (arith, c.if-switches-gt15.false)) c.measure-w.result (measures-given c.first_env.ensures c.measure-w.ensures) c.if-found-gt0.true
+pub returns-in_err-p : goal.returns-in_err-p
+returns-in_err-p c =
+    let r = err_from_is_err_and c.from_residual-in_err-p.result c.from_residual-in_err-p.ensures.1 in
+    rw (r.1, r.2) (room-denied c.args.switches c.args.s.now _ (c.in_ok-env.env, c.in_ok-env.read) c.read_switched.ensures c.in_ok-env.was c.measure.ensures c.in_err-p.field-0.0 c.in_err-p.was)
 
 pub returns : goal.returns
-returns c = room-needed c.args.s.now _ c.read_image-read.result c.read_image-read.ensures (λ z. omega (arith, z, c.if-fault-gt0.false)) c.args.switches (omega (arith, c.if-switches-gt15.false)) c.measure-w.result (measures-given c.first_env.ensures c.measure-w.ensures) (λ k. omega (arith, c.type_inv.s k)) (λ z. omega (arith, z, c.if-found-gt0.false))
+returns c = room-needed c.args.switches c.args.s.now _ (c.in_ok-env.env, c.in_ok-env.read) c.read_switched.ensures c.in_ok-env.was c.measure.ensures (λ k. omega (arith, c.type_inv.s k)) c.in_ok-p.p c.in_ok-p.was

@@ -1,6 +1,5 @@
 use native.Mathlib.Omega.{arith}
 use Rattle.programs_faults.proofs.Records.{nothing_left, no_size, no-image, whole, inside-short, inside-ends}
-use borrow.Author.Rules.{rules}
 use Rattle.programs_faults.proofs.record_at.Goals as goal
 
 pub returns-then-room-lt1 : goal.returns-then-room-lt1

@@ -1,10 +1,5 @@
-use Prim.Native.Nat.{◌≤◌, ◌-◌}
-use mathlib.Core.Path.{◌≡◌}
 use Rattle.scope_rows.proofs.Joined.{Joining}
 use Rattle.scope_rows.proofs.join.Given as goal
 
 abbrev pub invariant-loop-i : goal.invariant-loop-i
-invariant-loop-i l = (l.i ≤ l.n) × (l.told ≡ 0) × Joining l.keeps l.width l.initial.then l.other l.initial.rows l.a l.b l.i l.then l.rows
-
-abbrev pub decreases-loop-i : goal.decreases-loop-i
-decreases-loop-i l = l.n - l.i
+invariant-loop-i l = Joining l.keeps l.width l.initial.then l.other l.initial.rows l.a l.b l.i l.then l.rows

@@ -1,6 +1,5 @@
-use native.Mathlib.Omega.{arith}
-use borrow.Author.Tests.{not-true, not-false}
-use Rattle.scope_rows.proofs.Rowing.{loads, joins-from, joins-crowd, joins-over, joins-one, joins-short, joins-many}
+use Rattle.std.proofs.Common.{rules, arith, ap, length, get_or}
+use Rattle.scope_rows.proofs.Rowing.{loads, joins-from, joins-alive, joins-one, joins-many}
 use Rattle.scope_rows.proofs.join_at.Goals as goal
 
 pub load-a-requires : goal.load-a-requires
@@ -9,34 +8,20 @@ load-a-requires c = loads _ _ _ _ c.requires.0 c.requires.2
 pub load-b-requires : goal.load-b-requires
 load-b-requires c = loads _ _ _ _ c.requires.1 c.requires.2
 
-pub returns-then-not-r : goal.returns-then-not-r
-returns-then-not-r c = let j = joins-from c.args.keeps c.args.x c.args.y c.args.rows.now c.args.row c.args.more c.load-a.result c.load-b.result c.join-r.result c.load-a.ensures.0 c.load-b.ensures.0 c.join-r.ensures in
-    joins-crowd c.args.keeps c.args.width c.args.x c.args.y c.args.rows.now c.args.row c.args.more c.join-r.result j c.requires.2 (not-true _ c.if-not-r.true)
+pub returns-in-empty : goal.returns-in-empty
+returns-in-empty c =
+    let j = joins-from c.args.keeps c.args.x c.args.y c.args.rows.now c.args.row c.args.more c.load-a.result c.load-b.result _ c.load-a.ensures c.load-b.ensures c.in-Some.ensures in
+    let n = ap length c.as_slice-places.ensures in
+    joins-alive c.args.keeps c.args.width c.args.x c.args.y c.args.rows.now c.args.row c.args.more c.in-Some.s j (search rules) (omega (arith, n, c.if-width-places.false)) (omega (arith, n, c.in-empty.len_below))
 
-pub returns-then-width-many : goal.returns-then-width-many
-returns-then-width-many c =
-    let j = joins-from c.args.keeps c.args.x c.args.y c.args.rows.now c.args.row c.args.more c.load-a.result c.load-b.result c.join-r.result c.load-a.ensures.0 c.load-b.ensures.0 c.join-r.ensures in
-    joins-over c.args.keeps c.args.width c.args.x c.args.y c.args.rows.now c.args.row c.args.more c.join-r.result j c.requires.2 (not-false _ c.if-not-r.false) (omega (arith, c.wide-many.ensures.0, c.if-width-many.true))
+pub returns-in-len1 : goal.returns-in-len1
+returns-in-len1 c =
+    let j = joins-from c.args.keeps c.args.x c.args.y c.args.rows.now c.args.row c.args.more c.load-a.result c.load-b.result _ c.load-a.ensures c.load-b.ensures c.in-Some.ensures in
+    let n = ap length c.as_slice-places.ensures in
+    joins-one c.args.keeps c.args.width c.args.x c.args.y c.args.rows.now c.args.row c.args.more c.in-Some.s j (search rules) (omega (arith, n, c.if-width-places.false)) (omega (arith, n, c.in-len1.len_at_least, c.in-len1.len_below)) _ (ap (λ ps. get_or ps 0 0) c.as_slice-places.ensures)
 
-pub returns-then-many-lt2 : goal.returns-then-many-lt2
-returns-then-many-lt2 c =
-    let j = joins-from c.args.keeps c.args.x c.args.y c.args.rows.now c.args.row c.args.more c.load-a.result c.load-b.result c.join-r.result c.load-a.ensures.0 c.load-b.ensures.0 c.join-r.ensures in
-    joins-one c.args.keeps c.args.width c.args.x c.args.y c.args.rows.now c.args.row c.args.more c.join-r.result j c.requires.2 (not-false _ c.if-not-r.false) (omega (arith, c.wide-many.ensures.0, c.if-width-many.false)) (omega (arith, c.wide-many.ensures.0, c.if-many-lt2.true))
-
-pub returns-then-rows-row : goal.returns-then-rows-row
-returns-then-rows-row c =
-    let j = joins-from c.args.keeps c.args.x c.args.y c.args.rows.now c.args.row c.args.more c.load-a.result c.load-b.result c.join-r.result c.load-a.ensures.0 c.load-b.ensures.0 c.join-r.ensures in
-    joins-short c.args.keeps c.args.width c.args.x c.args.y c.args.rows.now c.args.row c.args.more c.join-r.result j c.requires.2 (not-false _ c.if-not-r.false) (omega (arith, c.wide-many.ensures.0, c.if-width-many.false)) c.if-rows-row.true
-
-pub write_row-requires : goal.write_row-requires
-write_row-requires c =
-    ((c.join-r.ensures.is (not-false _ c.if-not-r.false)).1.roomy, omega (arith, c.wide-many.ensures.0, c.if-width-many.false, c.if-rows-row.false))
-
-pub overflow_add-kind : goal.overflow_add-kind
-overflow_add-kind c =
-    omega (arith, (c.join-r.ensures.is (not-false _ c.if-not-r.false)).1.known)
-
-pub returns : goal.returns
-returns c =
-    let j = joins-from c.args.keeps c.args.x c.args.y c.args.rows.now c.args.row c.args.more c.load-a.result c.load-b.result c.join-r.result c.load-a.ensures.0 c.load-b.ensures.0 c.join-r.ensures in
-    joins-many c.args.keeps c.args.width c.args.x c.args.y c.args.rows.now c.args.row c.args.more c.join-r.result j c.requires.2 (not-false _ c.if-not-r.false) (omega (arith, c.wide-many.ensures.0, c.if-width-many.false)) _ _ (omega (arith, c.wide-many.ensures.0, c.if-many-lt2.false)) c.if-rows-row.false c.write_row.ensures
+pub returns-else-rows-row : goal.returns-else-rows-row
+returns-else-rows-row c =
+    let j = joins-from c.args.keeps c.args.x c.args.y c.args.rows.now c.args.row c.args.more c.load-a.result c.load-b.result _ c.load-a.ensures c.load-b.ensures c.in-Some.ensures in
+    let n = ap length c.as_slice-places.ensures in
+    joins-many c.args.keeps c.args.width c.args.x c.args.y c.args.rows.now c.args.row c.args.more c.in-Some.s j (search rules) (omega (arith, n, c.if-width-places.false)) _ _ (omega (arith, n, c.in-len1-up.len_at_least)) c.if-rows-row.false (rw c.as_slice-places.ensures at c.write_row.ensures)

@@ -25,8 +25,8 @@ behind-place-requires c =
     let y = c.pre_delete_before_assign-put.ensures.1 in
     (omega (arith, r.0), r.1, w.0, omega arith, omega arith)
 
-pub taken_by-taken-requires : goal.taken_by-taken-requires
-taken_by-taken-requires c =
+pub taken_by-requires : goal.taken_by-requires
+taken_by-requires c =
     let a = c.args in
     let small : Bytes a.s.now = λ k. omega (arith, c.type_inv.s k) in
     let q = c.requires in
@@ -38,8 +38,8 @@ returns c =
     let b : Bytes a.s.now = λ k. omega (arith, c.type_inv.s k) in
     let put = c.pre_delete_before_assign-put in
     let w = c.behind-place in record {
-      acts_there = λ sw T h ld births g m. assign-acts a.s.now b a.p a.end c.requires.3 c.requires.4 put.result w.result c.revived-change.result c.taken_by-taken.result w.ensures sw T
-          (lent a.ln.now a.lt.now ld births g a.n) c.span_at-span.result c.span_at-span.ensures (put.ensures.2 sw T ld births g m) c.revived-change.ensures (c.taken_by-taken.ensures T h ld births g);
+      acts_there = λ sw T h ld births g m. assign-acts a.s.now b a.p a.end c.requires.3 c.requires.4 put.result w.result c.revived.result c.taken_by.result w.ensures sw T
+          (lent a.l.now.names a.l.now.types ld births g a.l.now.count) c.span_at-span.result c.span_at-span.ensures (put.ensures.2 sw T ld births g m) c.revived.ensures (c.taken_by.ensures T h ld births g);
       grows = (
         assign-grows a.s.now b a.p a.end c.requires.3 c.requires.4 put.result put.ensures.0 put.ensures.1 w.result w.ensures,
         assign-ends a.s.now b a.p a.end c.requires.3 c.requires.4 w.result w.ensures.at,

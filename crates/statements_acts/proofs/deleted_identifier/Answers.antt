@@ -7,12 +7,12 @@ use Rattle.statements_acts.proofs.deleted_identifier.Goals as goal
 pub returns-in_default : goal.returns-in_default
 returns-in_default c = no-delete-at c.args.s.now c.args.at _ c.strip_noop_unary-p.ensures c.node_at.ensures c.in_default.not-Delete
 
-pub returns-in-Called : goal.returns-in-Called
-returns-in-Called c =
+pub returns-in-Some : goal.returns-in-Some
+returns-in-Some c =
     let a = c.args in
-    λ e next st. sym (ap (λ x. delete_of (named_of x)) c.in-Called.is) ∙ delete-at a.s.now a.at _ c.strip_noop_unary-p.ensures c.node_at.ensures c.in-Delete.is c.name_in.result c.name_in.ensures e next st
+    λ e next st. sym (ap (λ x. delete_of (named_of x)) c.in-Some.is) ∙ delete-at a.s.now a.at _ c.strip_noop_unary-p.ensures c.node_at.ensures c.in-Delete.is c.name_in.result c.name_in.ensures e next st
 
-pub returns-in-Nobody : goal.returns-in-Nobody
-returns-in-Nobody c =
+pub returns-in-None : goal.returns-in-None
+returns-in-None c =
     let a = c.args in
-    λ e next st. sym (ap (λ x. delete_of (named_of x)) c.in-Nobody.is) ∙ delete-at a.s.now a.at _ c.strip_noop_unary-p.ensures c.node_at.ensures c.in-Delete.is c.name_in.result c.name_in.ensures e next st
+    λ e next st. sym (ap (λ x. delete_of (named_of x)) c.in-None.is) ∙ delete-at a.s.now a.at _ c.strip_noop_unary-p.ensures c.node_at.ensures c.in-Delete.is c.name_in.result c.name_in.ensures e next st

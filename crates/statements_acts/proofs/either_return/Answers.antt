@@ -4,7 +4,7 @@ use Rattle.statements_acts.proofs.either_return.Goals as goal
 
 pub returns-then-peek-eq1 : goal.returns-then-peek-eq1
 returns-then-peek-eq1 c =
-    record { acts_there = λ T ld g n e warns. c.return_statement.ensures.acts_there _ T ld c.args.lb.now g n e warns c.args.lefts.now; grows = (c.return_statement.ensures.grows.0, c.return_statement.ensures.grows.1) }
+    record { acts_there = λ T ld g n e warns. c.return_statement.ensures.acts_there _ T ld c.args.l.now.births g n e warns c.args.lefts.now; grows = (c.return_statement.ensures.grows.0, c.return_statement.ensures.grows.1) }
 
 pub bare_return-requires : goal.bare_return-requires
 bare_return-requires c =

@@ -1,4 +1,4 @@
-use Rattle.statements_acts.proofs.Dropped.{placed-none, placed-more, placed_one, listing-all, listing-put, listing_none}
+use Rattle.statements_acts.proofs.Dropped.{placed-none, placed-more, listing-all, listing-put, listing_none}
 use Rattle.rules_page.specs.Page.{blanks}
 use Rattle.scope_stack.proofs.Words.{ones-less}
 use native.Mathlib.Omega.{arith}
@@ -12,24 +12,6 @@ begin_lefts-requires c = refl
 pub loop-rest-init : goal.loop-rest-init
 loop-rest-init c = (refl, refl, placed-none _ _ c.ranges.mark.fits, λ T tys depths g k e. listing-all T _ tys depths _ g _ _ k _ _ _ _ e)
 
-pub offset_bounds-names-i : goal.offset_bounds-names-i
-offset_bounds-names-i c = omega (arith, c.newest-i.ensures.0.small)
-
-pub bounds-names-i : goal.bounds-names-i
-bounds-names-i c = c.newest-i.ensures.0.small
-
-pub offset_bounds-births-i : goal.offset_bounds-births-i
-offset_bounds-births-i c = omega (arith, c.newest-i.ensures.0.small)
-
-pub bounds-births-i : goal.bounds-births-i
-bounds-births-i c = c.newest-i.ensures.0.small
-
-pub put_left-at-requires : goal.put_left-at-requires
-put_left-at-requires c = (omega (arith, placed_one _ _ _ _ c.loop-rest.invariant.2 c.newest-i.ensures.0, c.requires), λ e. c.begin_lefts.ensures e)
-
-pub without-rest-requires : goal.without-rest-requires
-without-rest-requires c = (c.newest-i.ensures.0.small, c.newest-i.ensures.0.low)
-
 pub loop-rest-smaller : goal.loop-rest-smaller
 loop-rest-smaller c = rw c.without-rest.ensures (ones-less _ _ c.newest-i.ensures.0)
 
@@ -41,14 +23,8 @@ loop-rest-preserved c =
       put.auto.out ∙ i.0,
       put.auto.lefts ∙ i.1,
       placed-more _ _ _ _ _ i.2 c.newest-i.ensures.0 put.ensures.1,
-      λ T tys depths g k e. listing-put T _ tys depths _ g _ _ k _ _ _ _ _ _ _ (i.3 T tys depths g k e) _ c.newest-i.ensures.1 c.number.ensures refl put.ensures.0,
+      λ T tys depths g k e. listing-put T _ tys depths _ g _ _ k _ _ _ _ _ _ _ (i.3 T tys depths g k e) _ c.newest-i.ensures.1 c.from.ensures refl put.ensures.0,
     )
-
-pub shape_of-out : goal.shape_of-out
-shape_of-out c = c.loop-rest.invariant.0
-
-pub shape_of-lefts : goal.shape_of-lefts
-shape_of-lefts c = c.loop-rest.invariant.1
 
 pub returns : goal.returns
 returns c = (omega (arith, c.loop-rest.invariant.2.room), λ T tys depths g k e. listing_none T _ tys depths _ g _ _ k _ _ _ _ _ _ _ (c.loop-rest.invariant.3 T tys depths g k e) c.loop-rest-test.false)

@@ -3,8 +3,8 @@ use native.Mathlib.Omega.{arith}
 use Rattle.statements_acts.proofs.Acts.{room_of, none-put-is, plain-reach, plain-grows, plain-acts}
 use Rattle.statements_acts.proofs.plain_statement.Goals as goal
 
-pub behind-place-requires : goal.behind-place-requires
-behind-place-requires c =
+pub behind-requires : goal.behind-requires
+behind-requires c =
     let a = c.args in
     let small : Bytes a.s.now = λ k. omega (arith, c.type_inv.s k) in
     let q = c.requires in
@@ -18,5 +18,9 @@ returns c =
     let a = c.args in
     let small : Bytes a.s.now = λ k. omega (arith, c.type_inv.s k) in
     let q = c.requires in
-    let wrote = c.behind-place in
-    let none = c.nothing_put in record { acts_there = plain-acts a.s.now small a.p a.to q.1 q.2 none.result none.ensures wrote.result wrote.ensures; grows = plain-grows a.s.now small a.p a.to q.1 q.2 none.result none.ensures wrote.result wrote.ensures }
+    let wrote = c.behind in
+    let none = c.nothing_put in
+    rw c.unchanged.ensures (record {
+      acts_there = plain-acts a.s.now small a.p a.to q.1 q.2 none.result none.ensures wrote.result wrote.ensures;
+      grows = plain-grows a.s.now small a.p a.to q.1 q.2 none.result none.ensures wrote.result wrote.ensures;
+    })

@@ -1,4 +1,4 @@
-use Rattle.statements_acts.proofs.Dropped.{bounded-none, bounded-more, bounded-one, left-all, left-skip, left-put, left-none}
+use Rattle.statements_acts.proofs.Dropped.{bounded-none, bounded-more, left-all, left-skip, left-put, left-none}
 use Rattle.statements_acts.specs.Marks.{static_in}
 use Rattle.statements_steps.specs.Drops.{delete_bytes}
 use Rattle.image_writing.proofs.Stores.{delete-length}
@@ -13,29 +13,6 @@ use Rattle.statements_acts.proofs.put_drops.Goals.{then-admits, else-admits}
 pub loop-m-init : goal.loop-m-init
 loop-m-init c = (refl, bounded-none _ _ c.ranges.mark.fits, λ T depths births g n e. left-all T _ _ depths births g _ (delete_at _) delete_bytes _ _ n _ e)
 
-pub offset_bounds-names-i : goal.offset_bounds-names-i
-offset_bounds-names-i c = omega (arith, c.newest-i.ensures.0.small)
-
-pub bounds-names-i : goal.bounds-names-i
-bounds-names-i c = c.newest-i.ensures.0.small
-
-pub offset_bounds-tys-i : goal.offset_bounds-tys-i
-offset_bounds-tys-i c = omega (arith, c.newest-i.ensures.0.small)
-
-pub bounds-tys-i : goal.bounds-tys-i
-bounds-tys-i c = c.newest-i.ensures.0.small
-
-pub put_delete-place-requires : goal.put_delete-place-requires
-put_delete-place-requires c =
-    omega (arith, (bounded-one _ _ _ _ _ c.loop-m.invariant.1 c.newest-i.ensures.0).0, c.requires)
-
-pub overflow_add-put : goal.overflow_add-put
-overflow_add-put c =
-    omega (arith, (bounded-one _ _ _ _ _ c.loop-m.invariant.1 c.newest-i.ensures.0).1)
-
-pub without-m-requires : goal.without-m-requires
-without-m-requires c = (c.newest-i.ensures.0.small, c.newest-i.ensures.0.low)
-
 pub loop-m-smaller : goal.loop-m-smaller
 loop-m-smaller c = rw c.without-m.ensures (ones-less _ _ c.newest-i.ensures.0)
 
@@ -47,18 +24,15 @@ loop-m-preserved c =
           rw (w.out-is, w.place-is, w.put-is, c.without-m.ensures) (
             w.put_delete-place.auto.out ∙ c.loop-m.invariant.0,
             bounded-more _ _ _ _ _ _ _ c.loop-m.invariant.1 c.newest-i.ensures.0 (omega (arith, to)) (omega arith),
-            λ T depths births g n e. left-put T _ _ depths births g _ (delete_at _) delete_bytes _ _ n _ _ _ _ (c.loop-m.invariant.2 T depths births g n e) _ c.newest-i.ensures.1 _ _ _ (sym (c.admits.ensures (static_in c.args.names.now c.args.tys.now depths births c.newest-i.result) refl) ∙ w.if-admits.true) (λ z. refl) w.put_delete-place.ensures,
+            λ T depths births g n e. left-put T _ _ depths births g _ (delete_at _) delete_bytes _ _ n _ _ _ _ (c.loop-m.invariant.2 T depths births g n e) _ c.newest-i.ensures.1 _ _ _ (sym (c.admits.ensures (static_in c.args.l.now.names c.args.l.now.types depths births c.newest-i.result) refl) ∙ w.if-admits.true) (λ z. refl) w.put_delete-place.ensures,
           )
       | else-admits w ↦
           rw (w.out-is, w.place-is, w.put-is, c.without-m.ensures) (
             c.loop-m.invariant.0,
             bounded-more _ _ _ _ _ _ _ c.loop-m.invariant.1 c.newest-i.ensures.0 (omega arith) (omega arith),
-            λ T depths births g n e. left-skip T _ _ depths births g _ (delete_at _) delete_bytes _ _ n _ _ _ _ (c.loop-m.invariant.2 T depths births g n e) _ c.newest-i.ensures.1 (sym (c.admits.ensures (static_in c.args.names.now c.args.tys.now depths births c.newest-i.result) refl) ∙ w.if-admits.false),
+            λ T depths births g n e. left-skip T _ _ depths births g _ (delete_at _) delete_bytes _ _ n _ _ _ _ (c.loop-m.invariant.2 T depths births g n e) _ c.newest-i.ensures.1 (sym (c.admits.ensures (static_in c.args.l.now.names c.args.l.now.types depths births c.newest-i.result) refl) ∙ w.if-admits.false),
           )
     ]
-
-pub shape_of-out : goal.shape_of-out
-shape_of-out c = c.loop-m.invariant.0
 
 pub returns : goal.returns
 returns c = (

@@ -15,7 +15,7 @@ use Rattle.statements_acts.proofs.put_drops.Given as goal
 abbrev pub invariant-loop-m : goal.invariant-loop-m
 invariant-loop-m l =
     (length l.out ≡ length l.initial.out) × Bounded l.at l.m l.place l.put
-    × ((T : Tables) (depths births : List ℕ) (g : ℕ → Status) (n : ℕ) → Marked T l.tys g n l.mark → Left T l.names l.tys depths births g (admitted l.which) (delete_at l.span) delete_bytes l.initial.out l.at n l.m l.out l.place l.put)
+    × ((T : Tables) (depths births : List ℕ) (g : ℕ → Status) (n : ℕ) → Marked T l.l.types g n l.mark → Left T l.l.names l.l.types depths births g (admitted l.spared) (delete_at l.span) delete_bytes l.initial.out l.at n l.m l.out l.place l.put)
 
 abbrev pub decreases-loop-m : goal.decreases-loop-m
 decreases-loop-m l = ones 64 l.m

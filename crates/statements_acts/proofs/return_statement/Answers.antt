@@ -14,8 +14,8 @@ overflow_add-end c =
     let r = return-reach a.s.now small a.p a.end q.1 q.2 q.3 in
     omega arith
 
-pub behind-place-requires : goal.behind-place-requires
-behind-place-requires c =
+pub behind-requires : goal.behind-requires
+behind-requires c =
     let a = c.args in
     let small : Bytes a.s.now = λ k. omega (arith, c.type_inv.s k) in
     let q = c.requires in
@@ -32,10 +32,11 @@ returns c =
     let small : Bytes a.s.now = λ k. omega (arith, c.type_inv.s k) in
     let q = c.requires in
     let put = c.put_drops-put in
-    let wrote = c.behind-place in record {
-      acts_there = λ sw T ld births g n e. return-acts a.s.now small a.p a.end q.1 q.2 q.3 put.result wrote.result wrote.ensures sw T (lent a.ln.now a.lt.now ld births g n) c.returned_identifier_name-which.result c.returned_identifier_name-which.ensures (put.ensures.2 T ld births g n e);
+    let wrote = c.behind in
+    rw c.unchanged.ensures (record {
+      acts_there = λ sw T ld births g n e. return-acts a.s.now small a.p a.end q.1 q.2 q.3 put.result wrote.result wrote.ensures sw T (lent a.l.now.names a.l.now.types ld births g n) c.returned_identifier_name-spared.result c.returned_identifier_name-spared.ensures (put.ensures.2 T ld births g n e);
       grows = (
         return-grows a.s.now small a.p a.end q.1 q.2 q.3 put.result put.ensures.0 put.ensures.1 wrote.result wrote.ensures,
         return-ends a.s.now small a.p a.end q.1 q.2 q.3 wrote.result wrote.ensures.at,
       );
-    }
+    })

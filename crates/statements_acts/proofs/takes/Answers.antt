@@ -1,43 +1,30 @@
-use mathlib.Core.Path.{sym, ◌∙◌}
-use native.Mathlib.Omega.{arith}
+use mathlib.Core.Path.{refl, ap, ◌∙◌}
+use mathlib.Core.Bool.{not}
+use borrow.Author.Tests.{eq-eqb, ne_eqb}
 use Rattle.rules.specs.Stack.{shape}
 use Rattle.statements_acts.specs.Marks.{lent}
 use Rattle.statements_acts.proofs.Lent.{static-none, static-some}
-use Rattle.scope_state.proofs.Stacked.{found_below}
-use Rattle.statements_acts.proofs.Taken.{takes_same, takes_none, takes-other, takes-temp, takes-last}
+use Rattle.statements_acts.proofs.Taken.{takes_none, takes-all}
 use Rattle.statements_acts.proofs.takes.Goals as goal
-
-pub returns-then-temp-name : goal.returns-then-temp-name
-returns-then-temp-name c =
-    let a = c.args in
-    λ T e ld births g. takes_same T (shape (lent a.ln.now a.lt.now ld births g a.n)) _ _ _ c.if-temp-name.true
+use Rattle.statements_acts.proofs.takes.Goals.{then-temp-name, else-temp-name, then-l-i, else-l-i}
 
 pub returns-in_default : goal.returns-in_default
 returns-in_default c =
     let a = c.args in
-    λ T e ld births g. takes_none T (shape (lent a.ln.now a.lt.now ld births g a.n)) _ _ _ (static-none c.find_local-found.ensures a.lt.now ld births g c.in_default.is)
+    λ T e ld births g. takes_none T (shape (lent a.l.now.names a.l.now.types ld births g a.l.now.count)) _ _ _ (static-none c.find_local.ensures a.l.now.types ld births g c.in_default.is)
 
-pub offset_bounds-lt-i : goal.offset_bounds-lt-i
-offset_bounds-lt-i c =
+pub returns-then-not-is_temp : goal.returns-then-not-is_temp
+returns-then-not-is_temp c =
     let a = c.args in
-    let b = found_below c.find_local-found.ensures c.in-At.is in omega arith
+    λ T e ld births g. takes-all T (shape (lent a.l.now.names a.l.now.types ld births g a.l.now.count)) _ _ _ (static-some c.find_local.ensures a.l.now.types ld births g c.in-Some.is) {a = c.if-temp-name.value} {b = c.if-l-i.value}
+    (elim c.if-temp-name.branch [ then-temp-name w ↦ rw (ne_eqb _ _ w.if-temp-name.true) w.value-is | else-temp-name w ↦ w.value-is ∙ rw (eq-eqb _ _ w.if-temp-name.false) refl ])
+    (elim c.if-l-i.branch [ then-l-i w ↦ rw w.if-l-i.true (w.value-is ∙ ap not (w.is_temp.ensures T e)) | else-l-i w ↦ w.value-is ∙ rw w.if-l-i.false refl ])
+    (rw c.if-not-is_temp.true (c.is_temp-then-not-is_temp.ensures T e))
 
-pub bounds-lt-i : goal.bounds-lt-i
-bounds-lt-i c =
+pub returns-else-not-is_temp : goal.returns-else-not-is_temp
+returns-else-not-is_temp c =
     let a = c.args in
-    let b = found_below c.find_local-found.ensures c.in-At.is in omega arith
-
-pub returns-then-lt-i : goal.returns-then-lt-i
-returns-then-lt-i c =
-    let a = c.args in
-    λ T e ld births g. takes-other T (shape (lent a.ln.now a.lt.now ld births g a.n)) _ _ _ (static-some c.find_local-found.ensures a.lt.now ld births g c.in-At.is) c.if-lt-i.true
-
-pub returns-then-is_temp : goal.returns-then-is_temp
-returns-then-is_temp c =
-    let a = c.args in
-    λ T e ld births g. takes-temp T (shape (lent a.ln.now a.lt.now ld births g a.n)) _ _ _ (sym (c.is_temp.ensures T e) ∙ c.if-is_temp.true)
-
-pub returns : goal.returns
-returns c =
-    let a = c.args in
-    λ T e ld births g. takes-last T (shape (lent a.ln.now a.lt.now ld births g a.n)) _ _ _ c.if-temp-name.false (static-some c.find_local-found.ensures a.lt.now ld births g c.in-At.is) c.if-lt-i.false (sym (c.is_temp.ensures T e) ∙ c.if-is_temp.false) (c.is_temp-2.ensures T e)
+    λ T e ld births g. takes-all T (shape (lent a.l.now.names a.l.now.types ld births g a.l.now.count)) _ _ _ (static-some c.find_local.ensures a.l.now.types ld births g c.in-Some.is) {a = c.if-temp-name.value} {b = c.if-l-i.value}
+    (elim c.if-temp-name.branch [ then-temp-name w ↦ rw (ne_eqb _ _ w.if-temp-name.true) w.value-is | else-temp-name w ↦ w.value-is ∙ rw (eq-eqb _ _ w.if-temp-name.false) refl ])
+    (elim c.if-l-i.branch [ then-l-i w ↦ rw w.if-l-i.true (w.value-is ∙ ap not (w.is_temp.ensures T e)) | else-l-i w ↦ w.value-is ∙ rw w.if-l-i.false refl ])
+    (rw c.if-not-is_temp.false refl)

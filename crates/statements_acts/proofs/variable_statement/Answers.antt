@@ -19,7 +19,7 @@ returns c =
     let b : Bytes a.s.now = λ k. omega (arith, c.type_inv.s k) in
     let put = c.nothing_put in
     let w = c.behind-place in record {
-      acts_there = λ sw T h ld births g. variable-acts a.s.now b a.p a.end c.requires.3 c.requires.4 c.requires.5 put.result put.ensures w.result w.ensures sw T (lent a.ln.now a.lt.now ld births g a.n) _ _ _
+      acts_there = λ sw T h ld births g. variable-acts a.s.now b a.p a.end c.requires.3 c.requires.4 c.requires.5 put.result put.ensures w.result w.ensures sw T (lent a.l.now.names a.l.now.types ld births g a.l.now.count) _ _ _
           c.consumed_compiler_temp_from_value-taken.result c.name_at-name.ensures c.name_at-ty.ensures c.span_at-born.ensures (c.consumed_compiler_temp_from_value-taken.ensures T h ld births g);
       grows = variable-grows a.s.now b a.p a.end c.requires.3 c.requires.4 c.requires.5 put.result put.ensures w.result w.ensures;
     }

@@ -1,9 +1,8 @@
 use Rattle.rules.specs.Rules.{switches_of}
-use Prim.Native.Nat.{◌-◌}
-use Rattle.statements_changes.proofs.Steady.{tag-inside, front-there, fit-came, within-told, front-told, acts-told, acts-of, grows-told, came-told, ends-told}
+use Rattle.statements_changes.proofs.Steady.{tag-inside, front-there, fit-came, acts-of}
 use Rattle.scope_state.proofs.Stacked.{length-stacked}
 use Rattle.statements_changes.proofs.Behind.{acted-after}
-use lib.ListN.{length, get_or}
+use lib.ListN.{length}
 use Rattle.image_fields.specs.Bytes.{Bytes}
 use mathlib.Core.Path.{ap, ◌∙◌}
 use native.Mathlib.Omega.{arith}
@@ -13,10 +12,7 @@ pub bounds-s-at : goal.bounds-s-at
 bounds-s-at c = let r = c.requires in (tag-inside _ _ c.args.c r.4 r.5 r.6).0
 
 pub statement-a-requires : goal.statement-a-requires
-statement-a-requires c =
-    let r = c.requires in
-    let e = c.told-q.ensures in
-    (r.0, r.1, r.2, within-told e r.4.steady.inside, front-told _ _ _ _ e (front-there _ _ c.args.c r.4 r.5 r.6))
+statement-a-requires c = let r = c.requires in (r.0, r.1, r.2, r.4.steady.inside, front-there _ _ c.args.c r.4 r.5 r.6)
 
 pub overflow_sub-c : goal.overflow_sub-c
 overflow_sub-c c =
@@ -27,10 +23,8 @@ returns c =
     let a = c.args in
     let r = c.requires in
     let b = c.statement-a in
-    let e = c.told-q.ensures in
-    let small : Bytes a.s.now = λ k. omega (arith, c.type_inv.s k) in
-    let m = came-told (get_or a.s.now a.c.place.at 0) (a.c.left - 1) b.result.change b.result.taken c.turn_of.ensures c.told-z.ensures in record {
+    let small : Bytes a.s.now = λ k. omega (arith, c.type_inv.s k) in record {
       after = λ T tb ld at σ loop h all σ₀ p₀ m₀ nodes errs g. acted-after (switches_of a.env.switches) T a.s.now small a.env.left _ all σ₀ p₀ m₀ nodes a.c σ _ errs _ _ _ _ _ (g.within r.5) (omega (arith, r.6)) b.result
-          (acts-of h.held (acts-told e (b.ensures.acts_there T tb ld at h.marked _ h.jumps))) (let l = ap length h.held ∙ length-stacked _ at _ in let f = r.1 in omega arith) _ m;
-      by_index = fit-came a.s.now a.env.left a.c r.4 r.5 r.6 small b.result (ends-told _ _ _ _ e b.ensures.grows.1) (grows-told e b.ensures.grows.0) _ m;
+          (acts-of h.held (b.ensures.acts_there T tb ld at h.marked _ h.jumps)) (let l = ap length h.held ∙ length-stacked _ at _ in let f = r.1 in omega arith) _ c.turn_of.ensures;
+      by_index = fit-came a.s.now a.env.left a.c r.4 r.5 r.6 small b.result b.ensures.grows.1 b.ensures.grows.0 _ c.turn_of.ensures;
     }

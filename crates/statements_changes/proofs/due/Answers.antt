@@ -1,32 +1,35 @@
-use Rattle.statements_changes.proofs.Turned.{owed-after, owed-fit, over-after, over-fit, marks-something, no_end, owed-ahead}
+use Rattle.statements_changes.proofs.Turned.{owed-after, owed-fit, over-after, over-fit, owed-ahead, came-back, not-back, not-on}
 use Rattle.statements_changes.specs.declared.Came.{Came}
-use mathlib.Core.Path.{refl, ap}
+use mathlib.Core.Path.{refl, ap, ◌∙◌}
 use native.Mathlib.Omega.{arith}
 use Rattle.statements_changes.proofs.due.Goals as goal
 
-pub returns-in-Called : goal.returns-in-Called
-returns-in-Called c =
+pub returns-in-Some : goal.returns-in-Some
+returns-in-Some c =
     let a = c.args.c in
-    let t = c.in-Called.is in
+    let t = c.in-Some.is in
     let o = c.owed.ensures in record {
-      by_index = λ s left nodes st. (
-        owed-fit s left nodes a st _ _ t _ o,
-        λ z. absurd (marks-something _ _ _ _ _ _ o z),
-        λ z y. owed-ahead s left nodes a st _ _ t _ o,
-        λ sw T loop all σ₀ p₀ m₀ σ m g. owed-after s left nodes a st _ _ t sw T loop all σ₀ p₀ m₀ σ m g _ o,
+      goes_on = λ x e. absurd (not-on e);
+      by_index = λ came e s left nodes st. (
+        owed-fit s left nodes a st _ t came (came-back e ∙ o),
+        λ z. owed-ahead s left nodes a st _ t came (came-back e ∙ o),
+        λ sw T loop all σ₀ p₀ m₀ σ m g. owed-after s left nodes a st _ t sw T loop all σ₀ p₀ m₀ σ m g came (came-back e ∙ o),
       );
-      place_value = ap (λ (x : Came). x.cursor.place) o;
+      place_value = λ came e. ap (λ (x : Came). x.cursor.place) (came-back e ∙ o);
     }
 
 pub returns-then-c-eq0 : goal.returns-then-c-eq0
 returns-then-c-eq0 c =
     let a = c.args.c in
-    let e = c.if-c-eq0.true in
-    let t = c.in_default.is in
-    record { by_index = λ s left nodes st. (over-fit s left nodes a st e, λ z. absurd (no_end z), λ z y. absurd (y refl), λ sw T loop all σ₀ p₀ m₀ σ m g. over-after s left nodes a st t e sw T loop all σ₀ p₀ m₀ σ m g); place_value = refl }
+    let n = c.if-c-eq0.true in
+    let t = c.in_default.is in record {
+      goes_on = λ x e. absurd (not-on e);
+      by_index = λ came e s left nodes st. rw (came-back e) (over-fit s left nodes a st n, λ z. absurd (z refl), λ sw T loop all σ₀ p₀ m₀ σ m g. over-after s left nodes a st t n sw T loop all σ₀ p₀ m₀ σ m g);
+      place_value = λ came e. ap (λ (x : Came). x.cursor.place) (came-back e);
+    }
 
 pub returns : goal.returns
 returns c =
-    let e = c.if-c-eq0.false in
+    let n = c.if-c-eq0.false in
     let t = c.in_default.is in
-    record { by_index = λ s left nodes st. (st, λ z. (t, omega arith), λ z y. absurd (z refl), λ sw T loop all σ₀ p₀ m₀ σ m g. g); place_value = refl }
+    record { goes_on = λ x e. (t, omega arith); by_index = λ came e. absurd (not-back e); place_value = λ came e. absurd (not-back e) }

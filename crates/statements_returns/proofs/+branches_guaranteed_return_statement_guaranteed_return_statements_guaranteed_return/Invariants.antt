@@ -1,4 +1,4 @@
-use Prim.Native.Nat.{◌+◌, ◌*◌}
+use Prim.Native.Nat.{◌+◌, ◌-◌, ◌*◌}
 use Rattle.statements_returns.proofs.Surely.{Rest}
 use Rattle.statements_returns.proofs.+branches_guaranteed_return_statement_guaranteed_return_statements_guaranteed_return.Given as goal
 
@@ -11,8 +11,5 @@ decreases-statement_guaranteed_return l = 3 * l.left + 2
 abbrev pub decreases-statements_guaranteed_return : goal.decreases-statements_guaranteed_return
 decreases-statements_guaranteed_return l = 3 * l.left
 
-abbrev pub invariant-statements_guaranteed_return-loop-n : goal.invariant-statements_guaranteed_return-loop-n
-invariant-statements_guaranteed_return-loop-n l = Rest l.s l.left l.at l.n l.p l.returns
-
-abbrev pub decreases-statements_guaranteed_return-loop-n : goal.decreases-statements_guaranteed_return-loop-n
-decreases-statements_guaranteed_return-loop-n l = l.n
+abbrev pub invariant-statements_guaranteed_return-loop : goal.invariant-statements_guaranteed_return-loop
+invariant-statements_guaranteed_return-loop l = Rest l.s l.left l.at (l.n - l.counter) l.last.at l.last.returns

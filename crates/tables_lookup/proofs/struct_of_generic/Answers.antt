@@ -1,11 +1,8 @@
-use Rattle.std.proofs.Common.{sym, ap, ◌∙◌}
-use Rattle.tables_lookup.specs.Answer.{found_of}
-use Rattle.tables_lookup.proofs.First.{found, was-found, was-missing}
-use Rattle.tables_lookup.proofs.Ty.{generic-named, generic-shaped}
+use Rattle.std.proofs.Common.{rules}
+use Rattle.tables_lookup.specs.Ty.{struct_of_generic}
+use Rattle.tables_lookup.proofs.First.{or_found}
 use Rattle.tables_lookup.proofs.struct_of_generic.Goals as goal
 
-pub returns-in-At : goal.returns-in-At
-returns-in-At c = found (generic-named _ _ _ (was-found c.struct_named.ensures c.in-At.is))
-
-pub returns-in-Nothing : goal.returns-in-Nothing
-returns-in-Nothing c = c.struct_shaped.ensures ∙ ap found_of (sym (generic-shaped _ _ _ (was-missing c.struct_named.ensures c.in-Nothing.is)))
+pub returns-clause-generic : goal.returns-clause-generic
+unfolding struct_of_generic
+returns-clause-generic c = or_found _ _ c.struct_named.ensures.named c.or_else.ensures (λ p. search rules)

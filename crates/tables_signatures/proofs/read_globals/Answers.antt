@@ -1,4 +1,4 @@
-use mathlib.Core.Path.{sym, ◌∙◌}
+use Rattle.std.proofs.Common.{sym, ◌∙◌}
 use Rattle.tables_signatures.proofs.Signatures.{globals-alike}
 use Rattle.tables_signatures.proofs.read_globals.Goals as goal
 

@@ -1,23 +1,16 @@
 use mathlib.Core.Path.{refl}
+use mathlib.Core.Logic.{⊎_elim}
+use native.Mathlib.Omega.{arith}
 use Rattle.image_body.specs.Expr.{fixed_count, count_width, last_width}
-use Rattle.image_body.proofs.Columns.{no-leaf}
+use Rattle.image_body.proofs.Columns.{leaf-low, leaf-high}
 use Rattle.image_body.proofs.layout.is_leaf.Goals as goal
+
+pub returns-in_default-2 : goal.returns-in_default-2
+returns-in_default-2 c = leaf-high c.args.tag (omega arith) c.in_default.in_default-own.rest.1
 
 pub returns-in-1 : goal.returns-in-1
 unfolding fixed_count count_width last_width
-returns-in-1 c = rw c.in-1.is refl
+returns-in-1 c = ⊎_elim (λ e. rw e refl) (λ e. rw e refl) c.in-1.is
 
-pub returns-in-2 : goal.returns-in-2
-unfolding fixed_count count_width last_width
-returns-in-2 c = rw c.in-2.is refl
-
-pub returns-in-13 : goal.returns-in-13
-unfolding fixed_count count_width last_width
-returns-in-13 c = rw c.in-13.is refl
-
-pub returns-in-15 : goal.returns-in-15
-unfolding fixed_count count_width last_width
-returns-in-15 c = rw c.in-15.is refl
-
-pub returns-in_default : goal.returns-in_default
-returns-in_default c = no-leaf _ c.in_default.in_default-own.rest
+pub returns-in-1-2 : goal.returns-in-1-2
+returns-in-1-2 c = leaf-low c.args.tag (omega arith) (omega arith)

@@ -1,35 +1,27 @@
-use mathlib.Core.Path.{◌≡◌, refl, sym, ◌∙◌, subst}
-use Prim.Native.Nat.{ℕ, ◌<◌}
-use mathlib.Core.Path.{◌≡◌, refl, sym, ◌∙◌, subst}
-use borrow.Author.Rules.{rules}
-use native.Mathlib.Omega.{arith}
-use mathlib.Core.Bool.{true, false}
-use mathlib.Core.List.{List}
-use borrow.Author.Tests.{not-true, not-false}
-use lib.ListN.{length}
+use Rattle.std.proofs.Common.{sym, ◌∙◌, refl, ap, ◌≡◌, [], drop}
+use lib.ListN.{drop_of_length-le}
+use Rattle.rules.specs.State.{combine}
 use Rattle.scope_state.specs.View.{listed}
-use Rattle.scope_state.proofs.Listed.{combine-crowd, combine-next, combine-end, fits-ok, fits-no}
+use Rattle.scope_state.proofs.Listed.{combine-next, combine-crowd, fits-ok, fits-no, fits-none}
 use Rattle.scope_state.proofs.Places.combine.Goals as goal
 
-pub loop-i-init : goal.loop-i-init
-loop-i-init c = (search rules, c.wide-n.ensures.0, c.requires.0, refl)
+pub loop-p-init : goal.loop-p-init
+loop-p-init c = refl
 
-pub add-r-requires : goal.add-r-requires
-add-r-requires c = c.loop-i.invariant.2
+pub returns-in_err-out : goal.returns-in_err-out
+returns-in_err-out c =
+    let e = c.as_slice-p-items.ensures in
+    let full = fits-none c.in_err-out.ensures refl in
+    rw (c.from_residual.ensures, ← c.loop-p.invariant) (fits-no _ (combine-crowd (listed c.loop-p.out) (listed c.args.other) c.loop-p.p-index (rw (← e) c.loop-p-test.true) (rw e at full)))
 
-pub returns-then-not-r : goal.returns-then-not-r
-returns-then-not-r c = let off : c.add-r.result.ok ≡ false = not-true _ c.if-not-r.true in
-    let other = c.args.other in
-    fits-no _ _
-    (subst (λ (l : List ℕ). 8 < length l) c.loop-i.invariant.3
-    (combine-crowd (listed c.loop-i.out) other.list c.loop-i.i other.count (omega (arith, c.loop-i-test.true, c.loop-i.invariant.1)) (omega (arith, c.requires.1.most, c.requires.1.room)) (not-false _ (sym c.add-r.ensures.ok ∙ off))))
-
-pub loop-i-preserved : goal.loop-i-preserved
-loop-i-preserved c = let on : c.add-r.result.ok ≡ true = not-false _ c.if-not-r.false in
-    let new = c.add-r.ensures.is on in
-    let other = c.args.other in
-    let next = combine-next (listed c.loop-i.out) other.list c.loop-i.i other.count (omega (arith, c.loop-i-test.true, c.loop-i.invariant.1)) (omega (arith, c.requires.1.most, c.requires.1.room)) in
-    (search rules, c.loop-i.invariant.1, new.1, rw new.0 (sym next ∙ c.loop-i.invariant.3))
+pub loop-p-preserved : goal.loop-p-preserved
+loop-p-preserved c =
+    let e = c.as_slice-p-items.ensures in
+    let next = combine-next (listed c.loop-p.out) (listed c.args.other) c.loop-p.p-index (rw (← e) c.loop-p-test.true) in
+    let new = rw e at (c.in_ok-out.ensures.is _ refl) in
+    rw new (sym next ∙ c.loop-p.invariant)
 
 pub returns : goal.returns
-returns c = fits-ok _ _ (sym (combine-end (listed c.loop-i.out) c.args.other.list c.loop-i.i c.args.other.count (omega (arith, c.loop-i-test.false, c.loop-i.invariant.1))) ∙ c.loop-i.invariant.3) c.loop-i.invariant.2
+returns c =
+    let e : drop c.loop-p.p-index (listed c.args.other) ≡ [] = rw (← c.as_slice-p-items.ensures) (drop_of_length-le c.as_slice-p-items.result.now c.loop-p-test.false) in
+    fits-ok _ _ (ap (combine (listed c.loop-p.out)) (sym e) ∙ c.loop-p.invariant)

@@ -1,9 +1,5 @@
-use Rattle.std.proofs.Common.{◌≡◌, ◌-◌, length}
 use Rattle.tables.proofs.Keys.{Naming}
 use Rattle.tables.proofs.name.fill_names.Given as goal
 
 abbrev pub invariant-loop-i : goal.invariant-loop-i
-invariant-loop-i l = Naming l.s l.n l.at l.starts l.keys l.i l.p × (length l.starts ≡ length l.initial.starts) × (length l.keys ≡ 512)
-
-abbrev pub decreases-loop-i : goal.decreases-loop-i
-decreases-loop-i l = l.n - l.i
+invariant-loop-i l = Naming l.s l.n l.at l.starts l.keys l.i l.p

@@ -1,33 +1,24 @@
-use Rattle.std.proofs.Common.{ap, not, ◌≡◌, sym, ◌∙◌, subst, arith, below_more}
-use Rattle.tables.proofs.Names.{none-among, some-among}
-use Rattle.tables.proofs.Keys.{Others, others-all, others-start, others-next}
+use Rattle.std.proofs.Common.{ap, not, ◌∙◌, ◌≡◌, length, subst, arith, below_more}
+use Rattle.tables.proofs.Names.{same-slices, none-among, some-among}
+use Rattle.tables.proofs.Keys.{Others, other, others-all}
 use Rattle.tables.proofs.name.repeated_name.Goals as goal
+use Rattle.tables.proofs.name.repeated_name.Goals.{else-k-key-via-then-k-key+else-eq, else-k-key-via-else-k-key}
 
-pub returns-then-not-has_key : goal.returns-then-not-has_key
-returns-then-not-has_key c = let pre = c.requires in
-    none-among _ _ _ _ pre.0 (others-all _ _ _ _ _ _ pre.5 pre.3 pre.1 c.has_key.ensures (ap not c.if-not-has_key.true))
+pub returns-then-not-contains : goal.returns-then-not-contains
+returns-then-not-contains c = let pre = c.requires in
+    none-among _ _ _ (others-all _ _ _ _ _ _ pre.3 pre.1 pre.0 c.contains.ensures.value (ap not c.if-not-contains.true))
 
-pub loop-j-init : goal.loop-j-init
-loop-j-init c = let pre = c.requires in
-    let next = c.next_key-j.ensures in
-    (next.1, others-start _ _ _ _ _ _ pre.5 pre.3 next.1 next.3)
+pub returns-then-eq : goal.returns-then-eq
+returns-then-eq c = some-among _ _ _ c.loop-i.i (omega arith) (same-slices _ c.eq.ensures c.name_bytes.ensures ∙ c.if-eq.true)
 
-pub overflow_cast-q : goal.overflow_cast-q
-overflow_cast-q c = omega (arith, c.type_inv.starts c.loop-j.j)
-
-pub same_name-requires : goal.same_name-requires
-same_name-requires c = let pre = c.requires in
-    let l = pre.4 _ c.loop-j-test.true in (omega arith, omega arith)
-
-pub returns-then-same_name : goal.returns-then-same_name
-returns-then-same_name c = some-among _ _ _ _ c.loop-j.j c.requires.0 c.loop-j-test.true (sym c.same_name.ensures ∙ c.if-same_name.true)
-
-pub loop-j-preserved : goal.loop-j-preserved
-loop-j-preserved c = let pre = c.requires in
-    let next = c.next_key-j-in-loop-j.ensures in
-    let all = below_more _ _ c.loop-j.invariant.1 (sym c.same_name.ensures ∙ c.if-same_name.false) in
-    (next.1, others-next _ _ _ _ _ _ pre.5 pre.3 next.1 c.loop-j.j all next.3)
+pub loop-i-preserved : goal.loop-i-preserved
+loop-i-preserved c = let pre = c.requires in
+    below_more _ _ c.loop-i.invariant (elim c.else-k-key.branch [
+      | else-k-key-via-then-k-key+else-eq w ↦ same-slices _ w.eq.ensures w.name_bytes.ensures ∙ w.if-eq.false
+      | else-k-key-via-else-k-key w ↦ other _ _ _ _ _ _ pre.3 pre.1 _ (omega arith) w.if-k-key.false
+    ])
 
 pub returns : goal.returns
-returns c = let e : c.loop-j.j ≡ c.args.i = omega arith in
-    none-among _ _ _ _ c.requires.0 (subst (Others c.args.s.now c.args.starts.now c.args.p) e c.loop-j.invariant.1)
+returns c =
+    let e : c.loop-i.i ≡ length c.args.starts.now = omega arith in
+    none-among _ _ _ (subst (Others c.args.s.now c.args.starts.now c.args.name.now) e c.loop-i.invariant)

@@ -1,9 +1,5 @@
-use Rattle.std.proofs.Common.{◌≡◌, ◌-◌, length}
 use Rattle.tables.proofs.Types.{Flagging}
 use Rattle.tables.proofs.ty.fill_types.Given as goal
 
 abbrev pub invariant-loop-i : goal.invariant-loop-i
-invariant-loop-i l = Flagging l.names l.s l.n l.at l.starts l.flags l.i l.p × (length l.starts ≡ length l.initial.starts) × (length l.flags ≡ length l.initial.flags)
-
-abbrev pub decreases-loop-i : goal.decreases-loop-i
-decreases-loop-i l = l.n - l.i
+invariant-loop-i l = Flagging l.names l.s l.n l.at l.starts l.flags l.i l.p

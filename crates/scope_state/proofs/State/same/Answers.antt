@@ -1,8 +1,0 @@
-use borrow.Author.Tests.{eq-eqb, ne_eqb}
-use Rattle.scope_state.proofs.State.same.Goals as goal
-
-pub returns-then-self-other : goal.returns-then-self-other
-returns-then-self-other c = rw (ne_eqb _ _ c.if-self-other.true)
-
-pub returns : goal.returns
-returns c = rw (eq-eqb _ _ c.if-self-other.false) c.same.ensures
