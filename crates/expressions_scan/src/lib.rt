@@ -174,8 +174,10 @@ fn put_use(
     put_error(list, n, low, place, 0, 1, rows[row + 1])
 }
 
+// Inlined: a struct of references that stands in memory would cost a copy of the stack for each block, since the callee could keep them.
 impl<'a> Stack<'a> {
     // Where the row of a local starts.
+    #[inline(always)]
     fn row_of(&self, i: usize) -> usize
         requires { i < 64 }
         ensures { result ≡ self.now.cur + i * (self.now.width + 1) }
@@ -184,6 +186,7 @@ impl<'a> Stack<'a> {
     }
 
     // The error of the use of the local of a number.
+    #[inline(always)]
     fn put_use_of(&self, i: usize, place: u32, errs: &mut [u32], told: usize) -> usize
         requires { (i < self.now.l.now.count) × (told < 4294967100) }
         ensures { Stored errs.old told
@@ -202,6 +205,7 @@ impl<'a> Stack<'a> {
     }
 
     // The use of a name: what is wrong with it is stored, and the stack stays as it is.
+    #[inline(always)]
     fn validate_identifier_use(
         &self,
         name: u16,
@@ -220,6 +224,7 @@ impl<'a> Stack<'a> {
     }
 
     // A use, and then the hand-over of a temporary.
+    #[inline(always)]
     fn use_and_hand_over(&self, name: u16, place: u32, errs: &mut [u32], told: usize) -> Answer
         requires { told < 4294967100 }
         ensures { ((types depths births : List ℕ)
@@ -235,6 +240,7 @@ impl<'a> Stack<'a> {
     }
 
     // The consumption of a receiver that is a local.
+    #[inline(always)]
     fn consume(&self, name: u16, place: u32, told: usize) -> Answer
         ensures { ((types depths births old : List ℕ)
             → Answers (gives name place ∷ []) (held self.now types depths births) old told old result) × ((old : List ℕ) → Small told old old result) }
@@ -246,6 +252,7 @@ impl<'a> Stack<'a> {
     }
 
     // validate_move_argument, of a name that is no global: a temporary is not moved.
+    #[inline(always)]
     fn validate_move(
         &self,
         name: u16,
@@ -266,6 +273,7 @@ impl<'a> Stack<'a> {
     }
 
     // One effect: its error is stored, and what the stack must do is the answer.
+    #[inline(always)]
     pub fn effect_on(&self, effect: Effect, errs: &mut [u32], told: usize) -> Answer
         requires { told < 4294967100 }
         ensures { ((types depths births : List ℕ)
@@ -286,6 +294,7 @@ impl<'a> Stack<'a> {
     }
 
     // One effect, its error stored as numbers, or as lines of the page by way of the numbers of its entry.
+    #[inline(always)]
     fn effect_told(
         &self,
         paged: bool,

@@ -140,7 +140,7 @@ fn number_in(s: &[u8], k: usize, at: usize) -> usize
 }
 
 // A number of k bytes, k being 0, 1, 2 or 4, below a limit, or what is said of one that is not.
-pub fn field_or<E: Copy>(
+pub fn field<E: Copy>(
     s: &[u8],
     fault: E,
     limit: usize,
@@ -161,10 +161,10 @@ pub fn field_or<E: Copy>(
 }
 
 // The same, or the fault.
-pub fn field(s: &[u8], fault: Fault, limit: usize, k: usize, at: usize) -> Number
+pub fn read_field(s: &[u8], fault: Fault, limit: usize, k: usize, at: usize) -> Number
     ensures { coded result ≡ number_of (field_at (fault_number fault) limit k s.now at) }
 {
-    field_or(s, fault, limit, k, at)
+    field(s, fault, limit, k, at)
 }
 
 // Whether x is the two-byte number at one of n positions, each `stride` bytes after the one before.

@@ -12,7 +12,7 @@ ghost use Rattle.image_body.specs.Answer.{scope_of};
 ghost use Rattle.image_reading.specs.Answer.{scope, start_of, stmt_start_of, front_of, ends_after};
 
 use image_body::{Env, generic_receiver, layout};
-use image_fields::{Fault, Read, field, peek, peek_two, room, two_at};
+use image_fields::{Fault, Read, peek, peek_two, read_field, room, two_at};
 
 // What a body is read from and against: the bytes, for each type 1 if it is generic, and what names, types and depths stay below.
 #[derive(Clone, Copy)]
@@ -77,7 +77,7 @@ impl<'a> Reader<'a> {
             return Err(Fault::Body);
         }
         let width = layout::arg_width(tag);
-        let (_, next) = field(
+        let (_, next) = read_field(
             self.s,
             Fault::Body,
             arg_limit(self.env.names, width),
@@ -94,7 +94,7 @@ impl<'a> Reader<'a> {
             → coded result ≡ read_of (end_at (scope self.now) self.now.s.now h ks xs at) }
     {
         let width = layout::last_width(tag);
-        let (_, next) = field(self.s, Fault::Body, self.env.names, width, at)?;
+        let (_, next) = read_field(self.s, Fault::Body, self.env.names, width, at)?;
         if tag == 6 && generic_receiver(self.s, self.flags, first) {
             return Err(Fault::GenericReceiver);
         }
@@ -125,7 +125,7 @@ impl<'a> Reader<'a> {
         let fixed = layout::fixed_count(tag);
         let p = self.read_exprs(left, fixed, first)?;
         let width = layout::count_width(tag);
-        let (n, q) = field(self.s, Fault::Body, 65536, width, p)?;
+        let (n, q) = read_field(self.s, Fault::Body, 65536, width, p)?;
         let end = self.read_exprs(left, n, q)?;
         self.read_end(tag, first, end)
     }
@@ -184,11 +184,11 @@ impl<'a> Reader<'a> {
         ensures { (h : StmtHead) → h.tag ≡ tag → coded result ≡ front_of (values_at (scope self.now) self.now.s.now h p) }
     {
         let flag = layout::value_flag(tag);
-        let (n, q) = field(self.s, Fault::Body, 2, flag, p)?;
+        let (n, q) = read_field(self.s, Fault::Body, 2, flag, p)?;
         let count = layout::value_count(tag);
         let r = self.read_exprs(self.env.depth, count + n, q)?;
         let width = layout::type_width(tag);
-        let (_, end) = field(self.s, Fault::Body, self.env.types, width, r)?;
+        let (_, end) = read_field(self.s, Fault::Body, self.env.types, width, r)?;
         Ok((tag, end))
     }
 
@@ -240,7 +240,7 @@ impl<'a> Reader<'a> {
         let count = layout::block_count(tag);
         let q = self.read_blocks(left, count, p)?;
         let flag = layout::else_flag(tag);
-        let (n, r) = field(self.s, Fault::Body, 2, flag, q)?;
+        let (n, r) = read_field(self.s, Fault::Body, 2, flag, q)?;
         self.read_blocks(left, n, r)
     }
 

@@ -33,6 +33,13 @@ filled_more ns n old r h e =
     ∙ sym (append_assoc (records ns n) (r ∷ []) (drop (suc n) old))
     ∙ ap (λ (x : Report). (records ns n ++ (x ∷ [])) ++ drop (suc n) old) e
 
+pub length-filled : (ns : List ℕ) (n : ℕ) (old : List Report) → n ≤ length old → length (records ns n ++ drop n old) ≡ length old
+length-filled ns n old h =
+    let a = length-append (records ns n) (drop n old) in
+    let b = length-records ns n in
+    let d = length-drop n old in
+    omega (arith, a, b, d)
+
 -- where there are not too few
 pub plenty : (ns : List ℕ) (n : ℕ) (old : List Report) → too_few ns n old ≡ false → (n ≤ length old) × (12 * n ≤ length ns)
 plenty ns n old e = by-test (ltb (length old) n) refl

@@ -66,14 +66,14 @@ fn report_at(numbers: &[u32], i: usize) -> Report
     ensures { result ≡ record_at numbers.now i }
 {
     let entry = &numbers[12 * i..12 * i + 12];
-    let mut places = [0; 8];
-    places.copy_from_slice(&entry[4..]);
     Report {
         kind: entry[0],
         place: entry[1],
         hint: entry[2],
         count: entry[3],
-        places: places,
+        places: [
+            entry[4], entry[5], entry[6], entry[7], entry[8], entry[9], entry[10], entry[11],
+        ],
     }
 }
 

@@ -19,12 +19,11 @@ use Rattle.rules.specs.Walk.{image_fault}
 use Rattle.rules.specs.Verdict.{room_fault, room_fault_of, RoomFor}
 use Rattle.rules.proofs.Longer.{room-met}
 use Rattle.rules.proofs.Numbers.{real-image}
-use Rattle.statements_steps.specs.Own.{number_of}
 use Rattle.statements_steps.proofs.Faults.{real-none}
 use Rattle.image_writing.specs.Memory.{Memory}
 use Rattle.blocks_ends.specs.declared.Env.{Env}
 use Rattle.statements_acts.specs.declared.Place.{Place}
-use Rattle.std.specs.Prelude.{Result, Ok, Err}
+use Rattle.std.specs.Prelude.{Result, Ok, Err, MatchResult}
 use Rattle.image_fields.specs.declared.Fault.{Fault}
 use Rattle.image_fields.specs.declared.Fault.TheVariants.{Switches as Unknown}
 use Rattle.image_fields.specs.Fault.{fault_number}
@@ -73,8 +72,9 @@ module _ (value : ℕ) (low : value ≤ 15) (s tb : List ℕ) {r : Result ImageR
       },
     )
 
-pub begun-value : (value : ℕ) → 15 < value → (s tb : List ℕ) → Begun value s tb (Err Unknown)
-begun-value value h s tb = inl (h, refl)
+-- a value that is none: nothing is read
+pub begun-value : (value : ℕ) (s tb : List ℕ) {r : Result (Unit {0}) Fault} → MatchResult r (λ u. value ≤ 15) (λ f. (15 < value) × (f ≡ Unknown)) → (f : Fault) → r ≡ Err f → Begun value s tb (Err f)
+begun-value value s tb k f z = inl (subst (λ (q : Result (Unit {0}) Fault). MatchResult q (λ u. value ≤ 15) (λ g. (15 < value) × (g ≡ Unknown))) z k)
 
 -- an image that was not read
 module _ (value : ℕ) (s tb : List ℕ) (f : Fault) {r : Result (Env × ImageRead) Fault} (b : Begun value s tb r) (z : r ≡ Err f) where

@@ -2,7 +2,8 @@
 // page of the reports.
 #![tactic(auto)]
 
-ghost use Rattle.std.specs.Prelude.{◌≡◌};
+ghost use Rattle.std.specs.Prelude.{◌≡◌, ◌<◌, ◌≤◌, MatchResult};
+ghost use Rattle.image_fields.specs.declared.Fault.TheVariants.{Switches as Unknown};
 ghost use Rattle.image_writing.specs.Memory.{memory};
 ghost use Rattle.entries_verdict.specs.Passes.{Passes};
 ghost use Rattle.entries_page.specs.Pages.{Pages};
@@ -27,13 +28,21 @@ fn first_env(switches: u32) -> Env
     }
 }
 
-// The image read, if the value of the switches is one: what its walk begins with.
-fn read_switched(switches: u32, s: &[u8], tb: &mut [u32; 1096]) -> Result<(Env, ImageRead), Fault>
-    ensures { Begun switches s.now tb.new result }
+// A value of the switches is at most 15. Asked before any table is cleared: a refusal costs no more than the test.
+fn known(switches: u32) -> Result<(), Fault>
+    ensures { MatchResult result (λ u. switches ≤ 15) (λ f. (15 < switches) × (f ≡ Unknown)) }
 {
     if 15 < switches {
         return Err(Fault::Switches);
     }
+    Ok(())
+}
+
+// The image read, and what its walk begins with.
+fn read_switched(switches: u32, s: &[u8], tb: &mut [u32; 1096]) -> Result<(Env, ImageRead), Fault>
+    requires { switches ≤ 15 }
+    ensures { Begun switches s.now tb.new result }
+{
     let read = image::read_image(s, tb)?;
     Ok((first_env(switches), read))
 }
@@ -49,6 +58,7 @@ pub fn pass_switched(
 ) -> Result<Totals, Fault>
     ensures { Passes switches s.now (memory out.old errs.old warns.old lefts.old) result (memory out.new errs.new warns.new lefts.new) }
 {
+    known(switches)?;
     let mut tb = [0u32; 1096];
     let (env, read) = read_switched(switches, s, &mut tb)?;
     entries_sizes::verdict(s, &tb, env, read, out, errs, warns, lefts)
@@ -58,6 +68,7 @@ pub fn pass_switched(
 pub fn room_switched(switches: u32, s: &[u8]) -> Result<usize, Fault>
     ensures { RoomIs switches s.now result }
 {
+    known(switches)?;
     let mut tb = [0u32; 1096];
     let (env, read) = read_switched(switches, s, &mut tb)?;
     let p = entries_image::measure(s, &tb, env, read, false)?;
@@ -68,6 +79,7 @@ pub fn room_switched(switches: u32, s: &[u8]) -> Result<usize, Fault>
 pub fn page_switched(switches: u32, s: &[u8], page: &mut [u8]) -> Result<usize, Fault>
     ensures { Pages switches s.now page.old result page.new }
 {
+    known(switches)?;
     let mut tb = [0u32; 1096];
     let (env, read) = read_switched(switches, s, &mut tb)?;
     entries_page::page_verdict(s, &tb, env, read, page)

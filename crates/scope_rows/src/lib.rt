@@ -65,7 +65,7 @@ fn entry_at(t: &States, i: usize) -> Entry
 fn differ(x: Entry, y: Entry) -> bool
     ensures { result ≡ false → Alike x y }
 {
-    x.kind != y.kind || 8 <= x.kind || (x.kind != 0 && x.first != y.first)
+    x.kind != y.kind || (x.kind != 0 && (8 <= x.kind || x.first != y.first))
 }
 
 // What two branches say of one local, with their rows; a joined row goes to the first's.

@@ -53,7 +53,7 @@ use Rattle.statements_acts.specs.declared.Place.{Place}
 use Rattle.statements_acts.specs.declared.Warned.{Warned}
 use Rattle.statements_steps.specs.Statement.{front_drops, own_bytes, front_bytes, front_reports, settle}
 use Rattle.statements_acts.specs.Act.{change_in, taken_in, FrontThere, Within, Grows, cursors_at, Acts, ActsThere}
-use Rattle.statements_acts.specs.Parts.{deleted_name, delete_of, revive_of, sparing, no_put, relisted, Copied, wrapping, warning_at, WarnsAt, Untouched, Leaves}
+use Rattle.statements_acts.specs.Parts.{deleted_name, delete_of, revive_of, sparing, no_put, relisted, Copied, wrapping, warning_at, WarnsAt, Untouched}
 use Rattle.statements_acts.proofs.Slices.{written-slice, no_value, one_value}
 use Rattle.statements_acts.proofs.Fronts.{Front, head_bytes_lem, front-plain, front-variable, front-assign, front-return, front-bare, front-jump}
 use Rattle.statements_acts.proofs.Taken.{delete-is, revive-is}
@@ -324,10 +324,10 @@ module _ (s : List ℕ) (small : Bytes s) (p : Place) (size : ℕ) (few : 5 ≤ 
         }
 
 -- what is left behind, deleted or listed, is as much as a statement's bytes allow
-pub leaves-grows : (s : List ℕ) (p : Place) (size : ℕ) → 5 ≤ size → p.at + size ≤ length s → {p' : Place} → p' ≡ relisted p p'.lefts → p'.lefts ≤ p.lefts + 4672
+pub leaves-grows : (s : List ℕ) (p : Place) (size : ℕ) → 5 ≤ size → p.at + size ≤ length s → {n : ℕ} {p' : Place} → p' ≡ relisted p n → n ≤ p.lefts + 4672
     → {put : Put} → put.at ≤ p.written + 1344 → put.count ≤ 64 → {out out' : List ℕ} {q : Place} → Copied s p' put (p.at + size) out q out' → Grows s p q
-leaves-grows s p size few reach {p'} e' l {put} lp lc {out} {out'} {q} w =
-    let c : Copied s (relisted p p'.lefts) put (p.at + size) out q out' = subst (λ z. Copied s z put (p.at + size) out q out') e' w in
+leaves-grows s p size few reach {n} {p'} e' l {put} lp lc {out} {out'} {q} w =
+    let c : Copied s (relisted p n) put (p.at + size) out q out' = subst (λ z. Copied s z put (p.at + size) out q out') e' w in
     let b = c.bytes.place in
     let e = length-slice p.at (p.at + size) s reach in
     let a = c.at in
@@ -393,17 +393,6 @@ module _ (s : List ℕ) (small : Bytes s) (p : Place) {end : ℕ} (g : FrontTher
         (record { drops = ap (λ (b : Bool). collect (states off) T (λ l. b) 0 σ) on'; reports = ap (λ (b : Bool). left_behind T b (four s (p.at + 1)) at_bare_return σ) on'; settles = λ d. refl }) dr warns left);
   }
 
-  pub bare-left : (drops : Bool) (sw : Switches) → sw.bare_returns ≡ drops → (T : Tables) (σ : Scope Status) {span : ℕ} → span ≡ four s (p.at + 1) → {p' : Place} → p' ≡ relisted p p'.lefts
-      → {put : Put} {out mid left left' : List ℕ} → Leaves drops T σ span p out left p' put mid left' → {q : Place} {out' : List ℕ} → Copied s p' put (p.at + 8) mid q out'
-      → (warns : List ℕ) (loop : Maybe ℕ) → ActsThere sw T s loop σ p out warns left (record { place = q; change = Nothing; taken = None }) out' warns left'
-  bare-left true sw on T σ es e' {put} {out} {mid} {left} {left'} v {q} {out'} w warns loop =
-      let d = v.deletes refl in
-      subst (λ z. ActsThere sw T s loop σ p out warns left (record { place = q; change = Nothing; taken = None }) out' warns z) (sym d.1)
-      (bare-cleared put q (subst (λ z. Copied s z put (p.at + 8) mid q out') d.0 w) sw on T σ (d.2, d.3) warns left loop)
-  bare-left false sw off' T σ es e' v {q} w warns loop =
-      let d = v.lists refl in
-      bare-acts _ _ e' _ d.0 q w sw off' T σ _ es d.1 warns loop
-
 -- a Break or Continue
 module _ (s : List ℕ) (small : Bytes s) (p : Place) {end : ℕ} (g : FrontThere s p.at end) (k : 8 < get_or s p.at 0) where
   pub jump-reach : p.at + 5 ≤ length s
@@ -434,18 +423,6 @@ module _ (s : List ℕ) (small : Bytes s) (p : Place) {end : ℕ} (g : FrontTher
         (clears-acts s small p 5 (omega arith) jump-reach put q w sw T σ _ loop (collect (states off) T (admitted None) 0 τ) v.2
         (record { drops = ap (λ (b : Bool). collect (states off) T (λ l. b && in_loop loop l) 0 σ) on' ∙ sym ed; reports = ap (λ (b : Bool). left_behind T b (four s (p.at + 1)) (at_jump loop) σ) on'; settles = λ d. refl }) dr warns left);
   }
-
-  pub jump-left : (drops : Bool) (sw : Switches) → sw.jumps ≡ drops → (T : Tables) (σ τ : Scope Status) (loop : Maybe ℕ)
-      → collect (states off) T (admitted None) 0 τ ≡ collect (states off) T (λ l. in_loop loop l) 0 σ → ((m : ℕ) → gather (states off) T (admitted None) (left_at m) τ ≡ left_behind T false m (at_jump loop) σ) → {span : ℕ} → span ≡ four s (p.at + 1) → {p' : Place} → p' ≡ relisted p p'.lefts
-      → {put : Put} {out mid left left' : List ℕ} → Leaves drops T τ span p out left p' put mid left' → {q : Place} {out' : List ℕ} → Copied s p' put (p.at + 5) mid q out'
-      → (warns : List ℕ) → ActsThere sw T s loop σ p out warns left (record { place = q; change = Nothing; taken = None }) out' warns left'
-  jump-left true sw on T σ τ loop cs ls es e' {put} {out} {mid} {left} {left'} v {q} {out'} w warns =
-      let d = v.deletes refl in
-      subst (λ z. ActsThere sw T s loop σ p out warns left (record { place = q; change = Nothing; taken = None }) out' warns z) (sym d.1)
-      (jump-cleared put q (subst (λ z. Copied s z put (p.at + 5) mid q out') d.0 w) sw on T σ loop τ cs (d.2, d.3) warns left)
-  jump-left false sw off' T σ τ loop cs ls es e' v {q} w warns =
-      let d = v.lists refl in
-      jump-acts _ _ e' _ d.0 q w sw off' T σ loop τ ls _ es d.1 warns
 
 -- an expression statement
 delete-bytes : (p : ℕ) (e : Expr) → (10 ∷ (four_bytes p ++ two_bytes 0)) ++ encode_expr e ≡ encode_expr (delete_node p e)

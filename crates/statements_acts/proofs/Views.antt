@@ -240,3 +240,15 @@ module _ (s : List ℕ) (at p : ℕ) (looked : Looked s at p) {v : Node} (ev : v
         let i = callee-in ec in
         let c : is_call (view e) ≡ true = call-view s p next (through e) (looked e next st) i.0 in
         rw (← answered) (some_where r c (i.1 ∙ callee-is e s at p next st (looked e next st) c))
+
+-- a callee stands at no 0
+mutual
+  unfolding through through_first callee_at callee_in
+
+  pub callee-some : (e : Expr) (at : ℕ) → is_call (view e) ≡ true → 0 < callee_at e at
+  callee-some (node h ks xs) at c = some-by ks (noop_unary h) h xs at c
+
+  some-by : (ks : Exprs) (b : Bool) (h : Head) (xs : Exprs) (at : ℕ) → is_call (view_of (through_first ks b (node h ks xs))) ≡ true → 0 < callee_in ks b at
+  some-by none b h xs at c = false-true (sym (none-no-call h (eqb h.tag 1) (eqb h.tag 2) (eqb h.tag 6) (eqb h.tag 10) (eqb h.tag 11)) ∙ c)
+  some-by (more d ds) true h xs at c = callee-some d (at + 8) c
+  some-by (more d ds) false h xs at c = omega arith

@@ -7,17 +7,12 @@ use Rattle.tables.specs.Tables.{Tables}
 use Rattle.rules.specs.Questions.{is_temp_of}
 use Rattle.rules.specs.Expr as rules
 use Rattle.rules.specs.Expr.{View, an_ident, a_this, a_field, a_delete, a_call, other, view, name_in}
-use Rattle.rules.specs.State.{State as Status}
-use Rattle.rules.specs.Stack.{Shape, static_of, Stack as Scope}
-use Rattle.rules.specs.Rules.{states, gather, collect, off}
+use Rattle.rules.specs.Stack.{Shape, static_of}
 use Rattle.rules.specs.Effects.{ty_is}
-use Rattle.rules.specs.Report.{Report, warning, left_at}
+use Rattle.rules.specs.Report.{Report, warning}
 use Rattle.rules.specs.Verdict.{entries_of}
 use Rattle.image_writing.specs.Stored.{Stored}
 use Rattle.image_lines.specs.Lined.{shown_all}
-use Rattle.image_lines.specs.Told.{Listed}
-use Rattle.statements_steps.specs.Drops.{delete_bytes}
-use Rattle.statements_acts.specs.Drops.{admitted}
 use Rattle.statements_acts.specs.declared.Put.{Put}
 use Rattle.statements_acts.specs.declared.Change.{Change}
 use Rattle.statements_acts.specs.declared.Change.TheVariants.{Nothing, Delete, Revive}
@@ -86,12 +81,6 @@ pub record WarnsAt (paged : Bool) (callee : Option ℕ) (span : ℕ) (out : List
   pub lines : paged ≡ true → length out ≤ written → Stored out told (shown_all (warning_at callee span)) out' r.warnings
   pub long : r.written ≡ written + length (wrapping callee span)
   pub few : r.warnings ≤ told + 73
-
--- what a mark's locals come to where they would be left behind: deletes with span 0, or reports with a span
-pub record Leaves (drops : Bool) (T : Tables) (σ : Scope Status) (span : ℕ) (p : Place) (out left : List ℕ) (q : Place) (put : Put) (out' left' : List ℕ) : Type 0 where
-  pub deletes : drops ≡ true → (q ≡ p) × (left' ≡ left)
-      × Stored out p.written (delete_bytes (collect (states off) T (admitted None) 0 σ)) out' put.at × (put.count ≡ length (collect (states off) T (admitted None) 0 σ))
-  pub lists : drops ≡ false → (put ≡ no_put p) × Listed p.paged (gather (states off) T (admitted None) (left_at span) σ) left out p.lefts left' out' q.lefts
 
 -- Block, IfElse, While
 abbrev pub Untouched : ℕ → Type 0

@@ -26,7 +26,7 @@ ghost use Rattle.statements_steps.specs.Drops.{delete_bytes};
 ghost use Rattle.statements_acts.specs.Drops.{admitted};
 ghost use Rattle.statements_acts.specs.declared.Change.TheVariants.{Nothing};
 ghost use Rattle.statements_acts.specs.Act.{named_of, taken_in, FrontThere, Within, Grows, ActsThere};
-ghost use Rattle.statements_acts.specs.Parts.{deleted_name, delete_of, revive_of, takes_over, no_put, sparing, relisted, Copied, WarnsAt, Untouched, Leaves};
+ghost use Rattle.statements_acts.specs.Parts.{deleted_name, delete_of, revive_of, takes_over, no_put, sparing, relisted, Copied, WarnsAt, Untouched};
 ghost use Rattle.statements_acts.specs.Marks.{lent, Marked, Looped, EndsThere};
 
 use expressions_effects::{is_temp, name_at, span_at};
@@ -516,29 +516,7 @@ fn unchanged(place: Place) -> Act
     }
 }
 
-// What a statement without a value would leave behind of the locals that a mark has: deleted before it, with span 0, or else listed.
-fn leave(
-    l: &Locals,
-    mark: u64,
-    drops: bool,
-    span: u32,
-    p: Place,
-    out: &mut [u8],
-    lefts: &mut [u32],
-) -> (Place, Put)
-    requires { (p.written < 4294800000) × (p.lefts < 4294800000) }
-    ensures stays { (result.0 ≡ relisted p result.0.lefts) × (result.0.lefts ≤ p.lefts + 4672) × (result.1.at ≤ p.written + 1344) × (result.1.count ≤ 64) }
-    ensures leaves { (T : Tables) (depths : List ℕ) (g : ℕ → Status) (n : ℕ) → Marked T l.now.types g n mark
-        → Leaves «drops» T (lent l.now.names l.now.types depths l.now.births g n) span p out.old lefts.old result.0 result.1 out.new lefts.new }
-{
-    if drops {
-        return (p, put_drops(l, mark, None, 0, out, p.written));
-    }
-    let left = list_left(l, mark, span, p.paged, out, lefts, p.lefts);
-    (listed(p, left), nothing_put(p))
-}
-
-// A Return without a value, by switch 1.
+// A Return without a value, by switch 1: what it would leave behind is deleted before it, with span 0, or else listed.
 fn bare_return(
     s: &[u8],
     l: &Locals,
@@ -553,13 +531,16 @@ fn bare_return(
         → ActsThere (switches_of switches) T s.now loop (lent l.now.names l.now.types ld l.now.births g n) p out.old warns lefts.old result out.new warns lefts.new }
     ensures grows { Grows s.now p result.place × EndsThere s.now p.at result.place.at }
 {
-    let drops = has_switch(switches, 1);
+    if has_switch(switches, 1) {
+        let put = put_drops(l, mark, None, 0, out, p.written);
+        return unchanged(behind(s, p, put, p.at + 8, out));
+    }
     let span = span_at(s, p.at + 1);
-    let (q, put) = leave(l, mark, drops, span, p, out, lefts);
-    unchanged(behind(s, q, put, p.at + 8, out))
+    let left = list_left(l, mark, span, p.paged, out, lefts, p.lefts);
+    unchanged(behind(s, listed(p, left), nothing_put(p), p.at + 8, out))
 }
 
-// A Break or Continue, by switch 2, of the frames out to the nearest loop's body, that is of the locals from base on.
+// A Break or Continue, likewise by switch 2, of the frames out to the nearest loop's body, that is of the locals from base on.
 fn jump_statement(
     s: &[u8],
     l: &Locals,
@@ -576,10 +557,13 @@ fn jump_statement(
     ensures grows { Grows s.now p result.place × EndsThere s.now p.at result.place.at }
 {
     let own = scope_stack::since(mark, base);
-    let drops = has_switch(switches, 2);
+    if has_switch(switches, 2) {
+        let put = put_drops(l, own, None, 0, out, p.written);
+        return unchanged(behind(s, p, put, p.at + 5, out));
+    }
     let span = span_at(s, p.at + 1);
-    let (q, put) = leave(l, own, drops, span, p, out, lefts);
-    unchanged(behind(s, q, put, p.at + 5, out))
+    let left = list_left(l, own, span, p.paged, out, lefts, p.lefts);
+    unchanged(behind(s, listed(p, left), nothing_put(p), p.at + 5, out))
 }
 
 // A Return, by its flag.

@@ -117,7 +117,7 @@ pub fn read_names(s: &[u8], starts: &mut [u32], at: usize) -> Number
     ensures starts { (ns : List (List ℕ)) (next : ℕ) → names_at version1 s.now at ≡ ok ns next
         → Listed (name_of s.now) s.now starts.new ns }
 {
-    let (n, first) = image_fields::field(s, Fault::Names, 513, 2, at)?;
+    let (n, first) = image_fields::read_field(s, Fault::Names, 513, 2, at)?;
     if n == 0 {
         return Err(Fault::Names);
     }

@@ -100,14 +100,14 @@ fn generic_flag(flags: &[u8], kind: Kind, of: usize) -> u8
 fn read_parts(s: &[u8], names: usize, i: usize, kind: Kind, at: usize) -> Result<Parts, Fault>
     ensures { (ts : List Ty) → length ts ≡ i → coded_type result ≡ type_of (parts_at names s.now ts (kind_number kind) at) }
 {
-    let (of, p) = image_fields::field(
+    let (of, p) = image_fields::read_field(
         s,
         Fault::Types,
         of_limit(names, i, kind),
         of_width(kind),
         at,
     )?;
-    let (_, next) = image_fields::field(s, Fault::Types, 65536, shape_width(kind), p)?;
+    let (_, next) = image_fields::read_field(s, Fault::Types, 65536, shape_width(kind), p)?;
     Ok(Parts { kind, of, next })
 }
 
@@ -115,7 +115,7 @@ fn read_parts(s: &[u8], names: usize, i: usize, kind: Kind, at: usize) -> Result
 fn read_type(s: &[u8], names: usize, i: usize, at: usize) -> Result<Parts, Fault>
     ensures { (ts : List Ty) → length ts ≡ i → coded_type result ≡ type_of (type_at names s.now ts at) }
 {
-    let (number, p) = image_fields::field(s, Fault::Types, 256, 1, at)?;
+    let (number, p) = image_fields::read_field(s, Fault::Types, 256, 1, at)?;
     let kind = Kind::try_from(number)?;
     if kind_ok(i, kind) {
         read_parts(s, names, i, kind, p)
@@ -157,7 +157,7 @@ pub fn read_types(s: &[u8], starts: &mut [u32], flags: &mut [u8], names: usize, 
     ensures filled { (ts : List Ty) (next : ℕ) → types_at version1 names s.now at ≡ ok ts next
         → Listed (type_in s.now) s.now starts.new ts × (take (length ts) flags.new ≡ generic_flags [] ts) }
 {
-    let (n, first) = image_fields::field(s, Fault::Types, 257, 2, at)?;
+    let (n, first) = image_fields::read_field(s, Fault::Types, 257, 2, at)?;
     if n == 0 {
         return Err(Fault::Types);
     }

@@ -67,6 +67,19 @@ module _ {A : Type 0} (q : A → Bool) where
   unfolding first_from
   first_next i e t = rw (e, t)
 
+  -- what is found is in the table
+  pub first_below : (i : ℕ) (xs : List A) {k : ℕ} → first_from q i xs ≡ some k → k < i + length xs
+  unfolding first_from
+  first_below i [] {k} e = let z : ◌≡◌ {A = ℕ} 0 1 = cc in absurd (omega arith)
+  first_below i (x ∷ xs) {k} e =
+      ⊎_elim
+      (λ t. let z : i ≡ k = here t in omega arith)
+      (λ t. let g : k < i + 1 + length xs = first_below (i + 1) xs (rw t at e) in omega arith)
+      (split (q x))
+    where
+      here : q x ≡ true → i ≡ k
+      here t = let f = rw t at e in cc
+
 -- a test of what a view makes of the entries
 pub first-map : {A B : Type 0} (q : B → Bool) (p : A → Bool) (view : A → B) → ((a : A) → q (view a) ≡ p a)
     → (i : ℕ) (xs : List A) → first_from q i (map view xs) ≡ first_from p i xs

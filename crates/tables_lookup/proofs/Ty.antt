@@ -1,7 +1,7 @@
 -- What a type answers, one step after the other.
 -- Assumes nothing.
-use Rattle.std.proofs.Common.{◌≡◌, ℕ, zero, suc, ◌+◌, ◌<◌, ◌≤◌, false, eqb, List, map, length, get_or, sym, refl, ap, ◌∙◌, subst, ⊎_elim, arith, eq-eqb, ne_eqb, eqb-true}
-use mathlib.Core.Option.{none, some}
+use Rattle.std.proofs.Common.{◌≡◌, ℕ, zero, suc, ◌+◌, ◌<◌, ◌≤◌, Bool, true, false, cond, eqb, List, map, length, get_or, sym, refl, ap, ◌∙◌, subst, ⊎_elim, arith, eq-eqb, ne_eqb, eqb-true}
+use mathlib.Core.Option.{Option, none, some}
 use lib.ListN.{length-map, get_or-eq_default}
 use Rattle.image_fields.specs.Number.{two}
 use Rattle.image_fields.proofs.Tests.{split}
@@ -9,7 +9,7 @@ use Rattle.tables.specs.Ty.{Ty, of_width, shape_width, type_in}
 use Rattle.tables.specs.Signature.{Struct, struct_in}
 use Rattle.tables_lookup.specs.First.{first_from, or_else, is_number}
 use Rattle.tables_lookup.specs.Ty.{type_no, struct_no, Lower, inside, innermost, struct_named, struct_shaped, struct_of_generic, struct_of_ty, struct_of, has_destructor, should_auto_delete, class_of_ty, class_of}
-use Rattle.tables_lookup.proofs.First.{first-map, viewed}
+use Rattle.tables_lookup.proofs.First.{first-map, first_below, viewed}
 
 -- inside types of a kind
 module _ (kind : ℕ) (types : List Ty) where
@@ -187,12 +187,51 @@ module _ (n k : ℕ) (structs : List Struct) where
   unfolding struct_of_generic or_else
   generic-shaped e = rw e
 
+pub none-some : {A C : Type 0} {a : A} → ◌≡◌ {A = Option A} none (some a) → C
+none-some e = let z : ◌≡◌ {A = ℕ} 0 1 = cc in absurd (omega arith)
+
+-- a struct that is found is in the table
+module _ (structs : List Struct) {i : ℕ} where
+  pub named-below : (n : ℕ) → struct_named n structs ≡ some i → i < length structs
+  unfolding struct_named
+  named-below n e = let g : i < 0 + length structs = first_below _ 0 structs e in omega arith
+
+  cond_below : (b : Bool) (x y : Option ℕ) → (x ≡ some i → i < length structs) → (y ≡ some i → i < length structs) → cond b x y ≡ some i → i < length structs
+  cond_below true x y f g e = f e
+  cond_below false x y f g e = g e
+
+  shaped-below : (k : ℕ) → struct_shaped k structs ≡ some i → i < length structs
+  unfolding struct_shaped
+  shaped-below k e = cond_below (eqb k 0) none _ none-some (λ f. let g : i < 0 + length structs = first_below _ 0 structs f in omega arith) e
+
+  or-below : (a b : Option ℕ) → (a ≡ some i → i < length structs) → (b ≡ some i → i < length structs) → or_else a b ≡ some i → i < length structs
+  unfolding or_else
+  or-below none b f g e = g e
+  or-below (some j) b f g e = f e
+
+  generic-below : (n k : ℕ) → struct_of_generic n k structs ≡ some i → i < length structs
+  unfolding struct_of_generic
+  generic-below n k e = or-below (struct_named n structs) (struct_shaped k structs) (named-below n) (shaped-below k) e
+
+  of-below : (t : Ty) → struct_of_ty structs t ≡ some i → i < length structs
+  unfolding struct_of_ty
+  of-below t e =
+      cond_below (eqb t.kind 1) _ _ (named-below t.of)
+      (cond_below (eqb t.kind 2) _ none (generic-below t.of t.shape) none-some) e
+
+  pub struct-below : (types : List Ty) (t : ℕ) → struct_of types structs t ≡ some i → i < length structs
+  unfolding struct_of
+  struct-below types t e = of-below (innermost 3 types t) e
+
 -- the destructor question, of what was found
 module _ (types : List Ty) (s starts : List ℕ) (t : ℕ) where
-  pub deletes : {i k : ℕ} → i < length starts → struct_of types (map (struct_in s) starts) t ≡ some i → k ≡ get_or s (get_or starts i 0 + 2) 0
+  pub found_in : {i : ℕ} → struct_of types (map (struct_in s) starts) t ≡ some i → i < length starts
+  found_in {i} e = let g : i < length (map (struct_in s) starts) = struct-below (map (struct_in s) starts) types t e in simp length-map at g
+
+  pub deletes : {i k : ℕ} → struct_of types (map (struct_in s) starts) t ≡ some i → k ≡ get_or s (get_or starts i 0 + 2) 0
       → eqb k 1 ≡ should_auto_delete types (map (struct_in s) starts) t
   unfolding should_auto_delete has_destructor
-  deletes {i} {k} lt e f = rw e (ap (λ x. eqb x 1) (f ∙ sym (ap (λ x. x.destructor) (viewed (struct_in s) starts i _ lt))))
+  deletes {i} {k} e f = rw e (ap (λ x. eqb x 1) (f ∙ sym (ap (λ x. x.destructor) (viewed (struct_in s) starts i _ (found_in e)))))
 
   pub keeps : (structs : List Struct) → struct_of types structs t ≡ none → false ≡ should_auto_delete types structs t
   unfolding should_auto_delete has_destructor

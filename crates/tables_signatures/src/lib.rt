@@ -42,8 +42,8 @@ impl NamedFormat {
         ensures { (xs : List Named) → xs ≡ entries (named_in self.width s.now) (2 + self.width) i first
             → coded result ≡ read_of (named_at (fault_number self.fault) self.names self.limit self.width self.distinct s.now xs at) }
     {
-        let (name, p) = image_fields::field(s, self.fault, self.names, 2, at)?;
-        let (_, q) = image_fields::field(s, self.fault, self.limit, self.width, p)?;
+        let (name, p) = image_fields::read_field(s, self.fault, self.names, 2, at)?;
+        let (_, q) = image_fields::read_field(s, self.fault, self.limit, self.width, p)?;
         if self.taken(s, i, first, name) {
             Err(self.fault)
         } else {
@@ -67,7 +67,7 @@ impl NamedFormat {
     fn read_named_table(self, s: &[u8], limit: usize, at: usize) -> Number
         ensures { coded result ≡ table_of (table_at (fault_number self.fault) 0 limit (named_at (fault_number self.fault) self.names self.limit self.width self.distinct s.now) s.now at) }
     {
-        let (n, first) = image_fields::field(s, self.fault, limit, 2, at)?;
+        let (n, first) = image_fields::read_field(s, self.fault, limit, 2, at)?;
         self.fill_named(s, n, first)
     }
 }
@@ -76,8 +76,8 @@ impl NamedFormat {
 fn read_struct_rest(s: &[u8], names: usize, name: usize, at: usize) -> Number
     ensures { coded result ≡ struct_name_of (struct_rest_at version1 names s.now name at) }
 {
-    let (_, p) = image_fields::field(s, Fault::Structs, 2, 1, at)?;
-    let (_, q) = image_fields::field(s, Fault::Structs, 65536, 2, p)?;
+    let (_, p) = image_fields::read_field(s, Fault::Structs, 2, 1, at)?;
+    let (_, q) = image_fields::read_field(s, Fault::Structs, 65536, 2, p)?;
     let methods = NamedFormat {
         fault: Fault::Structs,
         names,
@@ -119,7 +119,7 @@ impl<'a> Names<'a> {
         ensures { (ss : List Struct) → Ends (map (name_of self.entry.s.now) self.entry.starts.now) ss last
             → coded result ≡ struct_name_of (struct_at version1 (map (name_of self.entry.s.now) self.entry.starts.now) self.entry.s.now ss at) }
     {
-        let (name, p) = image_fields::field(self.s, Fault::Structs, self.starts.len(), 2, at)?;
+        let (name, p) = image_fields::read_field(self.s, Fault::Structs, self.starts.len(), 2, at)?;
         if self.rises(last, name) {
             read_struct_rest(self.s, self.starts.len(), name, p)
         } else {
@@ -155,7 +155,7 @@ pub fn read_structs(s: &[u8], names: &[u32], structs: &mut [u32], at: usize) -> 
         → structs_at version1 (map (name_of s.now) names.now) s.now at ≡ ok ss next
         → Listed (struct_in s.now) s.now structs.new ss }
 {
-    let (n, first) = image_fields::field(s, Fault::Structs, 65, 2, at)?;
+    let (n, first) = image_fields::read_field(s, Fault::Structs, 65, 2, at)?;
     let names = Names { s, starts: names };
     names.fill_structs(structs, n, first)
 }
@@ -186,8 +186,8 @@ fn this_width(receiver: usize) -> usize
 pub fn read_entry(s: &[u8], names: usize, types: usize, at: usize) -> Read
     ensures { coded result ≡ read_of (entry_at version1 names types s.now at) }
 {
-    let (receiver, p) = image_fields::field(s, Fault::Entry, 5, 1, at)?;
-    let (_, q) = image_fields::field(s, Fault::Entry, types, this_width(receiver), p)?;
+    let (receiver, p) = image_fields::read_field(s, Fault::Entry, 5, 1, at)?;
+    let (_, q) = image_fields::read_field(s, Fault::Entry, types, this_width(receiver), p)?;
     let params = NamedFormat {
         fault: Fault::Entry,
         names,

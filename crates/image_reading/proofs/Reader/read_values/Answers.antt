@@ -8,7 +8,7 @@ use Rattle.image_reading.proofs.BodyReading.{flag_small, flag-stop, values-stop,
 use Rattle.image_reading.proofs.Reader.read_values.Goals as goal
 
 pub overflow_add-count : goal.overflow_add-count
-overflow_add-count c = let l = flag_small _ _ _ c.field.ensures c.in_ok-n.was in omega arith
+overflow_add-count c = let l = flag_small _ _ _ c.read_field.ensures c.in_ok-n.was in omega arith
 
 pub returns-in_err-n : goal.returns-in_err-n
 returns-in_err-n c = λ h e. rw (passed c.from_residual.ensures) (flag-stop _ _ h _ (c.value_flag-flag.ensures.0 ∙ ap (λ x. get_or value_flag x 0) (sym e)) (number-err c.in_err-n.ensures))
