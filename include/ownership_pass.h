@@ -17,8 +17,8 @@
  * valid for its length; what is written to must overlap neither the image nor any other memory lent in the same call. The calls hold
  * no state, allocate nothing and keep no pointer: threads may call them at one time, each with memory of its own to write to.
  *
- * Machine stack: give a thread that calls them 1 MB. Measured (bench/memory.c), ownership_pass takes up to 261,280 bytes,
- * ownership_room 158,784 and ownership_page 211,888, with switches and without. Nothing proves a bound, and a stack that is too small ends the process.
+ * Machine stack: give a thread that calls them 1 MB. Measured (bench/memory.c), ownership_pass takes up to 254,176 bytes,
+ * ownership_room 151,680 and ownership_page 204,768, with switches and without. Nothing proves a bound, and a stack that is too small ends the process.
  *
  * An image of n bytes without faults 1 to 13 has, with m = n - 28 and rounded down, at most m / 7 errors, m / 21 warnings and
  * 64 * (m / 5) left-behind entries, and n + 90 * m bytes of output; for 65,536 bytes 9,358, 3,119, 838,464 and 5,961,256. With switch 1
