@@ -126,8 +126,10 @@ impl<'a> Reader<'a> {
         let p = self.read_exprs(left, fixed, first)?;
         let width = layout::count_width(tag);
         let (n, q) = read_field(self.s, Fault::Body, 65536, width, p)?;
-        let end = self.read_exprs(left, n, q)?;
-        self.read_end(tag, first, end)
+        match self.read_exprs(left, n, q) {
+            Ok(end) => self.read_end(tag, first, end),
+            Err(fault) => Err(fault),
+        }
     }
 
     // So many expressions, one after another: read_many under the name that its cycle calls, as read_stmts and read_blocks are.

@@ -18,17 +18,17 @@ pub Reader::read_children-returns-in_err-n : goal.Reader::read_children-returns-
 Reader::read_children-returns-in_err-n t c = λ h e. rw (passed c.from_residual-in_err-n.ensures)
     (count-stop _ _ _ h _ (c.fixed_count-fixed.ensures.0 ∙ ap (λ x. get_or fixed_count x 0) (sym e)) (read_at c.in_ok-p.ensures).1 (c.count_width-width.ensures.0 ∙ ap (λ x. get_or count_width x 0) (sym e)) (number-err c.in_err-n.ensures))
 
-pub Reader::read_children-returns-in_err-end : goal.Reader::read_children-returns-in_err-end
-Reader::read_children-returns-in_err-end t c = λ h e. rw (passed c.from_residual-in_err-end.ensures)
-    (items-stop _ _ _ h _ (c.fixed_count-fixed.ensures.0 ∙ ap (λ x. get_or fixed_count x 0) (sym e)) (read_at c.in_ok-p.ensures).1 (c.count_width-width.ensures.0 ∙ ap (λ x. get_or count_width x 0) (sym e)) (number_at c.in_ok-n.ensures) (read-err c.in_err-end.ensures))
-
-pub Reader::read_children-returns : goal.Reader::read_children-returns
-Reader::read_children-returns t c = λ h e.
+pub Reader::read_children-returns-in-Ok : goal.Reader::read_children-returns-in-Ok
+Reader::read_children-returns-in-Ok t c = λ h e.
     let ks = read_at c.in_ok-p.ensures in
-    let xs = read_at c.in_ok-end.ensures in
+    let xs = read_at c.in-Ok.ensures in
     let st = stand-all _ _ _ _ _ _ _ ks.1 in
     c.read_end.ensures h ks.0 xs.0 _ e (st.1 ∙ c.fixed_count-fixed.ensures.0) st.0
     ∙ sym (ap read_of (to_end _ _ _ h _ (c.fixed_count-fixed.ensures.0 ∙ ap (λ x. get_or fixed_count x 0) (sym e)) ks.1 (c.count_width-width.ensures.0 ∙ ap (λ x. get_or count_width x 0) (sym e)) (number_at c.in_ok-n.ensures) xs.1))
+
+pub Reader::read_children-returns-in-Err : goal.Reader::read_children-returns-in-Err
+Reader::read_children-returns-in-Err t c = λ h e.
+    items-stop _ _ _ h _ (c.fixed_count-fixed.ensures.0 ∙ ap (λ x. get_or fixed_count x 0) (sym e)) (read_at c.in_ok-p.ensures).1 (c.count_width-width.ensures.0 ∙ ap (λ x. get_or count_width x 0) (sym e)) (number_at c.in_ok-n.ensures) (read-err c.in-Err.ensures)
 
 pub Reader::read_expr-returns-then-left-eq0 : goal.Reader::read_expr-returns-then-left-eq0
 Reader::read_expr-returns-then-left-eq0 t c = deep _ _ _ _ (omega arith)
